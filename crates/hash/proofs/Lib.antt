@@ -1,0 +1,9 @@
+pub mod Open
+pub mod Paste
+pub mod Rows
+pub mod Computed
+pub mod Shape
+pub mod Sponge
+pub mod Laid
+pub mod Table
+pub mod Word

@@ -1,0 +1,70 @@
+-- A lane is the word of its eight bytes, and so a word of the stream is a lane of a state.
+use mathlib.Core.Path.{_≡_, refl, ap, sym, _∙_}
+use mathlib.Core.List.{List, [], _∷_}
+use Prim.Native.Nat.{ℕ, zero, suc, _+_, _*_, _/_, _%_, _^_, _<_, _≤_}
+use native.Mathlib.Omega.{arith}
+use native.Mathlib.Nat.{mod-eq-of-lt, add-comm, mul-le-mul-right}
+use lib.Bits.{bitXor, xor-comm, xor-shifted}
+use lib.Dec.{lit<}
+use lib.Pow.{pow-add, split, shr-shr, shr-lt}
+use Rattle.hash.specs.Lists.{table}
+use Rattle.hash.specs.Keccak.{State, lane}
+use Rattle.hash.specs.Shake.{byteAt, stream, after}
+use Rattle.hash.specs.Words.{byteOf, le, laneAt, rateLanes, wordAt, words, word}
+
+chain : (q₀ q₁ q₂ q₃ q₄ q₅ q₆ q₇ r₀ r₁ r₂ r₃ r₄ r₅ r₆ : ℕ)
+    → q₁ * 256 + r₀ ≡ q₀ → q₂ * 256 + r₁ ≡ q₁ → q₃ * 256 + r₂ ≡ q₂ → q₄ * 256 + r₃ ≡ q₃ → q₅ * 256 + r₄ ≡ q₄ → q₆ * 256 + r₅ ≡ q₅ → q₇ * 256 + r₆ ≡ q₆
+    → 0 + r₀ * 2 ^ 0 + r₁ * 2 ^ 8 + r₂ * 2 ^ 16 + r₃ * 2 ^ 24 + r₄ * 2 ^ 32 + r₅ * 2 ^ 40 + r₆ * 2 ^ 48 + q₇ * 2 ^ 56 ≡ q₀
+chain q₀ q₁ q₂ q₃ q₄ q₅ q₆ q₇ r₀ r₁ r₂ r₃ r₄ r₅ r₆ e₀ e₁ e₂ e₃ e₄ e₅ e₆ = omega arith
+
+rest : (x k : ℕ) → x / 2 ^ (k + 8) * 256 + x / 2 ^ k % 256 ≡ x / 2 ^ k
+rest x k = rw (← shr-shr x k 8) (split (x / 2 ^ k) 8)
+
+-- a word is the number of its bytes
+pub whole : (x : ℕ) → x < 2 ^ 64 → le (byteOf x) 8 ≡ x
+unfolding le
+whole x h =
+    let t : x / 2 ^ 56 % 256 ≡ x / 2 ^ 56 = mod-eq-of-lt (shr-lt 8 56 h) in
+    let e : x / 2 ^ 0 ≡ x = omega arith in
+    rw t
+    (chain (x / 2 ^ 0) (x / 2 ^ 8) (x / 2 ^ 16) (x / 2 ^ 24) (x / 2 ^ 32) (x / 2 ^ 40) (x / 2 ^ 48) (x / 2 ^ 56)
+    (x / 2 ^ 0 % 256) (x / 2 ^ 8 % 256) (x / 2 ^ 16 % 256) (x / 2 ^ 24 % 256) (x / 2 ^ 32 % 256) (x / 2 ^ 40 % 256) (x / 2 ^ 48 % 256)
+    (rest x 0) (rest x 8) (rest x 16) (rest x 24) (rest x 32) (rest x 40) (rest x 48) ∙ e)
+
+-- the words of a state whose lanes fit 64 bits
+pub words-are : (A : State) → ((x y : ℕ) → lane A x y < 2 ^ 64) → rateLanes A ≡ words A
+unfolding rateLanes words wordAt le table
+words-are A h = sym
+    (λ i.
+    whole (lane A 0 0) (h 0 0) i ∷ whole (lane A 1 0) (h 1 0) i ∷ whole (lane A 2 0) (h 2 0) i ∷ whole (lane A 3 0) (h 3 0) i ∷ whole (lane A 4 0) (h 4 0) i
+    ∷ whole (lane A 0 1) (h 0 1) i ∷ whole (lane A 1 1) (h 1 1) i ∷ whole (lane A 2 1) (h 2 1) i ∷ whole (lane A 3 1) (h 3 1) i ∷ whole (lane A 4 1) (h 4 1) i
+    ∷ whole (lane A 0 2) (h 0 2) i ∷ whole (lane A 1 2) (h 1 2) i ∷ whole (lane A 2 2) (h 2 2) i ∷ whole (lane A 3 2) (h 3 2) i ∷ whole (lane A 4 2) (h 4 2) i
+    ∷ whole (lane A 0 3) (h 0 3) i ∷ whole (lane A 1 3) (h 1 3) i ∷ [])
+
+-- word n of the stream
+byte-of-word : (S : State) (n j : ℕ) → j < 8 → stream S (8 * n + j) ≡ byteAt (after (n / 17) S) (8 * (n % 17) + j)
+byte-of-word S n j h =
+    let d : (8 * n + j) / 136 ≡ n / 17 = omega arith in
+    let m : (8 * n + j) % 136 ≡ 8 * (n % 17) + j = omega arith in
+    rw (d, m)
+
+pub word-at : (S : State) (n : ℕ) → word S n ≡ wordAt (after (n / 17) S) (n % 17)
+unfolding word wordAt le
+word-at S n =
+    rw (
+      byte-of-word S n 0 (lit< tt),
+      byte-of-word S n 1 (lit< tt),
+      byte-of-word S n 2 (lit< tt),
+      byte-of-word S n 3 (lit< tt),
+      byte-of-word S n 4 (lit< tt),
+      byte-of-word S n 5 (lit< tt),
+      byte-of-word S n 6 (lit< tt),
+      byte-of-word S n 7 (lit< tt),
+    )
+
+-- a byte more on top of a number
+pub on-top : (x b k : ℕ) → x < 2 ^ k → b < 256 → (bitXor x (b * 2 ^ k) ≡ x + b * 2 ^ k) × (x + b * 2 ^ k < 2 ^ (k + 8))
+on-top x b k h l =
+    let o : b + 1 ≤ 256 = omega arith in
+    let m : (b + 1) * 2 ^ k ≤ 256 * 2 ^ k = mul-le-mul-right (2 ^ k) o in
+    (xor-comm x (b * 2 ^ k) ∙ xor-shifted b k x h ∙ add-comm (b * 2 ^ k) x, rw (pow-add 2 k 8) (omega (arith, m)))

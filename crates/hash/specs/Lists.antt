@@ -1,0 +1,13 @@
+-- Lists by a rule, and lists written in part.
+use mathlib.Core.List.{List, [], _∷_, _++_}
+use Prim.Native.Nat.{ℕ, zero, suc, _+_}
+use lib.ListN.{take, drop}
+
+-- f 0, f 1, .., f (n - 1)
+unfoldable pub table : (ℕ → ℕ) → ℕ → List ℕ
+table f zero = []
+table f (suc n) = table f n ++ (f n ∷ [])
+
+-- l with f 0, .., f (n - 1) laid at the place at
+abbrev pub pasted : (ℕ → ℕ) → List ℕ → ℕ → ℕ → List ℕ
+pasted f l at n = take at l ++ (table f n ++ drop (at + n) l)

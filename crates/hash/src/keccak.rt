@@ -1,0 +1,182 @@
+ghost use mathlib.Core.Path.{_≡_};
+ghost use Prim.Native.Nat.{_<_, _≤_, _+_, _-_, _*_, _%_};
+ghost use lib.ListN.{getD, length};
+ghost use Rattle.hash.specs.Lists.{table, pasted};
+ghost use Rattle.hash.specs.Keccak.{rotl, theta, chi, rho, pi, iota, round, keccakF, xorPlane, chiPlane, plane, effect, parity, lane, rhoLane};
+ghost use Rattle.hash.specs.Words.{byteOf, le, joined, rateLanes, words, opened};
+ghost use mathlib.Core.List.{_++_, _∷_, []};
+ghost use Rattle.hash.specs.Shake.{absorbed, byteAt, xorByte, absorbByte, absorbFrom, finish, rate, zeros, stream, shake256};
+
+fn rotl(x: u64, n: u64) -> u64
+    ensures { λ r. ⌜ r ≡ rotl x n ⌝ }
+{
+    let k = n % 64;
+    x << k | x >> 1 >> (63 - k)
+}
+
+fn xor_plane(p: [u64; 5], q: [u64; 5]) -> [u64; 5]
+    ensures { λ r. ⌜ r ≡ xorPlane p q ⌝ }
+{
+    [
+        p[0] ^ q[0],
+        p[1] ^ q[1],
+        p[2] ^ q[2],
+        p[3] ^ q[3],
+        p[4] ^ q[4],
+    ]
+}
+
+fn chi_plane(p: [u64; 5]) -> [u64; 5]
+    ensures { λ r. ⌜ r ≡ chiPlane p ⌝ }
+{
+    [
+        p[0] ^ (!p[1] & p[2]),
+        p[1] ^ (!p[2] & p[3]),
+        p[2] ^ (!p[3] & p[4]),
+        p[3] ^ (!p[4] & p[0]),
+        p[4] ^ (!p[0] & p[1]),
+    ]
+}
+
+fn chi(a: [[u64; 5]; 5]) -> [[u64; 5]; 5]
+    ensures { λ r. ⌜ r ≡ chi a ⌝ }
+{
+    [
+        chi_plane(a[0]),
+        chi_plane(a[1]),
+        chi_plane(a[2]),
+        chi_plane(a[3]),
+        chi_plane(a[4]),
+    ]
+}
+
+fn effect(c: [u64; 5]) -> [u64; 5]
+    ensures { λ r. ⌜ r ≡ effect c ⌝ }
+{
+    [
+        c[4] ^ rotl(c[1], 1),
+        c[0] ^ rotl(c[2], 1),
+        c[1] ^ rotl(c[3], 1),
+        c[2] ^ rotl(c[4], 1),
+        c[3] ^ rotl(c[0], 1),
+    ]
+}
+
+fn parity(a: [[u64; 5]; 5]) -> [u64; 5]
+    ensures { λ r. ⌜ r ≡ parity a ⌝ }
+{
+    xor_plane(
+        xor_plane(xor_plane(xor_plane(a[0], a[1]), a[2]), a[3]),
+        a[4],
+    )
+}
+
+fn theta(a: [[u64; 5]; 5]) -> [[u64; 5]; 5]
+    ensures { λ r. ⌜ r ≡ theta a ⌝ }
+{
+    let d = effect(parity(a));
+    [
+        xor_plane(a[0], d),
+        xor_plane(a[1], d),
+        xor_plane(a[2], d),
+        xor_plane(a[3], d),
+        xor_plane(a[4], d),
+    ]
+}
+
+const OFFSETS: [[u64; 5]; 5] = [
+    [0, 1, 62, 28, 27],
+    [36, 44, 6, 55, 20],
+    [3, 10, 43, 25, 39],
+    [41, 45, 15, 21, 8],
+    [18, 2, 61, 56, 14],
+];
+
+fn moved(a: [[u64; 5]; 5], x: usize, y: usize) -> u64
+    requires { ⌜ x < 5 ⌝ }
+    requires { ⌜ y < 5 ⌝ }
+    ensures { λ r. ⌜ r ≡ rhoLane a ((x + 3 * y) % 5) x ⌝ }
+{
+    let k = (x + 3 * y) % 5;
+    rotl(a[x][k], OFFSETS[x][k])
+}
+
+fn moved_plane(a: [[u64; 5]; 5], y: usize) -> [u64; 5]
+    requires { ⌜ y < 5 ⌝ }
+    ensures { λ r. ⌜ r ≡ plane (λ x. rhoLane a ((x + 3 * y) % 5) x) ⌝ }
+{
+    [
+        moved(a, 0, y),
+        moved(a, 1, y),
+        moved(a, 2, y),
+        moved(a, 3, y),
+        moved(a, 4, y),
+    ]
+}
+
+fn rho_pi(a: [[u64; 5]; 5]) -> [[u64; 5]; 5]
+    ensures { λ r. ⌜ r ≡ pi (rho a) ⌝ }
+{
+    [
+        moved_plane(a, 0),
+        moved_plane(a, 1),
+        moved_plane(a, 2),
+        moved_plane(a, 3),
+        moved_plane(a, 4),
+    ]
+}
+
+fn iota(a: [[u64; 5]; 5], rc: u64) -> [[u64; 5]; 5]
+    ensures { λ r. ⌜ r ≡ iota rc a ⌝ }
+{
+    let mut b = a;
+    b[0][0] = b[0][0] ^ rc;
+    b
+}
+
+// Two rounds in one function, which has one caller and so is compiled into it.
+fn rounds_two(a: [[u64; 5]; 5], rc: u64, rd: u64) -> [[u64; 5]; 5]
+    ensures { λ r. ⌜ r ≡ round rd (round rc a) ⌝ }
+{
+    let b = iota(chi(rho_pi(theta(a))), rc);
+    iota(chi(rho_pi(theta(b))), rd)
+}
+
+const CONSTANTS: [u64; 24] = [
+    0x0000000000000001,
+    0x0000000000008082,
+    0x800000000000808a,
+    0x8000000080008000,
+    0x000000000000808b,
+    0x0000000080000001,
+    0x8000000080008081,
+    0x8000000000008009,
+    0x000000000000008a,
+    0x0000000000000088,
+    0x0000000080008009,
+    0x000000008000000a,
+    0x000000008000808b,
+    0x800000000000008b,
+    0x8000000000008089,
+    0x8000000000008003,
+    0x8000000000008002,
+    0x8000000000000080,
+    0x000000000000800a,
+    0x800000008000000a,
+    0x8000000080008081,
+    0x8000000000008080,
+    0x0000000080000001,
+    0x8000000080008008,
+];
+
+pub fn permute(a: [[u64; 5]; 5]) -> [[u64; 5]; 5]
+    ensures { λ r. ⌜ r ≡ keccakF a ⌝ }
+{
+    let constants = CONSTANTS;
+    let mut s = a;
+    for i in 0..12 {
+        let t = rounds_two(s, constants[2 * i], constants[2 * i + 1]);
+        s = t;
+    }
+    s
+}

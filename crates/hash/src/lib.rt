@@ -1,0 +1,4 @@
+pub mod params;
+pub mod keccak;
+pub mod words;
+pub mod shake;

@@ -1,0 +1,201 @@
+ghost use mathlib.Core.Path.{_≡_};
+ghost use Prim.Native.Nat.{_<_, _≤_, _+_, _-_, _*_, _%_};
+ghost use lib.ListN.{getD, length};
+ghost use Rattle.hash.specs.Lists.{table, pasted};
+ghost use Rattle.hash.specs.Keccak.{rotl, theta, chi, rho, pi, iota, round, keccakF, xorPlane, chiPlane, plane, effect, parity, lane, rhoLane};
+ghost use Rattle.hash.specs.Words.{byteOf, le, joined, rateLanes, words, opened};
+ghost use mathlib.Core.List.{_++_, _∷_, []};
+ghost use Rattle.hash.specs.Shake.{absorbed, byteAt, xorByte, absorbByte, absorbFrom, finish, rate, zeros, stream, shake256};
+
+fn xor_byte(a: [[u64; 5]; 5], k: usize, b: u8) -> [[u64; 5]; 5]
+    requires { ⌜ k < 200 ⌝ }
+    ensures { λ r. ⌜ r ≡ xorByte a k b ⌝ }
+{
+    let x = k / 8 % 5;
+    let y = k / 8 / 5;
+    let mut s = a;
+    s[y][x] = s[y][x] ^ (b as u64) << (8 * (k % 8));
+    s
+}
+
+fn byte_at(a: [[u64; 5]; 5], k: usize) -> u8
+    requires { ⌜ k < 200 ⌝ }
+    ensures { λ r. ⌜ r ≡ byteAt a k ⌝ }
+{
+    let x = k / 8 % 5;
+    let y = k / 8 / 5;
+    (a[y][x] >> (8 * (k % 8)) & 0xff) as u8
+}
+
+fn absorb_byte(a: [[u64; 5]; 5], n: usize, b: u8) -> [[u64; 5]; 5]
+    ensures { λ r. ⌜ r ≡ absorbByte a n b ⌝ }
+{
+    let s = xor_byte(a, n % 136, b);
+    if n % 136 == 135 { crate::keccak::permute(s) } else { s }
+}
+
+pub fn finish(a: [[u64; 5]; 5], n: usize) -> [[u64; 5]; 5]
+    ensures { λ r. ⌜ r ≡ finish a n ⌝ }
+{
+    let k = n % 136;
+    if k == 135 {
+        crate::keccak::permute(xor_byte(a, 135, 0x9f))
+    } else {
+        crate::keccak::permute(xor_byte(xor_byte(a, k, 0x1f), 135, 0x80))
+    }
+}
+
+pub fn start() -> [[u64; 5]; 5]
+    ensures { λ r. ⌜ r ≡ zeros ⌝ }
+{
+    [[0; 5]; 5]
+}
+
+// The rate as 17 lanes, which are its words of eight bytes.
+pub fn words(a: [[u64; 5]; 5]) -> [u64; 17]
+    ensures { λ r. ⌜ (r ≡ rateLanes a) × (r ≡ words a) ⌝ }
+{
+    let p = a[0];
+    let q = a[1];
+    let s = a[2];
+    let t = a[3];
+    [
+        p[0],
+        p[1],
+        p[2],
+        p[3],
+        p[4],
+        q[0],
+        q[1],
+        q[2],
+        q[3],
+        q[4],
+        s[0],
+        s[1],
+        s[2],
+        s[3],
+        s[4],
+        t[0],
+        t[1],
+    ]
+}
+
+pub fn put_block(out: &mut [u8], at: usize, a: [[u64; 5]; 5])
+    requires { ⌜ at + 136 ≤ length (now out) ⌝ }
+    ensures { λ _. ⌜ now (out .exit) ≡ pasted (byteAt a) (now (out .entry)) at 136 ⌝ }
+{
+    let w = words(a);
+    for i in 0..17usize {
+        crate::words::put_word(out, at + 8 * i, w[i]);
+    }
+}
+
+pub fn block(a: [[u64; 5]; 5]) -> [u8; 136]
+    ensures { λ r. ⌜ r ≡ rate a ⌝ }
+{
+    let mut out = [0u8; 136];
+    put_block(&mut out, 0, a);
+    out
+}
+
+// The bytes of b, to the end of out.
+fn put_rest(out: &mut [u8], at: usize, b: &[u8; 136])
+    requires { ⌜ (at ≤ length (now out)) × (length (now out) ≤ at + 136) ⌝ }
+    ensures { λ _. ⌜ now (out .exit) ≡ pasted (λ j. getD (now (b .entry)) j 0) (now (out .entry)) at (length (now (out .entry)) - at) ⌝ }
+{
+    let n = out.len() - at;
+    for j in 0..n {
+        out[at + j] = b[j];
+    }
+}
+
+pub fn absorb(a: [[u64; 5]; 5], n: usize, m: &[u8]) -> [[u64; 5]; 5]
+    ensures { λ r. ⌜ r ≡ absorbFrom a n (now (m .entry)) ⌝ }
+{
+    let mut s = a;
+    let mut at = n % 136;
+    for i in 0..m.len() {
+        let t = absorb_byte(s, at, m[i]);
+        s = t;
+        at = if at == 135 { 0 } else { at + 1 };
+    }
+    s
+}
+
+// One block that is absorbed alone: the lanes of plane 0, one of plane 1, and the padding's last bit.
+fn opening(p: [u64; 5], q: u64) -> [[u64; 5]; 5]
+    ensures { λ r. ⌜ r ≡ keccakF (opened p q) ⌝ }
+{
+    crate::keccak::permute([
+        p,
+        [q, 0, 0, 0, 0],
+        [0; 5],
+        [0, 0x8000000000000000, 0, 0, 0],
+        [0; 5],
+    ])
+}
+
+// The state that gives the stream of a header and a seed: seeds of 16, 24 and 32 bytes are absorbed by lanes.
+pub fn begin(header: &[u8; 8], seed: &[u8]) -> [[u64; 5]; 5]
+    ensures { λ r. ⌜ r ≡ absorbed (now (header .entry) ++ now (seed .entry)) ⌝ }
+{
+    let n = seed.len();
+    if n == 16 {
+        return opening(
+            [
+                crate::words::load(header, 0, 8),
+                crate::words::load(seed, 0, 8),
+                crate::words::load(seed, 8, 8),
+                0x1f,
+                0,
+            ],
+            0,
+        );
+    }
+    if n == 24 {
+        return opening(
+            [
+                crate::words::load(header, 0, 8),
+                crate::words::load(seed, 0, 8),
+                crate::words::load(seed, 8, 8),
+                crate::words::load(seed, 16, 8),
+                0x1f,
+            ],
+            0,
+        );
+    }
+    if n == 32 {
+        return opening(
+            [
+                crate::words::load(header, 0, 8),
+                crate::words::load(seed, 0, 8),
+                crate::words::load(seed, 8, 8),
+                crate::words::load(seed, 16, 8),
+                crate::words::load(seed, 24, 8),
+            ],
+            0x1f,
+        );
+    }
+    finish(absorb(absorb(start(), 0, header), 8, seed), 8 + n)
+}
+
+pub fn squeeze(a: [[u64; 5]; 5], out: &mut [u8])
+    ensures { λ r. do ⌜ now (out .exit) ≡ table (stream a) (← ⟦out.len()⟧ .entry) ⌝ }
+{
+    let mut s = a;
+    let mut i: usize = 0;
+    while out.len() - i > 136 {
+        put_block(out, i, s);
+        i += 136;
+        let t = crate::keccak::permute(s);
+        s = t;
+    }
+    let b = block(s);
+    put_rest(out, i, &b);
+}
+
+pub fn shake256(m: &[u8], out: &mut [u8])
+    ensures { λ r. do ⌜ now (out .exit) ≡ shake256 (now (m .entry)) (← ⟦out.len()⟧ .entry) ⌝ }
+{
+    squeeze(finish(absorb(start(), 0, m), m.len()), out)
+}
