@@ -7,3 +7,5 @@ pub mod Sponge
 pub mod Laid
 pub mod Table
 pub mod Word
+pub mod Lanes
+pub mod Output

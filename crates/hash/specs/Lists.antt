@@ -1,6 +1,6 @@
 -- Lists by a rule, and lists written in part.
 use mathlib.Core.List.{List, [], _∷_, _++_}
-use Prim.Native.Nat.{ℕ, zero, suc, _+_}
+use Prim.Native.Nat.{ℕ, zero, suc, _+_, _<_}
 use lib.ListN.{take, drop}
 
 -- f 0, f 1, .., f (n - 1)
@@ -11,3 +11,8 @@ table f (suc n) = table f n ++ (f n ∷ [])
 -- l with f 0, .., f (n - 1) laid at the place at
 abbrev pub pasted : (ℕ → ℕ) → List ℕ → ℕ → ℕ → List ℕ
 pasted f l at n = take at l ++ (table f n ++ drop (at + n) l)
+
+-- numbers below 256
+abbrev pub Bytes : List ℕ → Type 0
+Bytes [] = Unit {0}
+Bytes (x ∷ xs) = (x < 256) × Bytes xs

@@ -1,6 +1,6 @@
 ghost use mathlib.Core.Path.{_≡_};
 ghost use Prim.Native.Nat.{_<_, _≤_, _+_, _-_, _*_, _%_};
-ghost use lib.ListN.{getD, length};
+ghost use lib.ListN.{getD, length, drop};
 ghost use Rattle.hash.specs.Lists.{table, pasted};
 ghost use Rattle.hash.specs.Keccak.{rotl, theta, chi, rho, pi, iota, round, keccakF, xorPlane, chiPlane, plane, effect, parity, lane, rhoLane};
 ghost use Rattle.hash.specs.Words.{byteOf, le, joined, rateLanes, words, opened};
@@ -109,7 +109,8 @@ fn put_rest(out: &mut [u8], at: usize, b: &[u8; 136])
     }
 }
 
-pub fn absorb(a: [[u64; 5]; 5], n: usize, m: &[u8]) -> [[u64; 5]; 5]
+// The bytes of m, one by one, where n bytes went before.
+fn absorb_bytes(a: [[u64; 5]; 5], n: usize, m: &[u8]) -> [[u64; 5]; 5]
     ensures { λ r. ⌜ r ≡ absorbFrom a n (now (m .entry)) ⌝ }
 {
     let mut s = a;
@@ -120,6 +121,40 @@ pub fn absorb(a: [[u64; 5]; 5], n: usize, m: &[u8]) -> [[u64; 5]; 5]
         at = if at == 135 { 0 } else { at + 1 };
     }
     s
+}
+
+// The first bytes of m, a lane at a time, where n bytes went before: the rest is still to be absorbed.
+fn absorb_lanes(a: [[u64; 5]; 5], n: usize, m: &[u8], lanes: usize) -> [[u64; 5]; 5]
+    requires { ⌜ (n % 8 ≡ 0) × (8 * lanes ≤ length (now m)) ⌝ }
+    ensures { λ r. ⌜ absorbFrom r (n + 8 * lanes) (drop (8 * lanes) (now (m .entry))) ≡ absorbFrom a n (now (m .entry)) ⌝ }
+{
+    let mut s = a;
+    let mut k = n % 136 / 8;
+    for i in 0..lanes {
+        let v = crate::words::load(m, 8 * i, 8);
+        let x = k % 5;
+        let y = k / 5;
+        s[y][x] = s[y][x] ^ v;
+        k += 1;
+        if k == 17 {
+            let t = crate::keccak::permute(s);
+            s = t;
+            k = 0;
+        }
+    }
+    s
+}
+
+// The bytes of m, where n bytes went before: by lanes where these fill whole lanes.
+pub fn absorb(a: [[u64; 5]; 5], n: usize, m: &[u8]) -> [[u64; 5]; 5]
+    ensures { λ r. ⌜ r ≡ absorbFrom a n (now (m .entry)) ⌝ }
+{
+    if n % 8 != 0 {
+        return absorb_bytes(a, n, m);
+    }
+    let lanes = m.len() / 8;
+    let s = absorb_lanes(a, n, m, lanes);
+    absorb_bytes(s, n % 136 + 8 * lanes % 136, &m[8 * lanes..])
 }
 
 // One block that is absorbed alone: the lanes of plane 0, one of plane 1, and the padding's last bit.
@@ -198,4 +233,29 @@ pub fn shake256(m: &[u8], out: &mut [u8])
     ensures { λ r. do ⌜ now (out .exit) ≡ shake256 (now (m .entry)) (← ⟦out.len()⟧ .entry) ⌝ }
 {
     squeeze(finish(absorb(start(), 0, m), m.len()), out)
+}
+
+// Digests of 2 kappa bits, for kappa = 128, 192 and 256: the stream's first bytes.
+pub fn digest_32(a: [[u64; 5]; 5]) -> [u8; 32]
+    ensures { λ r. ⌜ r ≡ table (stream a) 32 ⌝ }
+{
+    let mut out = [0u8; 32];
+    squeeze(a, &mut out);
+    out
+}
+
+pub fn digest_48(a: [[u64; 5]; 5]) -> [u8; 48]
+    ensures { λ r. ⌜ r ≡ table (stream a) 48 ⌝ }
+{
+    let mut out = [0u8; 48];
+    squeeze(a, &mut out);
+    out
+}
+
+pub fn digest_64(a: [[u64; 5]; 5]) -> [u8; 64]
+    ensures { λ r. ⌜ r ≡ table (stream a) 64 ⌝ }
+{
+    let mut out = [0u8; 64];
+    squeeze(a, &mut out);
+    out
 }
