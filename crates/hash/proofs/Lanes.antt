@@ -1,10 +1,8 @@
 -- Absorbing a lane at a time is absorbing its eight bytes.
 use mathlib.Core.Path.{_≡_, refl, sym, ap, ap₂, _∙_}
-use mathlib.Core.Bool.{Bool, true, false}
 use mathlib.Core.List.{List, [], _∷_}
 use Prim.Native.Nat.{ℕ, zero, suc, _+_, _*_, _/_, _%_, _^_, _≤_, _<_}
-use native.Mathlib.Nat.{zero-mul, mod-lt, add-zero, add-suc, mod-mod}
-use native.Mathlib.Numerals.{add-one}
+use native.Mathlib.Nat.{add-zero, add-suc}
 use native.Mathlib.Decide.{decLt, ℕ-discrete}
 use native.Mathlib.Omega.{arith}
 use borrow.Author.Tests.{eq-eqb, ne-eqb}
@@ -15,7 +13,7 @@ use lib.ListN.{length, getD, set, drop}
 use lib.Seq.{set-set, set-out, set-getD, getD-set-same, drop-cons}
 use Rattle.hash.specs.Keccak.{State, lane, keccakF}
 use Rattle.hash.specs.Shake.{xorByte, turn, absorbByte, absorbFrom, xorLane}
-use Rattle.hash.specs.Words.{joined}
+use Rattle.hash.specs.Endian.{joined}
 
 -- ---- xor is associative: digit by digit
 
@@ -51,12 +49,12 @@ xor-assoc =
     bin-ind (λ (n : ℕ). (b c : ℕ) → bitXor n (bitXor b c) ≡ bitXor (bitXor n b) c)
     (λ b c. refl)
     (λ n ih b c.
-      xor-step n (bitXor b c)
-      ∙ ap₂ (λ (x y : ℕ). x * 2 + y)
-      (ap (bitXor (n / 2)) (upper b c) ∙ ih (b / 2) (c / 2) ∙ ap (λ (x : ℕ). bitXor x (c / 2)) (sym (upper n b)))
-      (ap (differ (n % 2)) (lowest b c) ∙ differ-assoc (n % 2) (b % 2) (c % 2) (omega arith) (omega arith) (omega arith)
-      ∙ ap (λ (x : ℕ). differ x (c % 2)) (sym (lowest n b)))
-      ∙ sym (xor-step (bitXor n b) c))
+    xor-step n (bitXor b c)
+    ∙ ap₂ (λ (x y : ℕ). x * 2 + y)
+    (ap (bitXor (n / 2)) (upper b c) ∙ ih (b / 2) (c / 2) ∙ ap (λ (x : ℕ). bitXor x (c / 2)) (sym (upper n b)))
+    (ap (differ (n % 2)) (lowest b c) ∙ differ-assoc (n % 2) (b % 2) (c % 2) (omega arith) (omega arith) (omega arith)
+    ∙ ap (λ (x : ℕ). differ x (c % 2)) (sym (lowest n b)))
+    ∙ sym (xor-step (bitXor n b) c))
 
 -- ---- two xors into one lane are one
 

@@ -1,11 +1,12 @@
+pub mod Computed
+pub mod Laid
+pub mod Lanes
 pub mod Open
+pub mod Output
 pub mod Paste
 pub mod Rows
-pub mod Computed
+pub mod Rules
 pub mod Shape
 pub mod Sponge
-pub mod Laid
 pub mod Table
 pub mod Word
-pub mod Lanes
-pub mod Output

@@ -1,14 +1,14 @@
 -- A header of eight bytes and a seed of two, three or four lanes, absorbed by lanes.
-use mathlib.Core.Path.{_≡_, refl, sym, ap, ap₂, _∙_}
+use mathlib.Core.Path.{_≡_, sym, _∙_}
 use mathlib.Core.List.{List, [], _∷_, _++_}
 use Prim.Native.Nat.{ℕ, _+_, _<_}
 use native.Mathlib.Omega.{arith}
-use lib.ListN.{length, getD, length-append}
+use lib.ListN.{length, getD}
 use lib.Seq.{ext-getD}
 use Rattle.hash.specs.Lists.{table}
-use Rattle.hash.specs.Keccak.{State, keccakF}
+use Rattle.hash.specs.Keccak.{keccakF}
 use Rattle.hash.specs.Shake.{zeros, xorByte, xorBytes, padding, absorbed, absorbByte, absorbFrom, finish}
-use Rattle.hash.specs.Words.{joined, opened}
+use Rattle.hash.specs.Endian.{joined, opened}
 use Rattle.hash.proofs.Table.{length-table, getD-table}
 use Rattle.hash.proofs.Sponge.{finish-two}
 

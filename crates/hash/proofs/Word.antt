@@ -1,7 +1,7 @@
 -- A lane is the word of its eight bytes, and so a word of the stream is a lane of a state.
-use mathlib.Core.Path.{_≡_, refl, ap, sym, _∙_}
-use mathlib.Core.List.{List, [], _∷_}
-use Prim.Native.Nat.{ℕ, zero, suc, _+_, _*_, _/_, _%_, _^_, _<_, _≤_}
+use mathlib.Core.Path.{_≡_, sym, _∙_}
+use mathlib.Core.List.{[], _∷_}
+use Prim.Native.Nat.{ℕ, _+_, _*_, _/_, _%_, _^_, _<_, _≤_}
 use native.Mathlib.Omega.{arith}
 use native.Mathlib.Nat.{mod-eq-of-lt, add-comm, mul-le-mul-right}
 use lib.Bits.{bitXor, xor-comm, xor-shifted}
@@ -10,7 +10,7 @@ use lib.Pow.{pow-add, split, shr-shr, shr-lt}
 use Rattle.hash.specs.Lists.{table}
 use Rattle.hash.specs.Keccak.{State, lane}
 use Rattle.hash.specs.Shake.{byteAt, stream, after}
-use Rattle.hash.specs.Words.{byteOf, le, laneAt, rateLanes, wordAt, words, word}
+use Rattle.hash.specs.Endian.{byteOf, le, rateLanes, wordAt, words, word}
 
 chain : (q₀ q₁ q₂ q₃ q₄ q₅ q₆ q₇ r₀ r₁ r₂ r₃ r₄ r₅ r₆ : ℕ)
     → q₁ * 256 + r₀ ≡ q₀ → q₂ * 256 + r₁ ≡ q₁ → q₃ * 256 + r₂ ≡ q₂ → q₄ * 256 + r₃ ≡ q₃ → q₅ * 256 + r₄ ≡ q₄ → q₆ * 256 + r₅ ≡ q₅ → q₇ * 256 + r₆ ≡ q₆

@@ -1,4 +1,5 @@
--- Lists by a rule, and lists written in part.
+-- Lists by a rule, lists written in part, and a choice by a test.
+use mathlib.Core.Bool.{Bool, true, false}
 use mathlib.Core.List.{List, [], _∷_, _++_}
 use Prim.Native.Nat.{ℕ, zero, suc, _+_, _<_}
 use lib.ListN.{take, drop}
@@ -16,3 +17,8 @@ pasted f l at n = take at l ++ (table f n ++ drop (at + n) l)
 abbrev pub Bytes : List ℕ → Type 0
 Bytes [] = Unit {0}
 Bytes (x ∷ xs) = (x < 256) × Bytes xs
+
+-- a where the test holds, else b
+abbrev pub pick {ℓ} : {A : Type ℓ} → Bool → A → A → A
+pick true a b = a
+pick false a b = b

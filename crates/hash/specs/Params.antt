@@ -1,16 +1,12 @@
 -- The parameter table: Tables 2 to 4 of paper 000, a row for each set and order.
-use mathlib.Core.Bool.{Bool, true, false}
 use mathlib.Core.List.{List, [], _∷_}
 use Prim.Native.Nat.{ℕ, _+_, _*_}
 use lib.Dec.{eqb}
 use lib.ListN.{getD}
+use Rattle.hash.specs.Lists.{pick}
 use Rattle.hash.specs.declared.params.Edition.{Edition}
 use Rattle.hash.specs.declared.params.Params.{Params}
 use Rattle.hash.specs.declared.params.Selected.{Selected}
-
-abbrev pub pick {ℓ} : {A : Type ℓ} → Bool → A → A → A
-pick true a b = a
-pick false a b = b
 
 -- The columns: kappa, d, k, l, omega, 2^-64 B_2^2, B_inf, hint limit (B_inf / 2^44 to the nearest), bytes of vk, sk and sig, rep, u_t, u_w.
 unfoldable pub rows : List (List ℕ)

@@ -1,12 +1,9 @@
+// Keccak-f[1600], FIPS 202 section 3. A state is five planes of five lanes: a[y][x] is the lane (x, y).
 ghost use mathlib.Core.Path.{_≡_};
-ghost use Prim.Native.Nat.{_<_, _≤_, _+_, _-_, _*_, _%_};
-ghost use lib.ListN.{getD, length};
-ghost use Rattle.hash.specs.Lists.{table, pasted};
-ghost use Rattle.hash.specs.Keccak.{rotl, theta, chi, rho, pi, iota, round, keccakF, xorPlane, chiPlane, plane, effect, parity, lane, rhoLane};
-ghost use Rattle.hash.specs.Words.{byteOf, le, joined, rateLanes, words, opened};
-ghost use mathlib.Core.List.{_++_, _∷_, []};
-ghost use Rattle.hash.specs.Shake.{absorbed, byteAt, xorByte, absorbByte, absorbFrom, finish, rate, zeros, stream, shake256};
+ghost use Prim.Native.Nat.{_+_, _*_, _%_, _<_};
+ghost use Rattle.hash.specs.Keccak.{rotl, theta, chi, rho, pi, iota, round, keccakF, xorPlane, chiPlane, plane, effect, parity, rhoLane};
 
+// A lane rotated by n places toward the high end, n taken modulo 64.
 fn rotl(x: u64, n: u64) -> u64
     ensures { λ r. ⌜ r ≡ rotl x n ⌝ }
 {
@@ -14,6 +11,7 @@ fn rotl(x: u64, n: u64) -> u64
     x << k | x >> 1 >> (63 - k)
 }
 
+// Two planes, lane by lane.
 fn xor_plane(p: [u64; 5], q: [u64; 5]) -> [u64; 5]
     ensures { λ r. ⌜ r ≡ xorPlane p q ⌝ }
 {
@@ -26,6 +24,7 @@ fn xor_plane(p: [u64; 5], q: [u64; 5]) -> [u64; 5]
     ]
 }
 
+// 3.2.4 within a plane.
 fn chi_plane(p: [u64; 5]) -> [u64; 5]
     ensures { λ r. ⌜ r ≡ chiPlane p ⌝ }
 {
@@ -38,6 +37,7 @@ fn chi_plane(p: [u64; 5]) -> [u64; 5]
     ]
 }
 
+// 3.2.4, chi.
 fn chi(a: [[u64; 5]; 5]) -> [[u64; 5]; 5]
     ensures { λ r. ⌜ r ≡ chi a ⌝ }
 {
@@ -50,6 +50,7 @@ fn chi(a: [[u64; 5]; 5]) -> [[u64; 5]; 5]
     ]
 }
 
+// 3.2.1, step 2: D of the column parities C.
 fn effect(c: [u64; 5]) -> [u64; 5]
     ensures { λ r. ⌜ r ≡ effect c ⌝ }
 {
@@ -62,6 +63,7 @@ fn effect(c: [u64; 5]) -> [u64; 5]
     ]
 }
 
+// 3.2.1, step 1: C, the parities of the columns.
 fn parity(a: [[u64; 5]; 5]) -> [u64; 5]
     ensures { λ r. ⌜ r ≡ parity a ⌝ }
 {
@@ -71,6 +73,7 @@ fn parity(a: [[u64; 5]; 5]) -> [u64; 5]
     )
 }
 
+// 3.2.1, theta.
 fn theta(a: [[u64; 5]; 5]) -> [[u64; 5]; 5]
     ensures { λ r. ⌜ r ≡ theta a ⌝ }
 {
@@ -84,6 +87,7 @@ fn theta(a: [[u64; 5]; 5]) -> [[u64; 5]; 5]
     ]
 }
 
+// 3.2.2, table 2, modulo 64: row y has the offsets of the lanes (0, y) to (4, y).
 const OFFSETS: [[u64; 5]; 5] = [
     [0, 1, 62, 28, 27],
     [36, 44, 6, 55, 20],
@@ -92,6 +96,7 @@ const OFFSETS: [[u64; 5]; 5] = [
     [18, 2, 61, 56, 14],
 ];
 
+// The lane that rho and pi bring to (x, y).
 fn moved(a: [[u64; 5]; 5], x: usize, y: usize) -> u64
     requires { ⌜ x < 5 ⌝ }
     requires { ⌜ y < 5 ⌝ }
@@ -101,6 +106,7 @@ fn moved(a: [[u64; 5]; 5], x: usize, y: usize) -> u64
     rotl(a[x][k], OFFSETS[x][k])
 }
 
+// The plane y that rho and pi make.
 fn moved_plane(a: [[u64; 5]; 5], y: usize) -> [u64; 5]
     requires { ⌜ y < 5 ⌝ }
     ensures { λ r. ⌜ r ≡ plane (λ x. rhoLane a ((x + 3 * y) % 5) x) ⌝ }
@@ -114,6 +120,7 @@ fn moved_plane(a: [[u64; 5]; 5], y: usize) -> [u64; 5]
     ]
 }
 
+// 3.2.2 and 3.2.3, rho and then pi.
 fn rho_pi(a: [[u64; 5]; 5]) -> [[u64; 5]; 5]
     ensures { λ r. ⌜ r ≡ pi (rho a) ⌝ }
 {
@@ -126,6 +133,7 @@ fn rho_pi(a: [[u64; 5]; 5]) -> [[u64; 5]; 5]
     ]
 }
 
+// 3.2.5, iota, with the round constant rc.
 fn iota(a: [[u64; 5]; 5], rc: u64) -> [[u64; 5]; 5]
     ensures { λ r. ⌜ r ≡ iota rc a ⌝ }
 {
@@ -134,7 +142,7 @@ fn iota(a: [[u64; 5]; 5], rc: u64) -> [[u64; 5]; 5]
     b
 }
 
-// Two rounds in one function, which has one caller and so is compiled into it.
+// Two rounds, by their constants. One function with one caller, so that both are compiled into the loop and the lanes stay in registers.
 fn rounds_two(a: [[u64; 5]; 5], rc: u64, rd: u64) -> [[u64; 5]; 5]
     ensures { λ r. ⌜ r ≡ round rd (round rc a) ⌝ }
 {
@@ -142,6 +150,7 @@ fn rounds_two(a: [[u64; 5]; 5], rc: u64, rd: u64) -> [[u64; 5]; 5]
     iota(chi(rho_pi(theta(b))), rd)
 }
 
+// 3.2.5: the constants of the 24 rounds.
 const CONSTANTS: [u64; 24] = [
     0x0000000000000001,
     0x0000000000008082,
@@ -169,6 +178,7 @@ const CONSTANTS: [u64; 24] = [
     0x8000000080008008,
 ];
 
+// 3.3 and 3.4: the permutation, 24 rounds.
 pub fn permute(a: [[u64; 5]; 5]) -> [[u64; 5]; 5]
     ensures { λ r. ⌜ r ≡ keccakF a ⌝ }
 {

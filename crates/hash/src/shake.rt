@@ -1,12 +1,15 @@
+// SHAKE256, FIPS 202 sections 4 to 6.2, as start, absorb, finish and squeeze. How many bytes went before is kept by the caller;
+// only its rest by the rate of 136 bytes counts, so any number is taken.
 ghost use mathlib.Core.Path.{_≡_};
-ghost use Prim.Native.Nat.{_<_, _≤_, _+_, _-_, _*_, _%_};
+ghost use mathlib.Core.List.{_++_};
+ghost use Prim.Native.Nat.{_+_, _-_, _*_, _/_, _%_, _<_, _≤_};
 ghost use lib.ListN.{getD, length, drop};
 ghost use Rattle.hash.specs.Lists.{table, pasted};
-ghost use Rattle.hash.specs.Keccak.{rotl, theta, chi, rho, pi, iota, round, keccakF, xorPlane, chiPlane, plane, effect, parity, lane, rhoLane};
-ghost use Rattle.hash.specs.Words.{byteOf, le, joined, rateLanes, words, opened};
-ghost use mathlib.Core.List.{_++_, _∷_, []};
-ghost use Rattle.hash.specs.Shake.{absorbed, byteAt, xorByte, absorbByte, absorbFrom, finish, rate, zeros, stream, shake256};
+ghost use Rattle.hash.specs.Keccak.{keccakF};
+ghost use Rattle.hash.specs.Endian.{rateLanes, words, opened};
+ghost use Rattle.hash.specs.Shake.{absorbed, byteAt, xorByte, absorbByte, absorbFrom, finish, rate, zeros, after, stream, shake256};
 
+// b xored into byte k of the state.
 fn xor_byte(a: [[u64; 5]; 5], k: usize, b: u8) -> [[u64; 5]; 5]
     requires { ⌜ k < 200 ⌝ }
     ensures { λ r. ⌜ r ≡ xorByte a k b ⌝ }
@@ -18,22 +21,19 @@ fn xor_byte(a: [[u64; 5]; 5], k: usize, b: u8) -> [[u64; 5]; 5]
     s
 }
 
-fn byte_at(a: [[u64; 5]; 5], k: usize) -> u8
-    requires { ⌜ k < 200 ⌝ }
-    ensures { λ r. ⌜ r ≡ byteAt a k ⌝ }
-{
-    let x = k / 8 % 5;
-    let y = k / 8 / 5;
-    (a[y][x] >> (8 * (k % 8)) & 0xff) as u8
-}
-
+// b absorbed as byte n of the message.
 fn absorb_byte(a: [[u64; 5]; 5], n: usize, b: u8) -> [[u64; 5]; 5]
     ensures { λ r. ⌜ r ≡ absorbByte a n b ⌝ }
 {
     let s = xor_byte(a, n % 136, b);
-    if n % 136 == 135 { crate::keccak::permute(s) } else { s }
+    if n % 136 == 135 {
+        crate::keccak::permute(s)
+    } else {
+        s
+    }
 }
 
+// The end of a message of n bytes: 1111 and pad10*1 (6.2, 5.1), and the last permutation. The state then gives the stream.
 pub fn finish(a: [[u64; 5]; 5], n: usize) -> [[u64; 5]; 5]
     ensures { λ r. ⌜ r ≡ finish a n ⌝ }
 {
@@ -45,14 +45,15 @@ pub fn finish(a: [[u64; 5]; 5], n: usize) -> [[u64; 5]; 5]
     }
 }
 
+// The state before any byte.
 pub fn start() -> [[u64; 5]; 5]
     ensures { λ r. ⌜ r ≡ zeros ⌝ }
 {
     [[0; 5]; 5]
 }
 
-// The rate as 17 lanes, which are its words of eight bytes.
-pub fn words(a: [[u64; 5]; 5]) -> [u64; 17]
+// The rate as its 17 lanes, which are its words of eight bytes.
+pub fn rate_words(a: [[u64; 5]; 5]) -> [u64; 17]
     ensures { λ r. ⌜ (r ≡ rateLanes a) × (r ≡ words a) ⌝ }
 {
     let p = a[0];
@@ -80,16 +81,18 @@ pub fn words(a: [[u64; 5]; 5]) -> [u64; 17]
     ]
 }
 
+// A block of the stream into out, from the place at.
 pub fn put_block(out: &mut [u8], at: usize, a: [[u64; 5]; 5])
     requires { ⌜ at + 136 ≤ length (now out) ⌝ }
     ensures { λ _. ⌜ now (out .exit) ≡ pasted (byteAt a) (now (out .entry)) at 136 ⌝ }
 {
-    let w = words(a);
+    let w = rate_words(a);
     for i in 0..17usize {
-        crate::words::put_word(out, at + 8 * i, w[i]);
+        crate::endian::put_word(out, at + 8 * i, w[i]);
     }
 }
 
+// The block of the stream that the state gives. The next one is given by the permuted state.
 pub fn block(a: [[u64; 5]; 5]) -> [u8; 136]
     ensures { λ r. ⌜ r ≡ rate a ⌝ }
 {
@@ -98,7 +101,7 @@ pub fn block(a: [[u64; 5]; 5]) -> [u8; 136]
     out
 }
 
-// The bytes of b, to the end of out.
+// The bytes of b into out, from the place at to its end.
 fn put_rest(out: &mut [u8], at: usize, b: &[u8; 136])
     requires { ⌜ (at ≤ length (now out)) × (length (now out) ≤ at + 136) ⌝ }
     ensures { λ _. ⌜ now (out .exit) ≡ pasted (λ j. getD (now (b .entry)) j 0) (now (out .entry)) at (length (now (out .entry)) - at) ⌝ }
@@ -131,7 +134,7 @@ fn absorb_lanes(a: [[u64; 5]; 5], n: usize, m: &[u8], lanes: usize) -> [[u64; 5]
     let mut s = a;
     let mut k = n % 136 / 8;
     for i in 0..lanes {
-        let v = crate::words::load(m, 8 * i, 8);
+        let v = crate::endian::load(m, 8 * i, 8);
         let x = k % 5;
         let y = k / 5;
         s[y][x] = s[y][x] ^ v;
@@ -170,7 +173,7 @@ fn opening(p: [u64; 5], q: u64) -> [[u64; 5]; 5]
     ])
 }
 
-// The state that gives the stream of a header and a seed: seeds of 16, 24 and 32 bytes are absorbed by lanes.
+// The state that gives the stream of a header and a seed (000, 2.4.3). Seeds of kappa bits, 16, 24 or 32 bytes, fill whole lanes of one block.
 pub fn begin(header: &[u8; 8], seed: &[u8]) -> [[u64; 5]; 5]
     ensures { λ r. ⌜ r ≡ absorbed (now (header .entry) ++ now (seed .entry)) ⌝ }
 {
@@ -178,9 +181,9 @@ pub fn begin(header: &[u8; 8], seed: &[u8]) -> [[u64; 5]; 5]
     if n == 16 {
         return opening(
             [
-                crate::words::load(header, 0, 8),
-                crate::words::load(seed, 0, 8),
-                crate::words::load(seed, 8, 8),
+                crate::endian::load(header, 0, 8),
+                crate::endian::load(seed, 0, 8),
+                crate::endian::load(seed, 8, 8),
                 0x1f,
                 0,
             ],
@@ -190,10 +193,10 @@ pub fn begin(header: &[u8; 8], seed: &[u8]) -> [[u64; 5]; 5]
     if n == 24 {
         return opening(
             [
-                crate::words::load(header, 0, 8),
-                crate::words::load(seed, 0, 8),
-                crate::words::load(seed, 8, 8),
-                crate::words::load(seed, 16, 8),
+                crate::endian::load(header, 0, 8),
+                crate::endian::load(seed, 0, 8),
+                crate::endian::load(seed, 8, 8),
+                crate::endian::load(seed, 16, 8),
                 0x1f,
             ],
             0,
@@ -202,11 +205,11 @@ pub fn begin(header: &[u8; 8], seed: &[u8]) -> [[u64; 5]; 5]
     if n == 32 {
         return opening(
             [
-                crate::words::load(header, 0, 8),
-                crate::words::load(seed, 0, 8),
-                crate::words::load(seed, 8, 8),
-                crate::words::load(seed, 16, 8),
-                crate::words::load(seed, 24, 8),
+                crate::endian::load(header, 0, 8),
+                crate::endian::load(seed, 0, 8),
+                crate::endian::load(seed, 8, 8),
+                crate::endian::load(seed, 16, 8),
+                crate::endian::load(seed, 24, 8),
             ],
             0x1f,
         );
@@ -214,8 +217,9 @@ pub fn begin(header: &[u8; 8], seed: &[u8]) -> [[u64; 5]; 5]
     finish(absorb(absorb(start(), 0, header), 8, seed), 8 + n)
 }
 
-pub fn squeeze(a: [[u64; 5]; 5], out: &mut [u8])
-    ensures { λ r. do ⌜ now (out .exit) ≡ table (stream a) (← ⟦out.len()⟧ .entry) ⌝ }
+// The stream that the state gives, as much as out holds, and the state that gave its last block: permuted, it gives the next.
+pub fn squeeze(a: [[u64; 5]; 5], out: &mut [u8]) -> [[u64; 5]; 5]
+    ensures { λ r. ⌜ (now (out .exit) ≡ table (stream a) (length (now (out .entry)))) × (r ≡ after ((length (now (out .entry)) - 1) / 136) a) ⌝ }
 {
     let mut s = a;
     let mut i: usize = 0;
@@ -227,12 +231,14 @@ pub fn squeeze(a: [[u64; 5]; 5], out: &mut [u8])
     }
     let b = block(s);
     put_rest(out, i, &b);
+    s
 }
 
+// SHAKE256 of m, as many bytes as out holds.
 pub fn shake256(m: &[u8], out: &mut [u8])
     ensures { λ r. do ⌜ now (out .exit) ≡ shake256 (now (m .entry)) (← ⟦out.len()⟧ .entry) ⌝ }
 {
-    squeeze(finish(absorb(start(), 0, m), m.len()), out)
+    squeeze(finish(absorb(start(), 0, m), m.len()), out);
 }
 
 // Digests of 2 kappa bits, for kappa = 128, 192 and 256: the stream's first bytes.

@@ -12,7 +12,7 @@ use Rattle.hash.proofs.shake.absorb_lanes.Tie as tie
 use Rattle.hash.proofs.shake.absorb_lanes.Reads as reads
 use Rattle.hash.proofs.shake.absorb_lanes.Lts as lts
 use Rattle.hash.proofs.keccak.permute.Reads as permute-reads
-use Rattle.hash.proofs.words.load.Reads as load-reads
+use Rattle.hash.proofs.endian.load.Reads as load-reads
 
 abbrev Inv-loop : tie.InvT-loop
 Inv-loop n m lanes s₀ k₀ i₀ s k i =

@@ -1,4 +1,4 @@
-use Rattle.hash.specs.Words.{opened}
+use Rattle.hash.specs.Endian.{opened}
 use borrow.Author.Needs.{needs}
 use Rattle.hash.proofs.shake.opening.Statement.{statement}
 use Rattle.hash.proofs.shake.opening.Tie as tie

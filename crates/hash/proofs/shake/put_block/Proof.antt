@@ -6,7 +6,7 @@ use lib.ListN.{length, getD, take, drop}
 use Rattle.hash.specs.Lists.{table, pasted}
 use Rattle.hash.specs.Keccak.{State}
 use Rattle.hash.specs.Shake.{byteAt}
-use Rattle.hash.specs.Words.{byteOf, laneAt, rateLanes}
+use Rattle.hash.specs.Endian.{byteOf, laneAt, rateLanes}
 use Rattle.hash.proofs.Table.{getD-table}
 use Rattle.hash.proofs.Paste.{pasted-none, pasted-two, table-same}
 use borrow.Author.Needs.{needs}
@@ -38,13 +38,13 @@ abbrev μ-loop : tie.MeasureT-loop
 loop-holds : tie.Need-loop-holds Inv-loop μ-loop
 loop-holds c =
     let b = c .before .before .args in
-    (search needs, refl, pasted-none (of-words (c .words .result)) (b .out .now) (b .at))
+    (search needs, refl, pasted-none (of-words (c .rate-words .result)) (b .out .now) (b .at))
 
 loop-again : tie.Need-loop-again Inv-loop μ-loop
 loop-again c =
     let l = c .before .before .before .before .before in
     let b = l .before .before .before .args in
-    let w = l .before .words .result in
+    let w = l .before .rate-words .result in
     let i = l .loop .i in
     let h : b .at + 8 * i + 8 ≤ length (b .out .now) = omega arith in
     let e : 8 * (i + 1) ≡ 8 * i + 8 = omega arith in (
@@ -57,7 +57,7 @@ loop-again c =
 returns : tie.Need-returns Inv-loop μ-loop
 returns c =
     let e : 8 * c .before .loop .i ≡ 136 = omega arith in
-    rw (c .before .loop .inv .2, e, c .before .before .words .ensures .0, of-lanes)
+    rw (c .before .loop .inv .2, e, c .before .before .rate-words .ensures .0, of-lanes)
 
 pub put-block-spec : {M : Type 1} → statement M
 put-block-spec =

@@ -14,7 +14,7 @@ use Rattle.hash.proofs.shake.squeeze.Tie as tie
 
 abbrev Inv-loop : tie.InvT-loop
 Inv-loop out₀ s₀ i₀ out s i =
-    (i ≤ length out₀) × (length out ≡ length out₀) × (i % 136 ≡ 0) × (s ≡ after (i / 136) s₀) × (out ≡ table (stream s₀) i ++ drop i out₀)
+    (i ≤ length out₀ - 1) × (length out ≡ length out₀) × (i % 136 ≡ 0) × (s ≡ after (i / 136) s₀) × (out ≡ table (stream s₀) i ++ drop i out₀)
 
 abbrev μ-loop : tie.MeasureT-loop
 μ-loop out₀ s₀ i₀ out s i = length out₀ - i
@@ -42,8 +42,12 @@ returns c =
     let b = l .before .before .args in
     let v = l .loop .inv in
     let h : length (b .out .now) ≤ l .loop .i + 136 = omega arith in
-    rw (c .before .before .put-rest .ensures, v .1, v .4, c .before .before .before .before .before .block .ensures)
-    (last-block (b .a) (l .loop .s) (b .out .now) (l .loop .i) (v .2) (v .3) (v .0) h)
+    let e : l .loop .i / 136 ≡ (length (b .out .now) - 1) / 136 = omega arith in
+    let n : l .loop .i ≤ length (b .out .now) = omega arith in (
+      rw (c .before .before .put-rest .ensures, v .1, v .4, c .before .before .before .before .before .block .ensures)
+          (last-block (b .a) (l .loop .s) (b .out .now) (l .loop .i) (v .2) (v .3) n h),
+      rw e at (v .3),
+    )
 
 pub squeeze-spec : {M : Type 1} → statement M
 squeeze-spec =

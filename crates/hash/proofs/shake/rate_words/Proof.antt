@@ -1,12 +1,12 @@
 use mathlib.Core.Path.{_≡_, refl, _∙_}
 use Rattle.hash.specs.Lists.{table}
 use Rattle.hash.specs.Keccak.{lane}
-use Rattle.hash.specs.Words.{rateLanes, words}
+use Rattle.hash.specs.Endian.{rateLanes, words}
 use Rattle.hash.proofs.Shape.{low}
 use Rattle.hash.proofs.Word.{words-are}
 use borrow.Author.Needs.{needs}
-use Rattle.hash.proofs.shake.words.Statement.{statement}
-use Rattle.hash.proofs.shake.words.Tie as tie
+use Rattle.hash.proofs.shake.rate_words.Statement.{statement}
+use Rattle.hash.proofs.shake.rate_words.Tie as tie
 
 returns : tie.Need-returns
 unfolding rateLanes table
@@ -15,8 +15,8 @@ returns c =
     let e = words-are (b .args .t1) (low (b .args .t1) (b .good .0 .0) (b .good .0 .1 .1)) in
     (refl, e)
 
-pub words-spec : {M : Type 1} → statement M
-words-spec =
+pub rate-words-spec : {M : Type 1} → statement M
+rate-words-spec =
     tie.close
     (tie.spec (λ c. search needs) (λ c. search needs) (λ c. search needs) (λ c. search needs) (λ c. search needs)
     (λ c. search needs) (λ c. search needs) (λ c. search needs) (λ c. search needs) (λ c. search needs) (λ c. search needs)

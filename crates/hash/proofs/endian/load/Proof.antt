@@ -4,11 +4,11 @@ use native.Mathlib.Numerals.{add-one}
 use native.Mathlib.Omega.{arith}
 use lib.ListN.{getD}
 use lib.Pow.{shl-exact}
-use Rattle.hash.specs.Words.{joined, le}
+use Rattle.hash.specs.Endian.{joined, le}
 use Rattle.hash.proofs.Word.{on-top}
 use borrow.Author.Needs.{needs}
-use Rattle.hash.proofs.words.load.Statement.{statement}
-use Rattle.hash.proofs.words.load.Tie as tie
+use Rattle.hash.proofs.endian.load.Statement.{statement}
+use Rattle.hash.proofs.endian.load.Tie as tie
 
 abbrev Inv-loop : tie.InvT-loop
 Inv-loop m at n x₀ j₀ x j = (j ≤ n) × (x ≡ joined (λ k. getD m (at + k) 0) j) × (x ≡ le (λ k. getD m (at + k) 0) j) × (x < 2 ^ (8 * j))

@@ -3,12 +3,12 @@ use Prim.Native.Nat.{ℕ, _+_, _-_, _*_, _≤_, _<_}
 use native.Mathlib.Omega.{arith}
 use lib.ListN.{length, length-set}
 use Rattle.hash.specs.Lists.{pasted}
-use Rattle.hash.specs.Words.{byteOf}
+use Rattle.hash.specs.Endian.{byteOf}
 use Rattle.hash.proofs.Table.{getD-table}
 use Rattle.hash.proofs.Paste.{pasted-none, pasted-one}
 use borrow.Author.Needs.{needs}
-use Rattle.hash.proofs.words.put_word.Statement.{statement}
-use Rattle.hash.proofs.words.put_word.Tie as tie
+use Rattle.hash.proofs.endian.put_word.Statement.{statement}
+use Rattle.hash.proofs.endian.put_word.Tie as tie
 
 abbrev Inv-loop : tie.InvT-loop
 Inv-loop out₀ at x b j₀ out j = (j ≤ 8) × (length out ≡ length out₀) × (out ≡ pasted (byteOf x) out₀ at j)
@@ -27,7 +27,7 @@ loop-again c =
     let k : l .j < 8 = omega arith in (
       search needs,
       simp length-set (l .inv .1),
-      rw (c .before .before .bytes .ensures, getD-table (byteOf (b .x)) 8 (l .j) k, l .inv .2) (pasted-one (byteOf (b .x)) (b .out .now) (b .at) (l .j) h),
+      rw (c .before .before .word-bytes .ensures, getD-table (byteOf (b .x)) 8 (l .j) k, l .inv .2) (pasted-one (byteOf (b .x)) (b .out .now) (b .at) (l .j) h),
     )
 
 returns : tie.Need-returns Inv-loop μ-loop
