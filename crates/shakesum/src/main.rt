@@ -1,16 +1,5 @@
 // SHAKE256 of standard input, its first 32 bytes in hex.
-use libc::{STDIN_FILENO, STDOUT_FILENO};
-
-fn wide(x: u8) -> u64 {
-    x as u64
-}
-
-fn print(s: &[u8]) {
-    for i in 0..s.len() {
-        io::print_hex(STDOUT_FILENO, wide(s[i]), 2);
-    }
-    io::write_all(STDOUT_FILENO, b"\n");
-}
+use libc::STDIN_FILENO;
 
 // The buffer holds 30 blocks, so a full one leaves the next byte at the start of a block. A proved loop has to end and standard
 // input need not: so the turns are counted, from a number that no run uses up.
@@ -25,6 +14,6 @@ fn main() {
         n = io::read_full(STDIN_FILENO, &mut buf);
         turns -= 1;
     }
-    let t = hash::shake::absorb(s, 0, &buf[..n]);
-    print(&hash::shake::digest_32(hash::shake::finish(t, n)));
+    let t = hash::shake::absorb(s, 0, &buf[0..n]);
+    hexio::print_line(&hash::shake::digest_32(hash::shake::finish(t, n)));
 }

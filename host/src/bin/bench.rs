@@ -1,0 +1,71 @@
+//! Times the proved code beside the independent implementation, turn by turn in one run, and prints the best of each.
+
+use koivrast_host::independent::keccak;
+use koivrast_host::unit;
+use std::hint::black_box;
+use std::time::Instant;
+
+const TURNS: usize = 400;
+
+/// The best time of each of two jobs, in nanoseconds for one of `n` parts.
+fn best(n: usize, mut a: impl FnMut(), mut b: impl FnMut()) -> (f64, f64) {
+    let time = |job: &mut dyn FnMut()| {
+        let start = Instant::now();
+        job();
+        start.elapsed().as_nanos() as f64 / n as f64
+    };
+    let (mut x, mut y) = (f64::MAX, f64::MAX);
+    for _ in 0..TURNS {
+        x = x.min(time(&mut a));
+        y = y.min(time(&mut b));
+    }
+    (x, y)
+}
+
+fn row(name: &str, (unit, other): (f64, f64)) {
+    println!("{name:<44} {unit:>10.1} {other:>12.1} {:>7.2}", unit / other);
+}
+
+fn main() {
+    println!("{:<44} {:>10} {:>12} {:>7}", "nanoseconds, best of 400", "unit", "independent", "ratio");
+    let permutation = best(
+        100,
+        || {
+            black_box(unit::permutations(black_box(100)));
+        },
+        || {
+            let mut a = [0u64; 25];
+            for _ in 0..100 {
+                keccak::permute(black_box(&mut a));
+            }
+            black_box(a);
+        },
+    );
+    row("permutation", permutation);
+    let (header, seed) = (*b"A\x01\x02\0\0\0\0\0", [7u8; 32]);
+    let mut out = vec![0u8; 28 * 136];
+    let mut other = out.clone();
+    let stream = best(
+        28,
+        || unit::stream(black_box(&header), black_box(&seed), &mut out),
+        || {
+            let mut xof = keccak::Shake256::new();
+            xof.absorb(black_box(&header));
+            xof.absorb(black_box(&seed));
+            xof.squeeze(&mut other);
+        },
+    );
+    row("stream to a slice, per block of 136 bytes", stream);
+    println!("{:<44} {:>10.2}", "  of that, permutations of the unit", stream.0 / permutation.0);
+    let message = vec![0x5au8; 30 * 136 - 1];
+    let (mut d, mut e) = ([0u8; 32], [0u8; 32]);
+    let absorb = best(
+        30,
+        || unit::shake256(black_box(&message), &mut d),
+        || keccak::shake256(black_box(&message), &mut e),
+    );
+    row("message absorbed, per block of 136 bytes", absorb);
+    println!("{:<44} {:>10.2}", "  of that, permutations of the unit", absorb.0 / permutation.0);
+    assert_eq!(out, other);
+    assert_eq!(d, e);
+}

@@ -1,0 +1,3 @@
+//! An implementation of its own, to compare the proved code with.
+
+pub mod keccak;

@@ -1,0 +1,9 @@
+//! Host side of the Raccoon gate unit.
+//!
+//! * [`independent`]: written from FIPS 202 and paper 000, and not from the proved code, to compare with.
+//! * [`unit`]: the proved code, called through its C exports.
+//! * [`random`]: a small seeded generator for tests.
+
+pub mod independent;
+pub mod random;
+pub mod unit;
