@@ -1,3 +1,4 @@
 //! An implementation of its own, to compare the proved code with.
 
 pub mod keccak;
+pub mod ring;

@@ -1,0 +1,114 @@
+-- Lists made place by place: by a rule for two lists, by rests, by a factor.
+use mathlib.Core.Path.{_≡_, refl, ap, sym, _∙_}
+use mathlib.Core.List.{List, [], _∷_, _++_}
+use Prim.Native.Nat.{ℕ, zero, suc, _*_, _%_, _<_}
+use native.Mathlib.Nat.{mod-lt}
+use native.Mathlib.Omega.{arith}
+use lib.ListN.{length, take, drop}
+use Rattle.hash.specs.Lists.{table}
+use Rattle.hash.proofs.Table.{length-table}
+use Rattle.ring.specs.Words.{Below, Residues}
+use Rattle.ring.specs.Poly.{map2}
+use Rattle.ring.specs.Residue.{mods, scale}
+use Rattle.ring.proofs.Cong.{Eqv, ≈trans, ≈eq, ≈mod, ≈same, ≈kit}
+use Rattle.ring.proofs.Sums.{below-append}
+
+-- ---- a rule for two lists
+
+pub length-map2 : (h : ℕ → ℕ → ℕ) (xs ys : List ℕ) → length xs ≡ length ys → length (map2 h xs ys) ≡ length xs
+length-map2 h [] ys e = refl
+length-map2 h (x ∷ xs) [] e = sym e
+length-map2 h (x ∷ xs) (y ∷ ys) e = ap suc (length-map2 h xs ys (omega arith))
+
+pub below-map2 : (p : ℕ) (h : ℕ → ℕ → ℕ) → ((a b : ℕ) → h a b < p) → (xs ys : List ℕ) → Below p (map2 h xs ys)
+below-map2 p h l [] ys = tt
+below-map2 p h l (x ∷ xs) [] = tt
+below-map2 p h l (x ∷ xs) (y ∷ ys) = (l x y, below-map2 p h l xs ys)
+
+pub residues-map2 : {p n : ℕ} (h : ℕ → ℕ → ℕ) → ((a b : ℕ) → h a b < p) → (xs ys : List ℕ)
+    → length xs ≡ n → length ys ≡ n → Residues p n (map2 h xs ys)
+residues-map2 {p} h l xs ys e g =
+    record { long = length-map2 h xs ys (e ∙ sym g) ∙ e; low = below-map2 p h l xs ys }
+
+pub maps : (h : ℕ → ℕ → ℕ) {a b c d : List ℕ} → a ≡ b → c ≡ d → map2 h a c ≡ map2 h b d
+maps h e k = cc
+
+-- ---- rests
+
+pub length-mods : (p : ℕ) (xs : List ℕ) → length (mods p xs) ≡ length xs
+length-mods p [] = refl
+length-mods p (x ∷ xs) = ap suc (length-mods p xs)
+
+below-mods : {p : ℕ} → 0 < p → (xs : List ℕ) → Below p (mods p xs)
+below-mods pos [] = tt
+below-mods pos (x ∷ xs) = (mod-lt x pos, below-mods pos xs)
+
+pub residues-mods : {p n : ℕ} → 0 < p → (xs : List ℕ) → length xs ≡ n → Residues p n (mods p xs)
+residues-mods {p} pos xs e = record { long = length-mods p xs ∙ e; low = below-mods pos xs }
+
+mods-append : (p : ℕ) (xs ys : List ℕ) → mods p (xs ++ ys) ≡ mods p xs ++ mods p ys
+mods-append p [] ys = refl
+mods-append p (x ∷ xs) ys = ap (λ (l : List ℕ). x % p ∷ l) (mods-append p xs ys)
+
+pub mods-table : (p : ℕ) (f : ℕ → ℕ) (n : ℕ) → mods p (table f n) ≡ table (λ (i : ℕ). f i % p) n
+unfolding table
+mods-table p f zero = refl
+mods-table p f (suc n) = mods-append p (table f n) (f n ∷ []) ∙ ap (λ (l : List ℕ). l ++ (f n % p ∷ [])) (mods-table p f n)
+
+-- ---- a table of residues
+
+below-table : (p : ℕ) (f : ℕ → ℕ) → ((i : ℕ) → f i < p) → (n : ℕ) → Below p (table f n)
+unfolding table
+below-table p f l zero = tt
+below-table p f l (suc n) = below-append p (table f n) (f n ∷ []) (below-table p f l n) (l n, tt)
+
+pub residues-table : {p : ℕ} (f : ℕ → ℕ) → ((i : ℕ) → f i < p) → (n : ℕ) → Residues p n (table f n)
+residues-table {p} f l n = record { long = length-table f n; low = below-table p f l n }
+
+-- ---- a factor
+
+module _ {p : ℕ} (pos : 0 < p) where
+  length-scale : (s : ℕ) (f : List ℕ) → length (scale p s f) ≡ length f
+  length-scale s [] = refl
+  length-scale s (a ∷ f) = ap suc (length-scale s f)
+
+  below-scale : (s : ℕ) (f : List ℕ) → Below p (scale p s f)
+  below-scale s [] = tt
+  below-scale s (a ∷ f) = (mod-lt (s * a) pos, below-scale s f)
+
+  pub residues-scale : {n : ℕ} (s : ℕ) (f : List ℕ) → length f ≡ n → Residues p n (scale p s f)
+  residues-scale s f e = record { long = length-scale s f ∙ e; low = below-scale s f }
+
+  pub scale-append : (s : ℕ) (xs ys : List ℕ) → scale p s (xs ++ ys) ≡ scale p s xs ++ scale p s ys
+  scale-append s [] ys = refl
+  scale-append s (x ∷ xs) ys = ap (λ (l : List ℕ). (s * x) % p ∷ l) (scale-append s xs ys)
+
+  pub scale-take : (s k : ℕ) (f : List ℕ) → take k (scale p s f) ≡ scale p s (take k f)
+  scale-take s zero f = refl
+  scale-take s (suc k) [] = refl
+  scale-take s (suc k) (a ∷ f) = ap (λ (l : List ℕ). (s * a) % p ∷ l) (scale-take s k f)
+
+  pub scale-drop : (s k : ℕ) (f : List ℕ) → drop k (scale p s f) ≡ scale p s (drop k f)
+  scale-drop s zero f = refl
+  scale-drop s (suc k) [] = refl
+  scale-drop s (suc k) (a ∷ f) = scale-drop s k f
+
+  pub scale-map2 : (s : ℕ) (h : ℕ → ℕ → ℕ) → ((a b : ℕ) → h ((s * a) % p) ((s * b) % p) ≡ (s * h a b) % p)
+      → (xs ys : List ℕ) → map2 h (scale p s xs) (scale p s ys) ≡ scale p s (map2 h xs ys)
+  scale-map2 s h l [] ys = refl
+  scale-map2 s h l (x ∷ xs) [] = refl
+  scale-map2 s h l (x ∷ xs) (y ∷ ys) = cc (l x y, scale-map2 s h l xs ys)
+
+  pub scale-one : (s : ℕ) → Eqv p s 1 → (f : List ℕ) → Below p f → scale p s f ≡ f
+  scale-one s h [] g = refl
+  scale-one s h (a ∷ f) g =
+      cc (
+        ≈same (mod-lt (s * a) pos) (g .0) (≈trans (≈mod _) (≈trans {b = 1 * a} (grw (≈kit, h)) (≈eq (omega arith)))),
+        scale-one s h f (g .1),
+      )
+
+  pub scale-scale : (s t : ℕ) (f : List ℕ) → scale p s (scale p t f) ≡ scale p (s * t) f
+  scale-scale s t [] = refl
+  scale-scale s t (a ∷ f) =
+      let h : Eqv p (s * ((t * a) % p)) (s * t * a) = grw (≈kit, ≈mod {p = p} (t * a)) (≈eq (omega arith)) in
+      cc (h .same, scale-scale s t f)

@@ -1,0 +1,33 @@
+use Prim.Native.Nat.{_<_}
+use lib.Dec.{lit≤}
+use borrow.Author.Needs.{needs}
+use Rattle.ring.specs.Residue.{prime}
+use Rattle.ring.proofs.Bounds.{over-lt}
+use Rattle.ring.proofs.Blocks.{top-block, top-low, top-bwd}
+use Rattle.ring.proofs.residue.backward.Statement.{statement}
+use Rattle.ring.proofs.residue.backward.Tie as tie
+
+invert-requires : tie.Need-invert-requires
+invert-requires c κs =
+    let b = c .before .before .before .before .before .before .before .before in
+    let r = c .before .before .before .before .before .rests in
+    (c .before .before .powers .ensures, lit≤ tt, top-block (b .args .second) (b .args .a .now) (r .last .1 .0) (b .pre) (r .ensures))
+
+scaled-requires : tie.Need-scaled-requires
+scaled-requires c κs =
+    let b = c .before .before .before .before .before .before .before .before .before .before .before .before .before in
+    let r = c .before .before .before .before .before .before .before .before .before .before .rests in
+    let o : c .inverse .result < prime (b .args .second) = rw (c .inverse .ensures) (over-lt (b .args .second)) in
+    (o, top-low (b .args .second) (b .args .a .now) (r .last .1 .0) (b .pre) (r .ensures) (c .before .before .before .before .invert .last .1 .1 .0) (c .before .before .before .before .invert .ensures))
+
+returns : tie.Need-returns
+returns c =
+    let b = c .before .before .before .before .before .before .before .before .before .before .before .before .before .before .before .before in
+    let r = c .before .before .before .before .before .before .before .before .before .before .before .before .before .rests in
+    top-bwd (b .args .second) (b .args .a .now) (r .last .1 .0) (b .pre) (r .ensures) (c .before .before .before .before .before .before .before .invert .last .1 .1 .0) (c .before .before .before .before .before .before .before .invert .ensures)
+    (c .before .before .before .inverse .result) (c .before .before .before .inverse .ensures) (c .before .before .scaled .last .1 .0) (c .before .before .scaled .ensures)
+
+pub backward-spec : {M : Type 1} → statement M
+backward-spec =
+    tie.close (tie.spec (λ c κs. search needs) (λ c κs. search needs) invert-requires (λ c κs. search needs)
+    scaled-requires (λ c. search needs) returns)

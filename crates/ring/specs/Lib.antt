@@ -1,0 +1,6 @@
+pub mod Words
+pub mod Poly
+pub mod Residue
+pub mod Transform
+pub mod Round
+pub mod Uniform

@@ -1,0 +1,58 @@
+-- Uniform polynomials: 49-bit draws of seven bytes each, of which those below q are kept (000, Algorithm 5; 01, "Streams and shares").
+use Prim.Native.Nat.{ℕ, zero, suc, min, _+_, _*_, _/_, _%_, _^_}
+use mathlib.Core.Path.{_≡_}
+use mathlib.Core.Bool.{Bool, true, false}
+use mathlib.Core.List.{List, [], _∷_, _++_}
+use mathlib.Core.Option.{Option, some, none}
+use lib.ListN.{length, getD, take, replicate}
+use lib.Dec.{ltb, leb, eqb}
+use Rattle.hash.specs.Lists.{pick}
+use Rattle.hash.specs.Shake.{shake256}
+use Rattle.hash.specs.Endian.{le}
+use Rattle.ring.specs.Words.{q}
+use Rattle.ring.specs.declared.uniform.Sampled.{Sampled}
+
+-- draw number n of the bytes s: the low 49 bits of seven bytes, the lowest first
+unfoldable pub draw : List ℕ → ℕ → ℕ
+draw s n = le (λ (j : ℕ). getD s (7 * n + j) 0) 7 % 2 ^ 49
+
+-- a draw is kept where it is below q
+abbrev pub keep : Bool → ℕ → List ℕ
+keep true d = d ∷ []
+keep false d = []
+
+-- those of the first n draws that are kept, in order
+unfoldable pub kept : List ℕ → ℕ → List ℕ
+kept s zero = []
+kept s (suc n) = kept s n ++ keep (ltb (draw s n) q) (draw s n)
+
+-- how many draws a polynomial may take of n bytes: at most 777
+abbrev pub draws : ℕ → ℕ
+draws n = min 777 (n / 7)
+
+-- the polynomial that the bytes s give: the first 512 draws kept, if there are as many (question 10)
+unfoldable pub uniform : List ℕ → Option (List ℕ)
+uniform s = pick (leb 512 (length (kept s (draws (length s))))) (some (take 512 (kept s (draws (length s))))) none
+
+-- Algorithm 5, SampleQ, of a header of eight bytes and a seed: 777 draws are 5439 bytes
+unfoldable pub sampleQ : List ℕ → List ℕ → Option (List ℕ)
+sampleQ hdr seed = uniform (shake256 (hdr ++ seed) 5439)
+
+-- the number and the result of the sampler over lent bytes: questions 8 and 10
+abbrev answered : Option (List ℕ) → List ℕ → ℕ × List ℕ
+answered none out = (10, out)
+answered (some f) out = (0, f)
+
+unfoldable pub sampledOf : List ℕ → List ℕ → ℕ × List ℕ
+sampledOf s out = pick (eqb (length out) 512) (answered (uniform s) out) (8, out)
+
+-- the answer of SampleQ: a polynomial, or zero where there is none
+unfoldable pub heldOf : Option (List ℕ) → Sampled
+heldOf (some f) = record { ok = true; poly = f }
+heldOf none = record { ok = false; poly = replicate 512 0 }
+
+-- those kept of the first n draws of s, behind the first k words of a, and no more than 512 in all: they are the first r words of a′
+pub record Gathered (s : List ℕ) (n : ℕ) (a : List ℕ) (k : ℕ) (a′ : List ℕ) (r : ℕ) : Type 0 where
+  pub long : length a′ ≡ 512
+  pub count : r ≡ length (take 512 (take k a ++ kept s n))
+  pub front : take r a′ ≡ take 512 (take k a ++ kept s n)
