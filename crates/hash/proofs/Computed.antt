@@ -21,11 +21,12 @@ both-right true b t = t
 both-right false b t = absurd t
 
 -- the test f passes at each number below n
-abbrev pub below : (ℕ → Bool) → ℕ → Bool
+unfoldable pub below : (ℕ → Bool) → ℕ → Bool
 below f zero = true
 below f (suc n) = both (f n) (below f n)
 
 pub at : (f : ℕ → Bool) (n : ℕ) → T (below f n) → (k : ℕ) → k < n → T (f k)
+unfolding below
 at f zero t k h = absurd (not-suc-le-zero h)
 at f (suc n) t k h = choose (at f n (both-right (f n) (below f n) t) k) (ℕ-discrete k n)
   where

@@ -117,14 +117,14 @@ ruled p t =
 
 -- the test of the whole table, for any edition; and that row i is of set i / 6 and order i % 6
 all-pass : (e : Edition) → T (below (λ (i : ℕ). allOf (tests (paramsOf (rowAt i) e))) 18)
-unfolding rows
+unfolding rows below
 all-pass e = tt
 
 abbrev named : List ℕ → ℕ → List Bool
 named r i = eqb (getD r 0 0) (setNo (i / 6)) ∷ eqb (getD r 1 0) (2 ^ (i % 6)) ∷ []
 
 all-named : T (below (λ (i : ℕ). allOf (named (rowAt i) i)) 18)
-unfolding rows
+unfolding rows below
 all-named = tt
 
 -- what a record that was found is

@@ -1,14 +1,18 @@
 -- Lists of residues, and the sums and differences of words below q, place by place.
 use mathlib.Core.Path.{_≡_, refl, sym, ap, _∙_}
+use mathlib.Core.Bool.{Bool, true, false}
 use mathlib.Core.List.{List, [], _∷_, _++_}
-use Prim.Native.Nat.{ℕ, zero, suc, _+_, _-_, _%_, _<_}
+use Prim.Native.Nat.{ℕ, zero, suc, _+_, _-_, _%_, _≤_, _<_}
 use native.Mathlib.Nat.{le-of-suc-le-suc, not-suc-le-zero, mod-lt, mod-eq-of-lt}
 use native.Mathlib.Decide.{decLt}
+use native.Mathlib.Numerals.{add-one}
 use native.Mathlib.Omega.{arith}
-use lib.Dec.{lit<}
-use lib.ListN.{length, take, drop, getD, replicate, length-append, length-drop, length-replicate}
-use lib.Seq.{ext-getD, length-take-le}
-use Rattle.ring.specs.Words.{q, addq, subq, zipTo, addW, subW, Below, Residues, Words, Linear}
+use borrow.Author.Tests.{ltb-true, lt-ltb, le-ltb}
+use lib.Dec.{ltb, lit<}
+use lib.ListN.{length, take, drop, getD, replicate, length-append, length-drop, length-replicate, drop-of-length-le}
+use lib.Seq.{drop-cons, ext-getD, length-take-le}
+use Rattle.hash.specs.Lists.{pick}
+use Rattle.ring.specs.Words.{q, addq, subq, zipTo, addW, subW, Below, allBelow, Residues, Words, Linear}
 
 -- ---- one word
 
@@ -69,6 +73,28 @@ module _ (p : ℕ) where
   pub below-zeros : 0 < p → (n : ℕ) → Below p (replicate n 0)
   below-zeros pos zero = tt
   below-zeros pos (suc n) = (pos, below-zeros pos n)
+
+  -- the test, its turns, and what it tells
+  pub below-more : (xs : List ℕ) (i : ℕ) → i < length xs → getD xs i 0 < p → allBelow p (drop i xs) ≡ allBelow p (drop (i + 1) xs)
+  unfolding allBelow
+  below-more xs i h g = ap (allBelow p) (drop-cons xs i 0 h) ∙ simp (lt-ltb _ _ g, add-one)
+
+  pub below-stop : (xs : List ℕ) (i : ℕ) → i < length xs → p ≤ getD xs i 0 → allBelow p (drop i xs) ≡ false
+  unfolding allBelow
+  below-stop xs i h g = ap (allBelow p) (drop-cons xs i 0 h) ∙ simp (le-ltb _ _ g)
+
+  pub below-end : (xs : List ℕ) (i : ℕ) → length xs ≤ i → allBelow p (drop i xs) ≡ true
+  unfolding allBelow
+  below-end xs i h = ap (allBelow p) (drop-of-length-le xs h)
+
+  pub all-below : (xs : List ℕ) → allBelow p xs ≡ true → Below p xs
+  unfolding allBelow
+  all-below [] e = tt
+  all-below (x ∷ xs) e = go (ltb x p) refl e (all-below xs)
+    where
+      go : (b : Bool) → ltb x p ≡ b → pick b (allBelow p xs) false ≡ true → (allBelow p xs ≡ true → Below p xs) → Below p (x ∷ xs)
+      go true h k r = (ltb-true x p h, r k)
+      go false h k r = let z : _≡_ {A = ℕ} 0 1 = cc in absurd (omega arith)
 
   pub below-zip : (f : ℕ → ℕ → ℕ) → ((a b : ℕ) → f a b < p) → (xs ys : List ℕ) → Below p xs → Below p (zipTo f xs ys)
   unfolding zipTo

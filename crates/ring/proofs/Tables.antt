@@ -8,6 +8,7 @@ use native.Mathlib.Decide.{ℕ-discrete}
 use lib.Dec.{T, eqb, eqb→eq, ltb, lit<}
 use lib.ListN.{getD}
 use Rattle.hash.specs.Lists.{table}
+use Rattle.hash.proofs.Computed.{below, at}
 use Rattle.hash.proofs.Table.{getD-table}
 use Rattle.ring.specs.Residue.{rev, prime, gen, over512, power, rootOf, powers}
 use Rattle.ring.proofs.Cong.{Eqv}
@@ -25,33 +26,6 @@ powers-at s k h = getD-table (rootOf s) 512 k h
 pub root-low : (s : Bool) (k : ℕ) → rootOf s k < prime s
 unfolding power
 root-low s k = mod-lt _ (prime-pos s)
-
--- ---- tests at all numbers below n
-
-abbrev both : Bool → Bool → Bool
-both true b = b
-both false b = false
-
-both-left : (a b : Bool) → T (both a b) → T a
-both-left true b t = tt
-both-left false b t = t
-
-both-right : (a b : Bool) → T (both a b) → T b
-both-right true b t = t
-both-right false b t = absurd t
-
-below : (ℕ → Bool) → ℕ → Bool
-below f zero = true
-below f (suc n) = both (f n) (below f n)
-
-at : (f : ℕ → Bool) (n : ℕ) → T (below f n) → (k : ℕ) → k < n → T (f k)
-unfolding below
-at f zero t k h = absurd (not-suc-le-zero h)
-at f (suc n) t k h = pick (at f n (both-right (f n) (below f n) t) k) (ℕ-discrete k n)
-  where
-    pick : (k < n → T (f k)) → Dec (k ≡ n) → T (f k)
-    pick r (yes e) = subst (λ (x : ℕ). T (f x)) (sym e) (both-left (f n) (below f n) t)
-    pick r (no ne) = r (omega arith)
 
 -- ---- the nodes
 

@@ -1,8 +1,11 @@
 -- Residues in lists: the coefficients of polynomials, words below q, and their sums place by place.
 use mathlib.Core.Path.{_≡_}
+use mathlib.Core.Bool.{Bool, true, false}
 use mathlib.Core.List.{List, [], _∷_}
 use Prim.Native.Nat.{ℕ, _+_, _-_, _%_, _<_}
+use lib.Dec.{ltb}
 use lib.ListN.{length}
+use Rattle.hash.specs.Lists.{pick}
 
 -- 000, Tables 2 to 4: the modulus, 16515073 * 33292289
 abbrev pub q : ℕ
@@ -32,6 +35,11 @@ subW xs ys = zipTo subq xs ys
 abbrev pub Below : ℕ → List ℕ → Type 0
 Below p [] = Unit {0}
 Below p (x ∷ xs) = (x < p) × Below p xs
+
+-- .. as a test
+unfoldable pub allBelow : ℕ → List ℕ → Bool
+allBelow p [] = true
+allBelow p (x ∷ xs) = pick (ltb x p) (allBelow p xs) false
 
 -- n residues modulo p; n words below q
 pub record Residues (p n : ℕ) (xs : List ℕ) : Type 0 where

@@ -2,7 +2,7 @@
 ghost use mathlib.Core.Path.{_≡_};
 ghost use Prim.Native.Nat.{_*_, _%_, _^_, _<_};
 ghost use lib.ListN.{length};
-ghost use Rattle.ring.specs.Words.{q, addq, subq, addW, subW, Below, Residues, Words};
+ghost use Rattle.ring.specs.Words.{q, addq, subq, addW, subW, Below, allBelow, Residues, Words};
 ghost use Rattle.ring.specs.Transform.{ntt, intt, pointwise};
 ghost use Rattle.ring.specs.Round.{rounded, roundT, roundW, scaledT, centred, residue, residues};
 use crate::residue::backward;
@@ -62,6 +62,20 @@ fn mul_word(x: u64, y: u64) -> u64
     let r2 = mul(true, reduce(true, x), reduce(true, y));
     let r1 = mul(false, reduce(false, x), reduce(false, y));
     combine(r2, r1)
+}
+
+// Is every word below p?
+pub fn all_below(s: &[u64], p: u64) -> bool
+    ensures { λ r. ⌜ r ≡ allBelow p (now (s .entry)) ⌝ }
+{
+    let mut i = 0;
+    while i < s.len() {
+        if p <= s[i] {
+            return false;
+        }
+        i += 1;
+    }
+    true
 }
 
 // s + p, place by place, into s.
