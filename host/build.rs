@@ -1,8 +1,9 @@
 //! Links the proved code, which `rt staticlib` writes to target/staticlib.
 fn main() {
-    let root = std::path::Path::new(env!("CARGO_MANIFEST_DIR")).join("..");
-    let dir = root.join("target/staticlib");
+    let dir = std::path::Path::new(env!("CARGO_MANIFEST_DIR")).join("../target/staticlib");
     println!("cargo:rustc-link-search=native={}", dir.display());
-    println!("cargo:rustc-link-lib=static=bench");
-    println!("cargo:rerun-if-changed={}", dir.join("libbench.a").display());
+    for library in ["bench", "capi"] {
+        println!("cargo:rustc-link-lib=static={library}");
+        println!("cargo:rerun-if-changed={}", dir.join(format!("lib{library}.a")).display());
+    }
 }

@@ -1,10 +1,16 @@
 //! The proved code through its C exports. A slice passes as a pointer and a length, a reference to an array as a pointer.
 
+use crate::independent::ring::{Poly, N};
+
 mod raw {
     extern "C" {
         pub fn bench_permute(n: usize) -> u64;
         pub fn bench_stream(header: *const u8, seed: *const u8, seed_len: usize, out: *mut u8, out_len: usize);
         pub fn bench_shake256(m: *const u8, m_len: usize, out: *mut u8, out_len: usize);
+        pub fn bench_ntt(f: *mut u64) -> bool;
+        pub fn bench_product(f: *mut u64, g: *const u64) -> bool;
+        pub fn bench_sample_q(header: *const u8, seed: *const u8, seed_len: usize, out: *mut u64) -> bool;
+        pub fn raccoon_sample_uniform(bytes: *const u8, bytes_len: usize, words_out: *mut u64, words_len: usize) -> u32;
     }
 }
 
@@ -21,4 +27,26 @@ pub fn stream(header: &[u8; 8], seed: &[u8], out: &mut [u8]) {
 /// SHAKE256 of a message.
 pub fn shake256(message: &[u8], out: &mut [u8]) {
     unsafe { raw::bench_shake256(message.as_ptr(), message.len(), out.as_mut_ptr(), out.len()) }
+}
+
+/// The transform in place; false, and nothing done, where a word is not below q.
+pub fn ntt(f: &mut Poly) -> bool {
+    unsafe { raw::bench_ntt(f.as_mut_ptr()) }
+}
+
+/// The product of the ring, into `f`; false, and nothing done, where a word is not below q.
+pub fn product(f: &mut Poly, g: &Poly) -> bool {
+    unsafe { raw::bench_product(f.as_mut_ptr(), g.as_ptr()) }
+}
+
+/// The uniform polynomial of a header and a seed.
+pub fn sample_q(header: &[u8; 8], seed: &[u8]) -> Option<Poly> {
+    let mut poly = [0u64; N];
+    let filled = unsafe { raw::bench_sample_q(header.as_ptr(), seed.as_ptr(), seed.len(), poly.as_mut_ptr()) };
+    filled.then_some(poly)
+}
+
+/// The uniform sampler over lent bytes: its status. With 0 the words hold the polynomial, else they are as they were.
+pub fn sample_uniform(bytes: &[u8], words: &mut [u64]) -> u32 {
+    unsafe { raw::raccoon_sample_uniform(bytes.as_ptr(), bytes.len(), words.as_mut_ptr(), words.len()) }
 }

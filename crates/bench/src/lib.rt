@@ -2,6 +2,11 @@
 ghost use mathlib.Core.Path.{_≡_};
 ghost use mathlib.Core.List.{_++_};
 ghost use lib.ListN.{length};
+ghost use mathlib.Core.Bool.{true, false};
+ghost use Rattle.hash.specs.Lists.{pick};
+ghost use Rattle.ring.specs.Words.{q, allBelow};
+ghost use Rattle.ring.specs.Transform.{ntt, mul};
+ghost use Rattle.ring.specs.Uniform.{sampleQ, heldOf};
 ghost use Rattle.hash.specs.Keccak.{lane};
 ghost use Rattle.hash.specs.Shake.{zeros, after, shake256};
 
@@ -32,4 +37,44 @@ pub extern "C" fn bench_shake256(m: &[u8], out: &mut [u8])
     ensures { λ r. ⌜ now (out .exit) ≡ shake256 (now (m .entry)) (length (now (out .entry))) ⌝ }
 {
     hash::shake::shake256(m, out);
+}
+
+// The transform of f, where its words are below q; else f stays, and the answer is false.
+#[no_mangle]
+pub extern "C" fn bench_ntt(f: &mut [u64; 512]) -> bool
+    ensures { λ r. ⌜ (r ≡ allBelow q (now (f .entry))) × (now (f .exit) ≡ pick (allBelow q (now (f .entry))) (ntt (now (f .entry))) (now (f .entry))) ⌝ }
+{
+    if !ring::poly::all_below(f, 549824583172097) {
+        return false;
+    }
+    *f = ring::poly::ntt(*f);
+    true
+}
+
+// f times g in the ring, by the transform, into f, where the words of both are below q; else f stays, and the answer is false.
+#[no_mangle]
+pub extern "C" fn bench_product(f: &mut [u64; 512], g: &[u64; 512]) -> bool
+    ensures { λ r. ⌜ (r ≡ pick (allBelow q (now (f .entry))) (allBelow q (now (g .entry))) false) × (now (f .exit) ≡ pick r (mul (now (f .entry)) (now (g .entry))) (now (f .entry))) ⌝ }
+{
+    if !ring::poly::all_below(f, 549824583172097) {
+        return false;
+    }
+    if !ring::poly::all_below(g, 549824583172097) {
+        return false;
+    }
+    let a = ring::poly::ntt(*f);
+    let b = ring::poly::ntt(*g);
+    *f = ring::poly::intt(ring::poly::pointwise(a, b));
+    true
+}
+
+// A uniform polynomial of a header and a seed, or zero where its draws run out.
+#[no_mangle]
+pub extern "C" fn bench_sample_q(header: &[u8; 8], seed: &[u8], out: &mut [u64; 512]) -> bool
+    ensures { λ r. ⌜ (r ≡ heldOf (sampleQ (now (header .entry)) (now (seed .entry))) .ok) × (now (out .exit) ≡ heldOf (sampleQ (now (header .entry)) (now (seed .entry))) .poly) ⌝ }
+{
+    let s = ring::uniform::sample_q(header, seed);
+    let p = s.poly;
+    *out = p;
+    s.ok
 }

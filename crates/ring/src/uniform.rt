@@ -55,7 +55,7 @@ fn gather(b: &[u8], n: usize, a: &mut [u64], k: usize) -> usize
 
 // The polynomial of lent bytes (01, "Streams and shares"): 0; or 8 where out is no 512 words, 10 where fewer than 512 of at most 777
 // draws are kept. Then out is as it was.
-pub fn sample_uniform(bytes: &[u8], out: &mut [u64]) -> u64
+pub fn sample_uniform(bytes: &[u8], out: &mut [u64]) -> u32
     ensures { λ r. ⌜ (r, now (out .exit)) ≡ sampledOf (now (bytes .entry)) (now (out .entry)) ⌝ }
 {
     if out.len() != 512 {

@@ -1,6 +1,6 @@
 //! Times the proved code beside the independent implementation, turn by turn in one run, and prints the best of each.
 
-use koivrast_host::independent::keccak;
+use koivrast_host::independent::{keccak, ring};
 use koivrast_host::unit;
 use std::hint::black_box;
 use std::time::Instant;
@@ -68,4 +68,50 @@ fn main() {
     println!("{:<44} {:>10.2}", "  of that, permutations of the unit", absorb.0 / permutation.0);
     assert_eq!(out, other);
     assert_eq!(d, e);
+    ring_rows(permutation.0);
+}
+
+/// The ring, by the same method on both sides: residues of the two primes, butterflies in place.
+fn ring_rows(permutation: f64) {
+    let tables = ring::Tables::new();
+    let f: ring::Poly = std::array::from_fn(|i| (i as u64 * 0x1234_5678_9abc + 7) % ring::Q);
+    let g: ring::Poly = std::array::from_fn(|i| (i as u64 * 0x0fed_cba9_8765 + 3) % ring::Q);
+    let (mut x, mut y) = (f, f);
+    let transform = best(
+        1,
+        || {
+            x = f;
+            black_box(unit::ntt(black_box(&mut x)));
+        },
+        || y = tables.transform(black_box(&f)),
+    );
+    row("transform", transform);
+    assert_eq!(x, y);
+    let product = best(
+        1,
+        || {
+            x = f;
+            black_box(unit::product(black_box(&mut x), black_box(&g)));
+        },
+        || {
+            let values = ring::Tables::pointwise(&tables.transform(black_box(&f)), &tables.transform(black_box(&g)));
+            y = tables.inverse(black_box(&values));
+        },
+    );
+    row("product: two transforms, pointwise, inverse", product);
+    assert_eq!(x, y);
+    let (header, seed) = (*b"A\x01\x02\0\0\0\0\0", [9u8; 16]);
+    let (mut p, mut r) = (None, None);
+    let uniform = best(
+        1,
+        || p = unit::sample_q(black_box(&header), black_box(&seed)),
+        || {
+            let mut stream = [0u8; 28 * 136];
+            keccak::shake256(black_box(&[&header[..], &seed].concat()), &mut stream);
+            r = ring::sample_q(&stream);
+        },
+    );
+    row("uniform polynomial", uniform);
+    println!("{:<44} {:>10.2}", "  of that, 28 permutations of the unit", uniform.0 / permutation / 28.0);
+    assert_eq!(p, r);
 }

@@ -2,3 +2,4 @@
 
 pub mod keccak;
 pub mod ring;
+pub mod sha256;
