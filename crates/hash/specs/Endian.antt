@@ -1,7 +1,6 @@
 -- The state and its stream in words of eight bytes, the low byte first.
 use Prim.Native.Nat.{ℕ, zero, suc, _+_, _*_, _/_, _%_, _^_}
-use mathlib.Core.List.{List, [], _∷_, _++_}
-use lib.ListN.{take, drop}
+use mathlib.Core.List.{List, [], _∷_}
 use lib.Bits.{bitXor}
 use Rattle.hash.specs.Lists.{table}
 use Rattle.hash.specs.Keccak.{State, lane}

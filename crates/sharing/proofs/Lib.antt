@@ -1,0 +1,13 @@
+pub mod Carry
+pub mod Decode
+pub mod Halves
+pub mod Held
+pub mod Lists
+pub mod Loops
+pub mod Pairs
+pub mod Regions
+pub mod Samples
+pub mod Small
+pub mod Totals
+pub mod Turns
+pub mod Worked

@@ -1,0 +1,5 @@
+pub mod Blocks
+pub mod Encoding
+pub mod Masks
+pub mod Noise
+pub mod Region

@@ -1,0 +1,3 @@
+// Layer 3, sharing.
+pub mod masks;
+pub mod noise;
