@@ -1,8 +1,8 @@
 -- Lists of words by blocks: blocks of a list, and lists built block by block.
 use mathlib.Core.Path.{_≡_, refl, sym, ap, _∙_}
-use mathlib.Core.List.{List, _++_}
+use mathlib.Core.List.{List, _++_, append-nil, append-assoc}
 use Prim.Native.Nat.{ℕ, zero, suc, _+_, _*_, _≤_, _<_}
-use native.Mathlib.Nat.{not-suc-le-zero, mul-le-mul-right, suc-mul, zero-mul}
+use native.Mathlib.Nat.{not-suc-le-zero, mul-le-mul-right, suc-mul, zero-mul, add-zero, add-suc}
 use native.Mathlib.Decide.{decLt}
 use native.Mathlib.Omega.{arith}
 use lib.ListN.{length, take, drop, getD, replicate, length-append, length-drop, replicate-append-replicate}
@@ -139,3 +139,20 @@ build-zeros w zero = sym (ap (λ (k : ℕ). replicate {A = ℕ} k 0) (zero-mul w
 build-zeros w (suc n) =
     ap (λ (t : List ℕ). t ++ replicate w 0) (build-zeros w n) ∙ replicate-append-replicate {A = ℕ} (n * w) w 0
     ∙ ap (λ (k : ℕ). replicate {A = ℕ} k 0) (sym (suc-mul n w))
+
+-- ---- built in two parts, and built of built lists
+
+pub build-more : (n m : ℕ) (f : ℕ → List ℕ) → build (n + m) f ≡ build n f ++ build m (λ (j : ℕ). f (n + j))
+unfolding build
+build-more n zero f = ap (λ (k : ℕ). build k f) (add-zero n) ∙ sym (append-nil (build n f))
+build-more n (suc m) f =
+    ap (λ (k : ℕ). build k f) (add-suc n m)
+    ∙ ap (λ (l : List ℕ). l ++ f (n + m)) (build-more n m f)
+    ∙ append-assoc (build n f) (build m (λ (j : ℕ). f (n + j))) (f (n + m))
+
+pub build-nest : (l d : ℕ) (f : ℕ → List ℕ) → build (l * d) f ≡ build l (λ (i : ℕ). build d (λ (j : ℕ). f (i * d + j)))
+unfolding build
+build-nest zero d f = ap (λ (k : ℕ). build k f) (zero-mul d)
+build-nest (suc l) d f =
+    let e : suc l * d ≡ l * d + d = omega arith in
+    ap (λ (k : ℕ). build k f) e ∙ build-more (l * d) d f ∙ ap (λ (x : List ℕ). x ++ build d (λ (j : ℕ). f (l * d + j))) (build-nest l d f)
