@@ -1,3 +1,4 @@
+pub mod Added
 pub mod Carry
 pub mod Decode
 pub mod Halves

@@ -1,0 +1,107 @@
+// Zero encodings and refreshing (000, Algorithms 12 and 11; 01, "Streams and shares"). A sharing of d shares is d * 512 words. In a work
+// buffer the first d * 512 words are scratch: a refresh makes its zero encoding there.
+ghost use mathlib.Core.Path.{_≡_};
+ghost use Prim.Native.Nat.{_+_, _*_, _^_, _≤_};
+ghost use lib.ListN.{length, take, drop};
+ghost use Rattle.hash.specs.Params.{orderIndex};
+ghost use Rattle.ring.specs.Words.{q, addW, Below, Words};
+ghost use Rattle.sharing.specs.Region.{sub, Wrote};
+ghost use Rattle.sharing.specs.Encoding.{pairs, later, polys, zeroAfter, zeroEncoding, skip, zeroNo, zeroVector, refreshed};
+ghost use Rattle.sharing.specs.Masks.{masks};
+use crate::masks::MaskGen;
+use crate::masks::fill;
+use crate::region::add_at;
+use crate::region::clear;
+use crate::region::load;
+use crate::region::sub_at;
+
+// Algorithm 12, the pairs: for each of h a polynomial of masking words, added on the left, subtracted on the right.
+fn mask_pairs(s: &mut [u64], h: usize, g: MaskGen) -> MaskGen
+    requires { ⌜ Words (h * 512 + h * 512) (now s) ⌝ }
+    ensures { λ r. ⌜ (now (s .exit) ≡ pairs (take (h * 512) (now (s .entry))) (drop (h * 512) (now (s .entry))) (polys masks h g)) × (r ≡ later masks h g) ⌝ }
+{
+    let mut x = g;
+    let mut p = [0u64; 512];
+    for j in 0..h {
+        x = fill(&mut p, x);
+        add_at(s, j * 512, &p);
+        sub_at(s, h * 512 + j * 512, &p);
+    }
+    x
+}
+
+// Algorithm 12: one share is zero; of more the left half is made, the right half, then their pairs are masked.
+pub fn zero_encoding(s: &mut [u64], d: usize, g: MaskGen) -> MaskGen
+    requires { ⌜ (length (now s) ≡ d * 512) × (d ≡ 2 ^ orderIndex d) ⌝ }
+    ensures { λ r. ⌜ (now (s .exit) ≡ zeroEncoding masks (orderIndex d) g) × (r ≡ zeroAfter masks (orderIndex d) g) ⌝ }
+{
+    if d == 1 {
+        clear(s);
+        return g;
+    }
+    let h = d / 2;
+    let m = h * 512;
+    let x = zero_encoding(&mut s[..m], h, g);
+    let y = zero_encoding(&mut s[m..], h, x);
+    mask_pairs(s, h, y)
+}
+
+// A zero encoding in the region at `at`.
+pub fn zero_encoding_at(s: &mut [u64], at: usize, d: usize, g: MaskGen) -> MaskGen
+    requires { ⌜ d ≡ 2 ^ orderIndex d ⌝ }
+    requires { ⌜ (at + d * 512 ≤ length (now s)) × Below q (now s) ⌝ }
+    ensures { λ r. ⌜ Wrote 0 at (d * 512) (zeroNo masks d 0 g) (now (s .entry)) (now (s .exit)) × (r ≡ skip masks d 1 g) ⌝ }
+{
+    let e = at + d * 512;
+    zero_encoding(&mut s[at..e], d, g)
+}
+
+// The sharing in the scratch is added to the one at `at`.
+pub fn add_scratch(s: &mut [u64], at: usize, d: usize)
+    requires { ⌜ (d * 512 ≤ at) × (at + d * 512 ≤ length (now s)) × Below q (now s) ⌝ }
+    ensures { λ _. ⌜ Wrote 0 at (d * 512) (addW (sub (now (s .entry)) at (d * 512)) (sub (now (s .entry)) 0 (d * 512))) (now (s .entry)) (now (s .exit)) ⌝ }
+{
+    for j in 0..d {
+        let p = load(s, j * 512);
+        add_at(s, at + j * 512, &p);
+    }
+}
+
+// Algorithm 11: a zero encoding is added to the sharing at `at`.
+pub fn refresh_at(s: &mut [u64], at: usize, d: usize, g: MaskGen) -> MaskGen
+    requires { ⌜ d ≡ 2 ^ orderIndex d ⌝ }
+    requires { ⌜ (d * 512 ≤ at) × (at + d * 512 ≤ length (now s)) × Below q (now s) ⌝ }
+    ensures { λ r. ⌜ Wrote (d * 512) at (d * 512) (addW (sub (now (s .entry)) at (d * 512)) (zeroNo masks d 0 g)) (now (s .entry)) (now (s .exit)) × (r ≡ skip masks d 1 g) ⌝ }
+{
+    let x = zero_encoding_at(s, 0, d, g);
+    add_scratch(s, at, d);
+    x
+}
+
+// m zero encodings, from `at` on.
+pub fn zero_vector(s: &mut [u64], at: usize, m: usize, d: usize, g: MaskGen) -> MaskGen
+    requires { ⌜ d ≡ 2 ^ orderIndex d ⌝ }
+    requires { ⌜ (d * 512 ≤ at) × (at + m * (d * 512) ≤ length (now s)) × Below q (now s) ⌝ }
+    ensures { λ r. ⌜ Wrote (d * 512) at (m * (d * 512)) (zeroVector masks d g m) (now (s .entry)) (now (s .exit)) × (r ≡ skip masks d m g) ⌝ }
+{
+    let mut x = g;
+    for i in 0..m {
+        let a = at + i * (d * 512);
+        x = zero_encoding_at(s, a, d, x);
+    }
+    x
+}
+
+// Algorithm 11 at each of m sharings.
+pub fn refresh_vector(s: &mut [u64], at: usize, m: usize, d: usize, g: MaskGen) -> MaskGen
+    requires { ⌜ d ≡ 2 ^ orderIndex d ⌝ }
+    requires { ⌜ (d * 512 ≤ at) × (at + m * (d * 512) ≤ length (now s)) × Below q (now s) ⌝ }
+    ensures { λ r. ⌜ Wrote (d * 512) at (m * (d * 512)) (refreshed masks d g m (sub (now (s .entry)) at (m * (d * 512)))) (now (s .entry)) (now (s .exit)) × (r ≡ skip masks d m g) ⌝ }
+{
+    let mut x = g;
+    for i in 0..m {
+        let a = at + i * (d * 512);
+        x = refresh_at(s, a, d, x);
+    }
+    x
+}
