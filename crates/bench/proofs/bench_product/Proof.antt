@@ -47,8 +47,7 @@ returns-3 c =
     let e : allBelow q (a .f .now) ≡ true = sym (o .before .all-below .ensures) ∙ not-false _ (o .if1 .left) in
     let h : allBelow q (a .g .now) ≡ true = sym (b .before .all-below2 .ensures) ∙ not-false _ (b .if2 .left) in
     let wf : Words 512 (a .f .now) = record { long = search needs; low = all-below q (a .f .now) e } in
-    let wg : Words 512 (a .g .now) = record { long = search needs; low = all-below q (a .g .now) h } in
-    (
+    let wg : Words 512 (a .g .now) = record { long = search needs; low = all-below q (a .g .now) h } in (
       rw (e, h),
       rw (c .intt .ensures .0, c .before .pointwise .ensures .0, n .ntt2 .ensures .0, t .ntt .ensures .0) (product (a .f .now) (a .g .now) wf wg),
     )

@@ -1,0 +1,57 @@
+// The sharing layer on known inputs: digests of what it makes, compared with those of another implementation (stdout).
+ghost use mathlib.Core.Path.{_≡_};
+ghost use Prim.Native.Nat.{_+_, _*_, _^_, _≤_};
+ghost use lib.ListN.{length};
+ghost use Rattle.hash.specs.Params.{orderIndex};
+
+// SHAKE256 of words of eight bytes, the low one first.
+fn print_digest(s: &[u64]) {
+    let mut a = hash::shake::start();
+    let mut b = [0u8; 8];
+    for i in 0..s.len() {
+        hash::endian::put_word(&mut b, 0, s[i]);
+        let t = hash::shake::absorb(a, 8 * (i % 17), &b);
+        a = t;
+    }
+    let n = 8 * (s.len() % 17);
+    hexio::print_line(&hash::shake::digest_32(hash::shake::finish(a, n)));
+}
+
+// A sharing of d shares, filled with the words of one seed and refreshed with those of another.
+fn refreshed(d: usize)
+    requires { ⌜ (d ≡ 2 ^ orderIndex d) × (d ≤ 32) ⌝ }
+{
+    let mut s = [0u64; 32768];
+    let m = d * 512;
+    let g = sharing::masks::fill(&mut s, sharing::masks::start(b"sharing"));
+    if ring::poly::all_below(&s, 549824583172097) {
+        let h = sharing::encoding::refresh_at(&mut s, m, d, sharing::masks::start(b"refresh"));
+        let e = m + m;
+        print_digest(&s[m..e]);
+    }
+}
+
+// Noise of u bits.
+fn noise(u: usize)
+    requires { ⌜ (1 ≤ u) × (u ≤ 48) ⌝ }
+{
+    let header = [117u8, 1, 2, 3, 0, 0, 0, 0];
+    let p = sharing::noise::sample_u(&header, b"sixteen bytes...", u);
+    print_digest(&p);
+}
+
+fn main() {
+    refreshed(1);
+    refreshed(2);
+    refreshed(4);
+    refreshed(8);
+    refreshed(16);
+    refreshed(32);
+    noise(4);
+    noise(5);
+    noise(6);
+    noise(7);
+    noise(39);
+    noise(40);
+    noise(41);
+}
