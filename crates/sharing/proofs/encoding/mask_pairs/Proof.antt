@@ -1,13 +1,8 @@
 use mathlib.Core.Path.{_≡_, refl, sym, ap, _∙_}
-use mathlib.Core.List.{List, _++_, append-nil}
-use Prim.Native.Nat.{ℕ, _+_, _-_, _*_, _/_, _^_, _≤_, _<_}
+use Prim.Native.Nat.{_-_, _≤_, _<_}
 use native.Mathlib.Omega.{arith}
-use lib.ListN.{length, take, drop, replicate, getD, set, length-set, length-append}
-use Rattle.ring.specs.Words.{q, addW, subW, Below, Words}
-use Rattle.sharing.specs.Blocks.{zeros, block, build, sumOf, total}
-use Rattle.sharing.specs.Region.{sub, put, Wrote}
-use Rattle.sharing.proofs.Regions.{length-sub, below-sub, sub-words, put-back, block-sub, wrote-put, wrote-value, wrote-start, wrote-end}
-use Rattle.sharing.specs.Encoding.{pairs, later, polys}
+use lib.ListN.{length}
+use Rattle.sharing.specs.Encoding.{later}
 use Rattle.sharing.specs.Masks.{masks, maskWords, maskMoved}
 use Rattle.sharing.proofs.Totals.{later-none, later-more}
 use Rattle.sharing.proofs.Carry.{mask-low}
@@ -15,11 +10,6 @@ use Rattle.sharing.proofs.Pairs.{masked, masked-start, masked-words, ma
 use borrow.Author.Needs.{needs}
 use Rattle.sharing.proofs.encoding.mask_pairs.Statement.{statement}
 use Rattle.sharing.proofs.encoding.mask_pairs.Tie as tie
-use Rattle.sharing.proofs.encoding.mask_pairs.Reads as reads
-use Rattle.sharing.proofs.encoding.mask_pairs.Lts as lts
-use Rattle.sharing.proofs.masks.fill.Reads as fill-reads
-use Rattle.sharing.proofs.region.add_at.Reads as add-at-reads
-use Rattle.sharing.proofs.region.sub_at.Reads as sub-at-reads
 
 abbrev Inv-loop : tie.InvT-loop
 Inv-loop s₀ h x₀ p₀ j₀ s x p j = (j ≤ h) × (length p ≡ 512) × (s ≡ masked masks s₀ h x₀ j) × (x ≡ later masks j x₀)
@@ -29,17 +19,12 @@ abbrev μ-loop : tie.MeasureT-loop
 
 loop-holds : tie.Need-loop-holds Inv-loop μ-loop
 loop-holds c =
-    let a = c .before in
-    (search needs, refl, masked-start masks mask-low (a .args .s .now) (a .args .h) (a .args .g) (a .pre), sym (later-none masks (a .args .g)))
-
-slice-aggregate-fill : tie.Need-slice-aggregate-fill Inv-loop μ-loop
-slice-aggregate-fill c = search needs
-
-fill-requires : tie.Need-fill-requires Inv-loop μ-loop
-fill-requires c κs = search needs
-
-mul-add-at : tie.Need-mul-add-at Inv-loop μ-loop
-mul-add-at c = search needs
+    let a = c .before in (
+      search needs,
+      refl,
+      masked-start masks mask-low (a .args .s .now) (a .args .h) (a .args .g) (a .pre),
+      sym (later-none masks (a .args .g)),
+    )
 
 add-at-requires : tie.Need-add-at-requires Inv-loop μ-loop
 add-at-requires c κs =
@@ -48,17 +33,9 @@ add-at-requires c κs =
     let e = l .loop .inv .2 in
     let w = masked-words masks mask-low (a .args .s .now) (a .args .h) (a .args .g) (a .pre) (l .loop .j) in
     let n = ap length e ∙ w .long in
-    let p : c .before .before .before .fill .last .0 ≡ maskWords 512 (l .loop .x) = c .before .before .before .fill .ensures .0 ∙ ap (λ k. maskWords k (l .loop .x)) (l .loop .inv .1) in
+    let p : c .before .before .before .fill .last .0 ≡ maskWords 512 (l .loop .x) = c .before .before .before .fill .ensures .0
+    ∙ ap (λ k. maskWords k (l .loop .x)) (l .loop .inv .1) in
     (omega arith, rw e (w .low), rw p (mask-low (l .loop .x) .low))
-
-mul-sub-at : tie.Need-mul-sub-at Inv-loop μ-loop
-mul-sub-at c = search needs
-
-mul-sub-at-2 : tie.Need-mul-sub-at-2 Inv-loop μ-loop
-mul-sub-at-2 c = search needs
-
-add-sub-at : tie.Need-add-sub-at Inv-loop μ-loop
-add-sub-at c = search needs
 
 sub-at-requires : tie.Need-sub-at-requires Inv-loop μ-loop
 sub-at-requires c κs =
@@ -69,61 +46,52 @@ sub-at-requires c κs =
     let h = a .args .h in
     let lt : j < h = c .before .before .before .before .before .before .before .before .before .before .loop-test .taken in
     let p : f .last .0 ≡ maskWords 512 (l .loop .x) = f .ensures .0 ∙ ap (λ k. maskWords k (l .loop .x)) (l .loop .inv .1) in
-    let w = masked-mid masks mask-low (a .args .s .now) h (a .args .g) (a .pre) j lt (l .loop .s) (f .last .0) (c .before .before .before .before .add-at .last .0) (l .loop .inv .2) (p ∙ ap (maskWords 512) (l .loop .inv .3)) (c .before .before .before .before .add-at .ensures) in
+    let w = masked-mid masks mask-low (a .args .s .now) h (a .args .g) (a .pre) j lt (l .loop .s) (f .last .0)
+    (c .before .before .before .before .add-at .last .0) (l .loop .inv .2) (p ∙ ap (maskWords 512) (l .loop .inv .3))
+    (c .before .before .before .before .add-at .ensures) in
     let n = w .long in
     (omega arith, w .low, rw p (mask-low (l .loop .x) .low))
-
-add-j : tie.Need-add-j Inv-loop μ-loop
-add-j c = search needs
-
-loop-less : tie.Need-loop-less Inv-loop μ-loop
-loop-less c = search needs
 
 loop-again : tie.Need-loop-again Inv-loop μ-loop
 loop-again c =
     let f = c .before .before .before .before .before .before .before .before .before .before .before .fill in
     let l = c .before .before .before .before .before .before .before .before .before .before .before .before .before .before in
-    let a = c .before .before .before .before .before .before .before .before .before .before .before .before .before .before .before .before in
+    let a =
+    c .before .before .before .before .before .before .before .before .before .before .before .before .before .before .before .before in
     let x = l .loop .x in
     let j = l .loop .j in
-    let lt : j < a .args .h = c .before .before .before .before .before .before .before .before .before .before .before .before .before .loop-test .taken in
-    let p : f .last .0 ≡ maskWords 512 (later masks j (a .args .g)) = f .ensures .0 ∙ ap (λ k. maskWords k x) (l .loop .inv .1) ∙ ap (maskWords 512) (l .loop .inv .3) in (
+    let lt : j < a .args .h =
+    c .before .before .before .before .before .before .before .before .before .before .before .before .before .loop-test .taken in
+    let p : f .last .0 ≡ maskWords 512 (later masks j (a .args .g)) = f .ensures .0 ∙ ap (λ k. maskWords k x) (l .loop .inv .1)
+    ∙ ap (maskWords 512) (l .loop .inv .3) in (
       omega arith,
       ap length p ∙ mask-low (later masks j (a .args .g)) .long,
-      masked-turn masks mask-low (a .args .s .now) (a .args .h) (a .args .g) (a .pre) j lt (l .loop .s) (f .last .0) (c .before .before .before .before .before .before .before .add-at .last .0) (l .loop .inv .2) p (c .before .before .before .before .before .before .before .add-at .ensures) (c .before .before .sub-at .last .0) (c .before .before .sub-at .ensures),
-      f .ensures .1 ∙ ap (λ k. maskMoved k x) (l .loop .inv .1) ∙ ap (maskMoved 512) (l .loop .inv .3) ∙ sym (later-more masks j (a .args .g)),
+      masked-turn masks mask-low (a .args .s .now) (a .args .h) (a .args .g) (a .pre) j lt (l .loop .s) (f .last .0)
+          (c .before .before .before .before .before .before .before .add-at .last .0) (l .loop .inv .2) p
+          (c .before .before .before .before .before .before .before .add-at .ensures) (c .before .before .sub-at .last .0)
+          (c .before .before .sub-at .ensures),
+      f .ensures .1 ∙ ap (λ k. maskMoved k x) (l .loop .inv .1) ∙ ap (maskMoved 512) (l .loop .inv .3)
+          ∙ sym (later-more masks j (a .args .g)),
     )
 
 same-length : tie.Need-same-length Inv-loop μ-loop
 same-length c =
     let l = c .before in
     let a = c .before .before .before in
-    ap length (l .loop .inv .2) ∙ masked-words masks mask-low (a .args .s .now) (a .args .h) (a .args .g) (a .pre) (l .loop .j) .long ∙ sym (a .pre .long)
+    ap length (l .loop .inv .2) ∙ masked-words masks mask-low (a .args .s .now) (a .args .h) (a .args .g) (a .pre) (l .loop .j) .long
+    ∙ sym (a .pre .long)
 
 returns : tie.Need-returns Inv-loop μ-loop
 returns c =
     let l = c .before in
     let a = c .before .before .before in
-    let e : l .loop .j ≡ a .args .h = omega arith in
-    (l .loop .inv .2 ∙ ap (masked masks (a .args .s .now) (a .args .h) (a .args .g)) e, l .loop .inv .3 ∙ ap (λ n. later masks n (a .args .g)) e)
+    let e : l .loop .j ≡ a .args .h = omega arith in (
+      l .loop .inv .2 ∙ ap (masked masks (a .args .s .now) (a .args .h) (a .args .g)) e,
+      l .loop .inv .3 ∙ ap (λ n. later masks n (a .args .g)) e,
+    )
 
 pub mask-pairs-spec : {M : Type 1} → statement M
 mask-pairs-spec =
-    tie.close
-    (tie.spec
-    Inv-loop
-    μ-loop
-    loop-holds
-    slice-aggregate-fill
-    fill-requires
-    mul-add-at
-    add-at-requires
-    mul-sub-at
-    mul-sub-at-2
-    add-sub-at
-    sub-at-requires
-    add-j
-    loop-less
-    loop-again
-    same-length
-    returns)
+    tie.close (tie.spec Inv-loop μ-loop loop-holds (λ c. search needs) (λ c κs. search needs) (λ c. search needs)
+    add-at-requires (λ c. search needs) (λ c. search needs) (λ c. search needs) sub-at-requires (λ c. search needs)
+    (λ c. search needs) loop-again same-length returns)

@@ -1,27 +1,21 @@
-use mathlib.Core.Path.{_≡_, refl, sym, ap, _∙_}
-use mathlib.Core.List.{List, _++_, append-nil}
-use Prim.Native.Nat.{ℕ, _+_, _-_, _*_, _/_, _^_, _≤_, _<_}
+use mathlib.Core.Path.{_≡_, sym, ap, _∙_}
+use Prim.Native.Nat.{_-_, _*_, _≤_}
 use native.Mathlib.Omega.{arith}
-use lib.ListN.{length, take, drop, replicate, getD, set, length-set, length-append}
-use Rattle.ring.specs.Words.{q, addW, subW, Below, Words}
-use Rattle.sharing.specs.Blocks.{zeros, block, build, sumOf, total}
-use Rattle.sharing.specs.Region.{sub, put, Wrote}
-use Rattle.sharing.proofs.Regions.{length-sub, below-sub, sub-words, put-back, block-sub, wrote-put, wrote-value, wrote-start, wrote-end}
-use Rattle.sharing.specs.Encoding.{skip, zeroNo, addRep, addNoise, zeroVector, refreshed}
+use Rattle.sharing.specs.Blocks.{build}
+use Rattle.sharing.specs.Region.{sub, Wrote}
+use Rattle.sharing.proofs.Regions.{wrote-start}
+use Rattle.sharing.specs.Encoding.{skip}
 use Rattle.sharing.specs.Masks.{masks}
 use Rattle.sharing.proofs.Lists.{inside}
-use Rattle.sharing.proofs.Regions.{wrote-wide}
-use Rattle.sharing.proofs.Totals.{skip-none, skip-next, zero-first, skip-first, zeroNo-words}
+use Rattle.sharing.proofs.Totals.{skip-none, skip-next}
 use Rattle.sharing.proofs.Turns.{renewed, refresh-turn, refresh-end}
 use borrow.Author.Needs.{needs}
 use Rattle.sharing.proofs.encoding.refresh_vector.Statement.{statement}
 use Rattle.sharing.proofs.encoding.refresh_vector.Tie as tie
-use Rattle.sharing.proofs.encoding.refresh_vector.Reads as reads
-use Rattle.sharing.proofs.encoding.refresh_vector.Lts as lts
-use Rattle.sharing.proofs.encoding.refresh_at.Reads as refresh-at-reads
 
 abbrev Inv-loop : tie.InvT-loop
-Inv-loop s₀ at m d x₀ i₀ s x i = (i ≤ m) × Wrote (d * 512) at (i * (d * 512)) (build i (renewed masks d x₀ (sub s₀ at (m * (d * 512))))) s₀ s × (x ≡ skip masks d i x₀)
+Inv-loop s₀ at m d x₀ i₀ s x i =
+    (i ≤ m) × Wrote (d * 512) at (i * (d * 512)) (build i (renewed masks d x₀ (sub s₀ at (m * (d * 512))))) s₀ s × (x ≡ skip masks d i x₀)
 
 abbrev μ-loop : tie.MeasureT-loop
 μ-loop s₀ at m d x₀ i₀ s x i = m - i
@@ -30,30 +24,32 @@ loop-holds : tie.Need-loop-holds Inv-loop μ-loop
 loop-holds c =
     let a = c .before in
     let d = a .args .d in
-    let s = a .args .s .now in
-    (search needs, wrote-start (d * 512) (renewed masks d (a .args .g) (sub s (a .args .at) (a .args .m * (d * 512)))) (d * 512) (a .args .at) s (a .pre .1 .2), sym (skip-none masks d (a .args .g)))
+    let s = a .args .s .now in (
+      search needs,
+      wrote-start (d * 512) (renewed masks d (a .args .g) (sub s (a .args .at) (a .args .m * (d * 512)))) (d * 512)
+          (a .args .at) s (a .pre .1 .2),
+      sym (skip-none masks d (a .args .g)),
+    )
 
 mul-a : tie.Need-mul-a Inv-loop μ-loop
-mul-a c = omega (arith, inside (c .before .loop .i) (c .before .before .before .args .m) (c .before .before .before .args .d * 512) (omega arith))
+mul-a c =
+    omega (arith, inside (c .before .loop .i) (c .before .before .before .args .m) (c .before .before .before .args .d * 512) (omega arith))
 
 mul-a-2 : tie.Need-mul-a-2 Inv-loop μ-loop
-mul-a-2 c = omega (arith, inside (c .before .loop .i) (c .before .before .before .args .m) (c .before .before .before .args .d * 512) (omega arith))
+mul-a-2 c =
+    omega (arith, inside (c .before .loop .i) (c .before .before .before .args .m) (c .before .before .before .args .d * 512) (omega arith))
 
 add-a : tie.Need-add-a Inv-loop μ-loop
-add-a c = omega (arith, inside (c .before .loop .i) (c .before .before .before .args .m) (c .before .before .before .args .d * 512) (omega arith))
+add-a c =
+    omega (arith, inside (c .before .loop .i) (c .before .before .before .args .m) (c .before .before .before .args .d * 512) (omega arith))
 
 refresh-at-requires : tie.Need-refresh-at-requires Inv-loop μ-loop
 refresh-at-requires c κs =
     let u = c .before .before .loop .inv .1 in
-    let h = inside (c .before .before .loop .i) (c .before .before .before .before .args .m) (c .before .before .before .before .args .d * 512) (omega arith) in
+    let h = inside (c .before .before .loop .i) (c .before .before .before .before .args .m)
+    (c .before .before .before .before .args .d * 512) (omega arith) in
     let n = u .long in
     (c .before .before .before .before .pre .0, (omega arith, omega arith, u .low))
-
-add-i : tie.Need-add-i Inv-loop μ-loop
-add-i c = search needs
-
-loop-less : tie.Need-loop-less Inv-loop μ-loop
-loop-less c = search needs
 
 loop-again : tie.Need-loop-again Inv-loop μ-loop
 loop-again c =
@@ -61,11 +57,12 @@ loop-again c =
     let a = c .before .before .before .before .before .before .before in
     let d = a .args .d in
     let g = a .args .g in
-    let z = c .before .before .refresh-at .ensures in
-    (omega arith, refresh-turn masks d (d * 512) (a .args .m) (a .args .at) (l .i) g (l .x) (a .args .s .now) (l .s) (a .pre .1 .0) _ (omega arith) (l .inv .2) (l .inv .1) (z .0), skip-next masks d (l .i) g (l .x) _ (l .inv .2) (z .1))
-
-same-length : tie.Need-same-length Inv-loop μ-loop
-same-length c = search needs
+    let z = c .before .before .refresh-at .ensures in (
+      omega arith,
+      refresh-turn masks d (d * 512) (a .args .m) (a .args .at) (l .i) g (l .x) (a .args .s .now) (l .s) (a .pre .1 .0) _
+          (omega arith) (l .inv .2) (l .inv .1) (z .0),
+      skip-next masks d (l .i) g (l .x) _ (l .inv .2) (z .1),
+    )
 
 returns : tie.Need-returns Inv-loop μ-loop
 returns c =
@@ -73,22 +70,12 @@ returns c =
     let a = c .before .before .before in
     let d = a .args .d in
     let g = a .args .g in
-    let e : l .i ≡ a .args .m = omega arith in
-    (refresh-end masks d (d * 512) (a .args .m) (a .args .at) (l .i) g (l .x) (a .args .s .now) (l .s) (a .pre .1 .0) e (l .inv .1), l .inv .2 ∙ ap (λ n. skip masks d n g) e)
+    let e : l .i ≡ a .args .m = omega arith in (
+      refresh-end masks d (d * 512) (a .args .m) (a .args .at) (l .i) g (l .x) (a .args .s .now) (l .s) (a .pre .1 .0) e (l .inv .1),
+      l .inv .2 ∙ ap (λ n. skip masks d n g) e,
+    )
 
 pub refresh-vector-spec : {M : Type 1} → statement M
 refresh-vector-spec =
-    tie.close
-    (tie.spec
-    Inv-loop
-    μ-loop
-    loop-holds
-    mul-a
-    mul-a-2
-    add-a
-    refresh-at-requires
-    add-i
-    loop-less
-    loop-again
-    same-length
-    returns)
+    tie.close (tie.spec Inv-loop μ-loop loop-holds mul-a mul-a-2 add-a refresh-at-requires (λ c. search needs)
+    (λ c. search needs) loop-again (λ c. search needs) returns)

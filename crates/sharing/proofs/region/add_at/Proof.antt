@@ -1,33 +1,13 @@
-use mathlib.Core.Path.{_≡_, refl, sym, ap, _∙_}
-use mathlib.Core.List.{List, _++_, append-nil}
-use Prim.Native.Nat.{ℕ, _+_, _-_, _*_, _/_, _^_, _≤_, _<_}
+use mathlib.Core.Path.{_≡_}
+use Prim.Native.Nat.{_+_, _-_}
 use native.Mathlib.Omega.{arith}
-use lib.ListN.{length, take, drop, replicate, getD, set, length-set, length-append}
-use Rattle.ring.specs.Words.{q, addW, subW, Below, Words}
-use Rattle.sharing.specs.Blocks.{zeros, block, build, sumOf, total}
-use Rattle.sharing.specs.Region.{sub, put, Wrote}
-use Rattle.sharing.proofs.Regions.{length-sub, below-sub, sub-words, put-back, block-sub, wrote-put, wrote-value, wrote-start, wrote-end}
+use lib.ListN.{length}
+use Rattle.ring.specs.Words.{addW}
+use Rattle.sharing.specs.Region.{sub}
+use Rattle.sharing.proofs.Regions.{length-sub, below-sub, put-back}
 use borrow.Author.Needs.{needs}
 use Rattle.sharing.proofs.region.add_at.Statement.{statement}
 use Rattle.sharing.proofs.region.add_at.Tie as tie
-use Rattle.sharing.proofs.region.add_at.Reads as reads
-use Rattle.sharing.proofs.region.add_at.Lts as lts
-use Rattle.ring.proofs.poly.add_into.Reads as add-into-reads
-
-add-e : tie.Need-add-e
-add-e c = search needs
-
-mul-add-into : tie.Need-mul-add-into
-mul-add-into c = search needs
-
-sub-add-into : tie.Need-sub-add-into
-sub-add-into c = search needs
-
-part-add-into-start : tie.Need-part-add-into-start
-part-add-into-start c = search needs
-
-part-add-into-end : tie.Need-part-add-into-end
-part-add-into-end c = search needs
 
 add-into-requires : tie.Need-add-into-requires
 add-into-requires c κs =
@@ -38,27 +18,17 @@ add-into-requires c κs =
     let m : length (a .args .p .now) ≡ 512 = search needs in
     rw k (omega arith, below-sub (a .args .s .now) at 512 (a .pre .1), a .pre .2)
 
-same-length : tie.Need-same-length
-same-length c = search needs
-
 returns : tie.Need-returns
 returns c =
     let a = c .before .before .before .before .before .before in
     let at = a .args .at in
     let xs = a .args .s .now in
     let k : at + 512 - at ≡ 512 = omega arith in
-    let e : c .before .before .add-into .last .0 ≡ addW (sub xs at 512) (a .args .p .now) = rw k at (c .before .before .add-into .ensures .0) in
+    let e : c .before .before .add-into .last .0 ≡ addW (sub xs at 512) (a .args .p .now) = rw k at
+    (c .before .before .add-into .ensures .0) in
     put-back xs at k e
 
 pub add-at-spec : {M : Type 1} → statement M
 add-at-spec =
-    tie.close
-    (tie.spec
-    add-e
-    mul-add-into
-    sub-add-into
-    part-add-into-start
-    part-add-into-end
-    add-into-requires
-    same-length
-    returns)
+    tie.close (tie.spec (λ c. search needs) (λ c. search needs) (λ c. search needs) (λ c. search needs)
+    (λ c. search needs) add-into-requires (λ c. search needs) returns)

@@ -1,19 +1,14 @@
-use mathlib.Core.Path.{_≡_, refl, sym, ap, _∙_}
-use mathlib.Core.List.{List, _++_, append-nil}
-use Prim.Native.Nat.{ℕ, _+_, _-_, _*_, _/_, _^_, _≤_, _<_}
+use mathlib.Core.Path.{_≡_, refl, ap, _∙_}
+use mathlib.Core.List.{_++_, append-nil}
+use Prim.Native.Nat.{_-_, _≤_}
 use native.Mathlib.Omega.{arith}
-use lib.ListN.{length, take, drop, replicate, getD, set, length-set, length-append}
-use Rattle.ring.specs.Words.{q, addW, subW, Below, Words}
-use Rattle.sharing.specs.Blocks.{zeros, block, build, sumOf, total}
-use Rattle.sharing.specs.Region.{sub, put, Wrote}
-use Rattle.sharing.proofs.Regions.{length-sub, below-sub, sub-words, put-back, block-sub, wrote-put, wrote-value, wrote-start, wrote-end}
+use lib.ListN.{length, drop, replicate, set, length-set}
+use Rattle.sharing.specs.Blocks.{zeros}
 use lib.Seq.{drop-length}
 use borrow.Author.Fill.{fill-more}
 use borrow.Author.Needs.{needs}
 use Rattle.sharing.proofs.region.clear.Statement.{statement}
 use Rattle.sharing.proofs.region.clear.Tie as tie
-use Rattle.sharing.proofs.region.clear.Reads as reads
-use Rattle.sharing.proofs.region.clear.Lts as lts
 
 abbrev Inv-loop : tie.InvT-loop
 Inv-loop s₀ i₀ i-end s i = (i ≤ i-end) × (i-end ≡ length s₀) × (length s ≡ length s₀) × (s ≡ replicate i 0 ++ drop i s₀)
@@ -24,25 +19,15 @@ abbrev μ-loop : tie.MeasureT-loop
 loop-holds : tie.Need-loop-holds Inv-loop μ-loop
 loop-holds c = (search needs, refl, refl, refl)
 
-mul-s : tie.Need-mul-s Inv-loop μ-loop
-mul-s c = search needs
-
-slice-write-s : tie.Need-slice-write-s Inv-loop μ-loop
-slice-write-s c = search needs
-
-add-i : tie.Need-add-i Inv-loop μ-loop
-add-i c = search needs
-
-loop-less : tie.Need-loop-less Inv-loop μ-loop
-loop-less c = search needs
-
 loop-again : tie.Need-loop-again Inv-loop μ-loop
 loop-again c =
-    let l = c .before in
-    (search needs, refl, simp length-set (omega arith), ap (λ s. set s (l .loop .i) 0) (l .loop .inv .3) ∙ fill-more (l .loop .i) 0 (l .before .args .s .now) (search needs))
-
-same-length : tie.Need-same-length Inv-loop μ-loop
-same-length c = search needs
+    let l = c .before in (
+      search needs,
+      refl,
+      simp length-set (omega arith),
+      ap (λ s. set s (l .loop .i) 0) (l .loop .inv .3)
+          ∙ fill-more (l .loop .i) 0 (l .before .args .s .now) (search needs),
+    )
 
 returns : tie.Need-returns Inv-loop μ-loop
 unfolding zeros
@@ -50,19 +35,10 @@ returns c =
     let l = c .before in
     let a = l .before in
     let e : l .loop .i ≡ length (a .args .s .now) = omega arith in
-    l .loop .inv .3 ∙ ap (λ k. replicate k 0 ++ drop k (a .args .s .now)) e ∙ ap (λ t. replicate (length (a .args .s .now)) 0 ++ t) (drop-length (a .args .s .now)) ∙ append-nil _
+    l .loop .inv .3 ∙ ap (λ k. replicate k 0 ++ drop k (a .args .s .now)) e
+    ∙ ap (λ t. replicate (length (a .args .s .now)) 0 ++ t) (drop-length (a .args .s .now)) ∙ append-nil _
 
 pub clear-spec : {M : Type 1} → statement M
 clear-spec =
-    tie.close
-    (tie.spec
-    Inv-loop
-    μ-loop
-    loop-holds
-    mul-s
-    slice-write-s
-    add-i
-    loop-less
-    loop-again
-    same-length
-    returns)
+    tie.close (tie.spec Inv-loop μ-loop loop-holds (λ c. search needs) (λ c. search needs) (λ c. search needs)
+    (λ c. search needs) loop-again (λ c. search needs) returns)

@@ -1,39 +1,11 @@
-use mathlib.Core.Path.{_≡_, refl, sym, ap, _∙_}
-use mathlib.Core.List.{List, _++_, append-nil}
-use Prim.Native.Nat.{ℕ, _+_, _-_, _*_, _/_, _^_, _≤_, _<_}
+use mathlib.Core.Path.{_≡_}
+use Prim.Native.Nat.{_+_, _-_}
 use native.Mathlib.Omega.{arith}
-use lib.ListN.{length, take, drop, replicate, getD, set, length-set, length-append}
-use Rattle.ring.specs.Words.{q, addW, subW, Below, Words}
-use Rattle.sharing.specs.Blocks.{zeros, block, build, sumOf, total}
-use Rattle.sharing.specs.Region.{sub, put, Wrote}
-use Rattle.sharing.proofs.Regions.{length-sub, below-sub, sub-words, put-back, block-sub, wrote-put, wrote-value, wrote-start, wrote-end}
+use Rattle.sharing.specs.Region.{sub}
+use Rattle.sharing.proofs.Regions.{sub-words}
 use borrow.Author.Needs.{needs}
 use Rattle.sharing.proofs.region.load.Statement.{statement}
 use Rattle.sharing.proofs.region.load.Tie as tie
-use Rattle.sharing.proofs.region.load.Reads as reads
-use Rattle.sharing.proofs.region.load.Lts as lts
-use Rattle.sharing.proofs.region.copy.Reads as copy-reads
-
-add-e : tie.Need-add-e
-add-e c = search needs
-
-slice-aggregate-copy : tie.Need-slice-aggregate-copy
-slice-aggregate-copy c = search needs
-
-mul-copy : tie.Need-mul-copy
-mul-copy c = search needs
-
-sub-copy : tie.Need-sub-copy
-sub-copy c = search needs
-
-part-copy-start : tie.Need-part-copy-start
-part-copy-start c = search needs
-
-part-copy-end : tie.Need-part-copy-end
-part-copy-end c = search needs
-
-copy-requires : tie.Need-copy-requires
-copy-requires c κs = search needs
 
 returns : tie.Need-returns
 returns c =
@@ -46,13 +18,5 @@ returns c =
 
 pub load-spec : {M : Type 1} → statement M
 load-spec =
-    tie.close
-    (tie.spec
-    add-e
-    slice-aggregate-copy
-    mul-copy
-    sub-copy
-    part-copy-start
-    part-copy-end
-    copy-requires
-    returns)
+    tie.close (tie.spec (λ c. search needs) (λ c. search needs) (λ c. search needs) (λ c. search needs)
+    (λ c. search needs) (λ c. search needs) (λ c κs. search needs) returns)

@@ -1,29 +1,22 @@
-use mathlib.Core.Path.{_≡_, refl, sym, ap, _∙_}
-use mathlib.Core.List.{List, _++_, append-nil}
-use Prim.Native.Nat.{ℕ, _+_, _-_, _*_, _/_, _^_, _≤_, _<_}
+use mathlib.Core.Path.{_≡_, sym, ap, _∙_}
+use Prim.Native.Nat.{_-_, _*_, _≤_}
 use native.Mathlib.Omega.{arith}
-use lib.ListN.{length, take, drop, replicate, getD, set, length-set, length-append}
-use Rattle.ring.specs.Words.{q, addW, subW, Below, Words}
-use Rattle.sharing.specs.Blocks.{zeros, block, build, sumOf, total}
-use Rattle.sharing.specs.Region.{sub, put, Wrote}
-use Rattle.sharing.proofs.Regions.{length-sub, below-sub, sub-words, put-back, block-sub, wrote-put, wrote-value, wrote-start, wrote-end}
-use Rattle.sharing.specs.Encoding.{skip, zeroNo, addRep, addNoise, zeroVector, refreshed}
+use Rattle.sharing.specs.Region.{sub, Wrote}
+use Rattle.sharing.proofs.Regions.{wrote-value}
+use Rattle.sharing.specs.Encoding.{skip, addRep}
 use Rattle.sharing.specs.Masks.{masks}
-use Rattle.sharing.proofs.Lists.{inside}
 use Rattle.sharing.proofs.Regions.{wrote-wide}
-use Rattle.sharing.proofs.Totals.{skip-none, skip-next, zero-first, skip-first, zeroNo-words}
+use Rattle.sharing.proofs.Totals.{skip-none, skip-next}
 use Rattle.sharing.specs.Noise.{seedNoise}
 use Rattle.sharing.proofs.Turns.{rep-start, rep-turn}
 use borrow.Author.Needs.{needs}
 use Rattle.sharing.proofs.repeat.add_rep_noise_at.Statement.{statement}
 use Rattle.sharing.proofs.repeat.add_rep_noise_at.Tie as tie
-use Rattle.sharing.proofs.repeat.add_rep_noise_at.Reads as reads
-use Rattle.sharing.proofs.repeat.add_rep_noise_at.Lts as lts
-use Rattle.sharing.proofs.encoding.refresh_at.Reads as refresh-at-reads
-use Rattle.sharing.proofs.repeat.add_samples_at.Reads as add-samples-at-reads
 
 abbrev Inv-loop : tie.InvT-loop
-Inv-loop s₀ at d rep u i seeds n x₀ t₀ s x t = (t ≤ rep) × Wrote (d * 512) at (d * 512) (addRep masks d x₀ t (seedNoise d rep u n seeds i) (sub s₀ at (d * 512))) s₀ s × (x ≡ skip masks d t x₀)
+Inv-loop s₀ at d rep u i seeds n x₀ t₀ s x t =
+    (t ≤ rep) × Wrote (d * 512) at (d * 512) (addRep masks d x₀ t (seedNoise d rep u n seeds i) (sub s₀ at (d * 512))) s₀ s
+    × (x ≡ skip masks d t x₀)
 
 abbrev μ-loop : tie.MeasureT-loop
 μ-loop s₀ at d rep u i seeds n x₀ t₀ s x t = rep - t
@@ -31,8 +24,12 @@ abbrev μ-loop : tie.MeasureT-loop
 loop-holds : tie.Need-loop-holds Inv-loop μ-loop
 loop-holds c =
     let a = c .before .before in
-    let b = a .args in
-    (search needs, rep-start masks (b .d) (b .g) (b .d * 512) (b .at) (seedNoise (b .d) (b .rep) (b .u) (b .n) (b .seeds .now) (b .i)) (b .s .now) (a .pre .1 .0 .2), sym (skip-none masks (b .d) (b .g)))
+    let b = a .args in (
+      search needs,
+      rep-start masks (b .d) (b .g) (b .d * 512) (b .at) (seedNoise (b .d) (b .rep) (b .u) (b .n) (b .seeds .now) (b .i))
+          (b .s .now) (a .pre .1 .0 .2),
+      sym (skip-none masks (b .d) (b .g)),
+    )
 
 add-samples-at-requires : tie.Need-add-samples-at-requires Inv-loop μ-loop
 add-samples-at-requires c κs =
@@ -49,40 +46,29 @@ refresh-at-requires c κs =
     let n = v .long ∙ c .before .before .before .before .before .before .loop .inv .1 .long in
     (a .pre .0, (a .pre .1 .0 .0, omega arith, v .low))
 
-add-t : tie.Need-add-t Inv-loop μ-loop
-add-t c = search needs
-
-loop-less : tie.Need-loop-less Inv-loop μ-loop
-loop-less c = search needs
-
 loop-again : tie.Need-loop-again Inv-loop μ-loop
 loop-again c =
     let l = c .before .before .before .before .before .before .before .before .before .loop in
     let b = c .before .before .before .before .before .before .before .before .before .before .before .before .args in
-    let w = c .before .before .refresh-at .ensures in
-    (omega arith, rep-turn masks (b .d) (b .g) (l .x) (b .d * 512) (b .at) (l .t) (seedNoise (b .d) (b .rep) (b .u) (b .n) (b .seeds .now) (b .i)) (b .s .now) (l .s) _ _ (l .inv .2) (l .inv .1) (wrote-wide (omega arith) (c .before .before .before .before .before .before .add-samples-at .ensures)) (w .0), skip-next masks (b .d) (l .t) (b .g) (l .x) _ (l .inv .2) (w .1))
-
-same-length : tie.Need-same-length Inv-loop μ-loop
-same-length c = search needs
+    let w = c .before .before .refresh-at .ensures in (
+      omega arith,
+      rep-turn masks (b .d) (b .g) (l .x) (b .d * 512) (b .at) (l .t)
+          (seedNoise (b .d) (b .rep) (b .u) (b .n) (b .seeds .now) (b .i)) (b .s .now) (l .s) _ _ (l .inv .2) (l .inv .1)
+          (wrote-wide (omega arith) (c .before .before .before .before .before .before .add-samples-at .ensures)) (w .0),
+      skip-next masks (b .d) (l .t) (b .g) (l .x) _ (l .inv .2) (w .1),
+    )
 
 returns : tie.Need-returns Inv-loop μ-loop
 returns c =
     let l = c .before .loop in
     let b = c .before .before .before .before .args in
-    let e : l .t ≡ b .rep = omega arith in
-    (wrote-value (ap (λ k. addRep masks (b .d) (b .g) k (seedNoise (b .d) (b .rep) (b .u) (b .n) (b .seeds .now) (b .i)) (sub (b .s .now) (b .at) (b .d * 512))) e) (l .inv .1), l .inv .2 ∙ ap (λ k. skip masks (b .d) k (b .g)) e)
+    let e : l .t ≡ b .rep = omega arith in (
+      wrote-value (ap (λ k. addRep masks (b .d) (b .g) k (seedNoise (b .d) (b .rep) (b .u) (b .n) (b .seeds .now) (b .i))
+          (sub (b .s .now) (b .at) (b .d * 512))) e) (l .inv .1),
+      l .inv .2 ∙ ap (λ k. skip masks (b .d) k (b .g)) e,
+    )
 
 pub add-rep-noise-at-spec : {M : Type 1} → statement M
 add-rep-noise-at-spec =
-    tie.close
-    (tie.spec
-    Inv-loop
-    μ-loop
-    loop-holds
-    add-samples-at-requires
-    refresh-at-requires
-    add-t
-    loop-less
-    loop-again
-    same-length
-    returns)
+    tie.close (tie.spec Inv-loop μ-loop loop-holds add-samples-at-requires refresh-at-requires (λ c. search needs)
+    (λ c. search needs) loop-again (λ c. search needs) returns)

@@ -1,37 +1,29 @@
-use mathlib.Core.Path.{_≡_, refl, sym, ap, _∙_}
-use mathlib.Core.List.{List, _++_, append-nil}
-use Prim.Native.Nat.{ℕ, _+_, _-_, _*_, _/_, _^_, _≤_, _<_}
+use Prim.Native.Nat.{_-_, _*_, _≤_}
 use native.Mathlib.Omega.{arith}
-use lib.ListN.{length, take, drop, replicate, getD, set, length-set, length-append}
-use Rattle.ring.specs.Words.{q, addW, subW, Below, Words}
-use Rattle.sharing.specs.Blocks.{zeros, block, build, sumOf, total}
-use Rattle.sharing.specs.Region.{sub, put, Wrote}
-use Rattle.sharing.proofs.Regions.{length-sub, below-sub, sub-words, put-back, block-sub, wrote-put, wrote-value, wrote-start, wrote-end}
-use Rattle.sharing.specs.Encoding.{skip, zeroNo, addRep, addNoise, zeroVector, refreshed}
-use Rattle.sharing.specs.Masks.{masks}
-use Rattle.sharing.proofs.Lists.{inside}
-use Rattle.sharing.proofs.Regions.{wrote-wide}
-use Rattle.sharing.proofs.Totals.{skip-none, skip-next, zero-first, skip-first, zeroNo-words}
-use Rattle.sharing.specs.Noise.{seedNoise, noiseHeader, sampleU}
+use Rattle.sharing.specs.Blocks.{build}
+use Rattle.sharing.specs.Region.{sub, Wrote}
+use Rattle.sharing.proofs.Regions.{wrote-start}
+use Rattle.sharing.specs.Noise.{seedNoise, noiseHeader}
 use Rattle.sharing.proofs.Samples.{sampleU-words}
 use Rattle.sharing.proofs.Added.{added, added-turn, added-end, seeded, seed-inside, seed-small}
 use borrow.Author.Needs.{needs}
 use Rattle.sharing.proofs.repeat.add_samples_at.Statement.{statement}
 use Rattle.sharing.proofs.repeat.add_samples_at.Tie as tie
-use Rattle.sharing.proofs.repeat.add_samples_at.Reads as reads
-use Rattle.sharing.proofs.repeat.add_samples_at.Lts as lts
-use Rattle.sharing.proofs.repeat.add_sample_at.Reads as add-sample-at-reads
 
 abbrev Inv-loop : tie.InvT-loop
-Inv-loop s₀ at d rep u i t seeds n j₀ s j = (j ≤ d) × Wrote 0 at (j * 512) (build j (added (seeded d rep u n seeds i t) (sub s₀ at (d * 512)))) s₀ s
+Inv-loop s₀ at d rep u i t seeds n j₀ s j =
+    (j ≤ d) × Wrote 0 at (j * 512) (build j (added (seeded d rep u n seeds i t) (sub s₀ at (d * 512)))) s₀ s
 
 abbrev μ-loop : tie.MeasureT-loop
 μ-loop s₀ at d rep u i t seeds n j₀ s j = d - j
 
 loop-holds : tie.Need-loop-holds Inv-loop μ-loop
 loop-holds c =
-    let b = c .before .before .args in
-    (search needs, wrote-start 512 (added (seeded (b .d) (b .rep) (b .u) (b .n) (b .seeds .now) (b .i) (b .t)) (sub (b .s .now) (b .at) (b .d * 512))) 0 (b .at) (b .s .now) (c .before .before .pre .0 .1))
+    let b = c .before .before .args in (
+      search needs,
+      wrote-start 512 (added (seeded (b .d) (b .rep) (b .u) (b .n) (b .seeds .now) (b .i) (b .t))
+          (sub (b .s .now) (b .at) (b .d * 512))) 0 (b .at) (b .s .now) (c .before .before .pre .0 .1),
+    )
 
 mul-k : tie.Need-mul-k Inv-loop μ-loop
 mul-k c =
@@ -61,12 +53,6 @@ add-k-2 c =
     let h = seed-small (b .i) (b .rep) (b .d) (b .t) (c .before .loop .j) (p .0) (c .loop-test .taken) (p .2) (p .1) (p .3) in
     omega (arith, h .1)
 
-mul-add-sample-at : tie.Need-mul-add-sample-at Inv-loop μ-loop
-mul-add-sample-at c = search needs
-
-add-add-sample-at : tie.Need-add-add-sample-at Inv-loop μ-loop
-add-add-sample-at c = search needs
-
 add-sample-at-requires : tie.Need-add-sample-at-requires Inv-loop μ-loop
 add-sample-at-requires c κs =
     let b = c .before .before .before .before .before .args in
@@ -78,20 +64,14 @@ add-sample-at-requires c κs =
     let k = p .0 .2 in
     ((omega arith, v .low, omega arith), (omega arith, p .1 .2, omega arith, p .1 .4, p .1 .5))
 
-add-j : tie.Need-add-j Inv-loop μ-loop
-add-j c = search needs
-
-loop-less : tie.Need-loop-less Inv-loop μ-loop
-loop-less c = search needs
-
 loop-again : tie.Need-loop-again Inv-loop μ-loop
 loop-again c =
     let b = c .before .before .before .before .before .before .before .before .args in
-    let l = c .before .before .before .before .before .loop in
-    (search needs, added-turn (seeded (b .d) (b .rep) (b .u) (b .n) (b .seeds .now) (b .i) (b .t)) (b .d) (b .at) (l .j) (b .s .now) (l .s) (l .inv .1) _ (c .before .before .before .before .loop-test .taken) (c .before .before .add-sample-at .ensures))
-
-same-length : tie.Need-same-length Inv-loop μ-loop
-same-length c = search needs
+    let l = c .before .before .before .before .before .loop in (
+      search needs,
+      added-turn (seeded (b .d) (b .rep) (b .u) (b .n) (b .seeds .now) (b .i) (b .t)) (b .d) (b .at) (l .j) (b .s .now) (l .s)
+          (l .inv .1) _ (c .before .before .before .before .loop-test .taken) (c .before .before .add-sample-at .ensures),
+    )
 
 returns : tie.Need-returns Inv-loop μ-loop
 unfolding seedNoise
@@ -101,24 +81,10 @@ returns c =
     let l = c .before .loop in
     let f = seeded (b .d) (b .rep) (b .u) (b .n) (b .seeds .now) (b .i) (b .t) in
     let o = p .1 .5 in
-    added-end f (b .d) (b .at) (l .j) (b .s .now) (l .s) (l .inv .1) (λ j h. sampleU-words (noiseHeader (b .t) (b .i) j) _ (b .u) (omega arith) .long) (p .0 .0) (p .0 .1) (omega arith)
+    added-end f (b .d) (b .at) (l .j) (b .s .now) (l .s) (l .inv .1)
+    (λ j h. sampleU-words (noiseHeader (b .t) (b .i) j) _ (b .u) (omega arith) .long) (p .0 .0) (p .0 .1) (omega arith)
 
 pub add-samples-at-spec : {M : Type 1} → statement M
 add-samples-at-spec =
-    tie.close
-    (tie.spec
-    Inv-loop
-    μ-loop
-    loop-holds
-    mul-k
-    add-k
-    mul-k-2
-    add-k-2
-    mul-add-sample-at
-    add-add-sample-at
-    add-sample-at-requires
-    add-j
-    loop-less
-    loop-again
-    same-length
-    returns)
+    tie.close (tie.spec Inv-loop μ-loop loop-holds mul-k add-k mul-k-2 add-k-2 (λ c. search needs) (λ c. search needs)
+    add-sample-at-requires (λ c. search needs) (λ c. search needs) loop-again (λ c. search needs) returns)

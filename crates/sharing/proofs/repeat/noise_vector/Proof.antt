@@ -1,28 +1,23 @@
-use mathlib.Core.Path.{_≡_, refl, sym, ap, _∙_}
-use mathlib.Core.List.{List, _++_, append-nil}
-use Prim.Native.Nat.{ℕ, _+_, _-_, _*_, _/_, _^_, _≤_, _<_}
+use mathlib.Core.Path.{_≡_, ap, _∙_}
+use Prim.Native.Nat.{_-_, _*_, _≤_, _<_}
 use native.Mathlib.Omega.{arith}
-use lib.ListN.{length, take, drop, replicate, getD, set, length-set, length-append}
-use Rattle.ring.specs.Words.{q, addW, subW, Below, Words}
-use Rattle.sharing.specs.Blocks.{zeros, block, build, sumOf, total}
-use Rattle.sharing.specs.Region.{sub, put, Wrote}
-use Rattle.sharing.proofs.Regions.{length-sub, below-sub, sub-words, put-back, block-sub, wrote-put, wrote-value, wrote-start, wrote-end}
-use Rattle.sharing.specs.Encoding.{skip, zeroNo, addRep, addNoise, zeroVector, refreshed}
+use Rattle.sharing.specs.Blocks.{build}
+use Rattle.sharing.specs.Region.{sub, Wrote}
+use Rattle.sharing.proofs.Regions.{wrote-start}
+use Rattle.sharing.specs.Encoding.{skip}
 use Rattle.sharing.specs.Masks.{masks}
 use Rattle.sharing.proofs.Lists.{inside}
-use Rattle.sharing.proofs.Regions.{wrote-wide}
 use Rattle.sharing.specs.Noise.{seedNoise}
 use Rattle.sharing.proofs.Added.{skip-start, seeds-inside}
 use Rattle.sharing.proofs.Turns.{noised, noise-turn, noise-end, skip-turn}
 use borrow.Author.Needs.{needs}
 use Rattle.sharing.proofs.repeat.noise_vector.Statement.{statement}
 use Rattle.sharing.proofs.repeat.noise_vector.Tie as tie
-use Rattle.sharing.proofs.repeat.noise_vector.Reads as reads
-use Rattle.sharing.proofs.repeat.noise_vector.Lts as lts
-use Rattle.sharing.proofs.repeat.add_rep_noise_at.Reads as add-rep-noise-at-reads
 
 abbrev Inv-loop : tie.InvT-loop
-Inv-loop s₀ at m d rep u seeds n x₀ i₀ s x i = (i ≤ m) × Wrote (d * 512) at (i * (d * 512)) (build i (noised masks d x₀ rep (seedNoise d rep u n seeds) (sub s₀ at (m * (d * 512))))) s₀ s × (x ≡ skip masks d (i * rep) x₀)
+Inv-loop s₀ at m d rep u seeds n x₀ i₀ s x i =
+    (i ≤ m) × Wrote (d * 512) at (i * (d * 512)) (build i (noised masks d x₀ rep (seedNoise d rep u n seeds) (sub s₀ at (m * (d * 512)))))
+    s₀ s × (x ≡ skip masks d (i * rep) x₀)
 
 abbrev μ-loop : tie.MeasureT-loop
 μ-loop s₀ at m d rep u seeds n x₀ i₀ s x i = m - i
@@ -31,17 +26,36 @@ loop-holds : tie.Need-loop-holds Inv-loop μ-loop
 loop-holds c =
     let a = c .before .before in
     let b = a .args in
-    let d = b .d in
-    (search needs, wrote-start (d * 512) (noised masks d (b .g) (b .rep) (seedNoise d (b .rep) (b .u) (b .n) (b .seeds .now)) (sub (b .s .now) (b .at) (b .m * (d * 512)))) (d * 512) (b .at) (b .s .now) (a .pre .1 .0 .2), skip-start masks d (b .rep) (b .g))
+    let d = b .d in (
+      search needs,
+      wrote-start (d * 512) (noised masks d (b .g) (b .rep) (seedNoise d (b .rep) (b .u) (b .n) (b .seeds .now))
+          (sub (b .s .now) (b .at) (b .m * (d * 512)))) (d * 512) (b .at) (b .s .now) (a .pre .1 .0 .2),
+      skip-start masks d (b .rep) (b .g),
+    )
 
 mul-a : tie.Need-mul-a Inv-loop μ-loop
-mul-a c = omega (arith, inside (c .before .loop .i) (c .before .before .before .before .args .m) (c .before .before .before .before .args .d * 512) (omega arith))
+mul-a c =
+    omega (
+      arith,
+      inside (c .before .loop .i) (c .before .before .before .before .args .m)
+          (c .before .before .before .before .args .d * 512) (omega arith),
+    )
 
 mul-a-2 : tie.Need-mul-a-2 Inv-loop μ-loop
-mul-a-2 c = omega (arith, inside (c .before .loop .i) (c .before .before .before .before .args .m) (c .before .before .before .before .args .d * 512) (omega arith))
+mul-a-2 c =
+    omega (
+      arith,
+      inside (c .before .loop .i) (c .before .before .before .before .args .m)
+          (c .before .before .before .before .args .d * 512) (omega arith),
+    )
 
 add-a : tie.Need-add-a Inv-loop μ-loop
-add-a c = omega (arith, inside (c .before .loop .i) (c .before .before .before .before .args .m) (c .before .before .before .before .args .d * 512) (omega arith))
+add-a c =
+    omega (
+      arith,
+      inside (c .before .loop .i) (c .before .before .before .before .args .m)
+          (c .before .before .before .before .args .d * 512) (omega arith),
+    )
 
 add-rep-noise-at-requires : tie.Need-add-rep-noise-at-requires Inv-loop μ-loop
 add-rep-noise-at-requires c κs =
@@ -52,47 +66,39 @@ add-rep-noise-at-requires c κs =
     let t : l .i < b .m = c .before .loop-test .taken in
     let h = inside (l .i) (b .m) (b .d * 512) t in
     let k = seeds-inside (l .i) (b .rep) (b .d) (b .m) (b .n) t in
-    let n = v .long in
-    (c .before .before .before .before .before .pre .0, ((omega arith, omega arith, v .low, omega (arith, k, p .0 .3)), (p .1 .0, omega arith, p .1 .2, p .1 .3, p .1 .4)))
-
-add-i : tie.Need-add-i Inv-loop μ-loop
-add-i c = search needs
-
-loop-less : tie.Need-loop-less Inv-loop μ-loop
-loop-less c = search needs
+    let n = v .long in (
+      c .before .before .before .before .before .pre .0,
+      (
+        (omega arith, omega arith, v .low, omega (arith, k, p .0 .3)),
+        (p .1 .0, omega arith, p .1 .2, p .1 .3, p .1 .4),
+      ),
+    )
 
 loop-again : tie.Need-loop-again Inv-loop μ-loop
 loop-again c =
     let l = c .before .before .before .before .before .loop in
     let a = c .before .before .before .before .before .before .before .before in
     let b = a .args in
-    let z = c .before .before .add-rep-noise-at .ensures in
-    (omega arith, noise-turn masks (b .d) (b .d * 512) (b .m) (b .at) (l .i) (b .g) (l .x) (b .s .now) (l .s) (a .pre .1 .0 .0) (b .rep) (seedNoise (b .d) (b .rep) (b .u) (b .n) (b .seeds .now)) _ (c .before .before .before .before .loop-test .taken) (l .inv .2) (l .inv .1) (z .0), skip-turn masks (b .d) (l .i) (b .rep) (b .g) (l .x) _ (l .inv .2) (z .1))
-
-same-length : tie.Need-same-length Inv-loop μ-loop
-same-length c = search needs
+    let z = c .before .before .add-rep-noise-at .ensures in (
+      omega arith,
+      noise-turn masks (b .d) (b .d * 512) (b .m) (b .at) (l .i) (b .g) (l .x) (b .s .now) (l .s) (a .pre .1 .0 .0) (b .rep)
+          (seedNoise (b .d) (b .rep) (b .u) (b .n) (b .seeds .now)) _ (c .before .before .before .before .loop-test .taken) (l .inv .2)
+          (l .inv .1) (z .0),
+      skip-turn masks (b .d) (l .i) (b .rep) (b .g) (l .x) _ (l .inv .2) (z .1),
+    )
 
 returns : tie.Need-returns Inv-loop μ-loop
 returns c =
     let l = c .before .loop in
     let a = c .before .before .before .before in
     let b = a .args in
-    let e : l .i ≡ b .m = omega arith in
-    (noise-end masks (b .d) (b .d * 512) (b .m) (b .at) (l .i) (b .g) (l .x) (b .s .now) (l .s) (a .pre .1 .0 .0) e (b .rep) (seedNoise (b .d) (b .rep) (b .u) (b .n) (b .seeds .now)) (l .inv .1), l .inv .2 ∙ ap (λ k. skip masks (b .d) (k * b .rep) (b .g)) e)
+    let e : l .i ≡ b .m = omega arith in (
+      noise-end masks (b .d) (b .d * 512) (b .m) (b .at) (l .i) (b .g) (l .x) (b .s .now) (l .s) (a .pre .1 .0 .0) e (b .rep)
+          (seedNoise (b .d) (b .rep) (b .u) (b .n) (b .seeds .now)) (l .inv .1),
+      l .inv .2 ∙ ap (λ k. skip masks (b .d) (k * b .rep) (b .g)) e,
+    )
 
 pub noise-vector-spec : {M : Type 1} → statement M
 noise-vector-spec =
-    tie.close
-    (tie.spec
-    Inv-loop
-    μ-loop
-    loop-holds
-    mul-a
-    mul-a-2
-    add-a
-    add-rep-noise-at-requires
-    add-i
-    loop-less
-    loop-again
-    same-length
-    returns)
+    tie.close (tie.spec Inv-loop μ-loop loop-holds mul-a mul-a-2 add-a add-rep-noise-at-requires (λ c. search needs)
+    (λ c. search needs) loop-again (λ c. search needs) returns)
