@@ -81,6 +81,11 @@ pub record Rule (p : Params) : Type 0 where
   pub ut-low : p .ut ≤ 7
   pub uw-pos : 1 ≤ p .uw
   pub uw-low : p .uw ≤ 41
+  pub kappa-low : p .kappa ≤ 256
+  pub hash-fits : p .kappa / 4 ≤ p .«sig_bytes»
+  pub sig-low : p .«sig_bytes» ≤ 20330
+  pub binf-low : p .binf < 2 ^ 50
+  pub hint-low : p .«hint_limit» ≤ 3
 
 abbrev tests : Params → List Bool
 tests p =
@@ -96,6 +101,11 @@ tests p =
     ∷ leb (p .ut) 7
     ∷ leb 1 (p .uw)
     ∷ leb (p .uw) 41
+    ∷ leb (p .kappa) 256
+    ∷ leb (p .kappa / 4) (p .«sig_bytes»)
+    ∷ leb (p .«sig_bytes») 20330
+    ∷ leb (p .binf + 1) (2 ^ 50)
+    ∷ leb (p .«hint_limit») 3
     ∷ []
 
 ruled : (p : Params) → T (allOf (tests p)) → Rule p
@@ -113,6 +123,11 @@ ruled p t =
       ut-low = leb→le _ _ (pass (tests p) t 9);
       uw-pos = leb→le _ _ (pass (tests p) t 10);
       uw-low = leb→le _ _ (pass (tests p) t 11);
+      kappa-low = leb→le _ _ (pass (tests p) t 12);
+      hash-fits = leb→le _ _ (pass (tests p) t 13);
+      sig-low = leb→le _ _ (pass (tests p) t 14);
+      binf-low = let h : p .binf + 1 ≤ 2 ^ 50 = leb→le _ _ (pass (tests p) t 15) in omega arith;
+      hint-low = leb→le _ _ (pass (tests p) t 16);
     }
 
 -- the test of the whole table, for any edition; and that row i is of set i / 6 and order i % 6
