@@ -1,0 +1,333 @@
+-- The byte form of a signature: what is written is read back, and a string is the one that the writer makes exactly if its fill is 0 (question 14).
+use Prim.Native.Nat.{ℕ, zero, suc, _+_, _*_, _-_, _/_, _^_, _≤_, _<_}
+use mathlib.Core.Path.{_≡_, refl, sym, ap, subst, _∙_}
+use mathlib.Core.Bool.{Bool, true, false}
+use mathlib.Core.List.{List, [], _∷_, _++_, append-assoc}
+use mathlib.Core.Option.{Option, some, none}
+use native.Mathlib.Omega.{arith}
+use native.Mathlib.Nat.{le-of-suc-le-suc, mod-eq-of-lt, mod-lt}
+use native.Mathlib.Decide.{decLt}
+use lib.Arith.{digits-lt}
+use lib.Dec.{lit<, leb}
+use lib.IntN.{ℤ, pos, natAbs}
+use lib.ListN.{length, getD, take, drop, replicate, length-append, length-take, length-drop, length-replicate, take-append-drop, List·getD-eq-default}
+use lib.Pow.{split, pow-pos, pow-add, pow-mono}
+use lib.Seq.{take-at, drop-at, length-take-le}
+use borrow.Author.Tests.{le-leb, lt-leb, leb-true}
+use Rattle.hash.specs.Lists.{pick, Bytes}
+use Rattle.hash.specs.declared.params.Params.{Params}
+use Rattle.signature.specs.Bits.{bitsOf, valOf, fields, chop}
+use Rattle.signature.specs.Code.{negOf, signs, codeOf, code, codes, codesBits, readCodes}
+use Rattle.signature.specs.Form.{Fields, hashBytes, formBits, bitCount, write, read}
+use Rattle.signature.specs.Answers.{fieldsOf, allZero, parsed}
+use Rattle.signature.proofs.Strings.{Bits, bits-drop, bits-join, are-bits, fields-bits, length-bits, length-fields}
+use Rattle.signature.proofs.Packing.{val-bits, chop-fields, fields-append, length-chop, chop-lt, fields-chop, bytes-lt, lt-bytes}
+use Rattle.signature.proofs.Codes.{neg-lt, code-length}
+use Rattle.signature.proofs.Lists.{codes-room}
+use Rattle.signature.proofs.Whole.{trips, canons}
+use Rattle.signature.proofs.Filled.{zeros-are, are-zeros, bits-length}
+use Rattle.signature.proofs.Parsed.{both, parsed-some}
+
+-- ---- the bits of the fields are 0 and 1
+
+bits-replicate : (n b : ℕ) → b < 2 → Bits (replicate n b)
+bits-replicate zero b h i = lit< tt
+bits-replicate (suc n) b h zero = h
+bits-replicate (suc n) b h (suc i) = bits-replicate n b h i
+
+sign-bits : (m s : ℕ) → s < 2 → Bits (0 ∷ signs m s)
+sign-bits m s h zero = lit< tt
+sign-bits zero s h (suc i) = lit< tt
+sign-bits (suc m) s h (suc zero) = h
+sign-bits (suc m) s h (suc (suc i)) = lit< tt
+
+code-are : (w : ℕ) (z : ℤ) → Bits (code w z)
+unfolding codeOf
+code-are w z =
+    let m = natAbs z in
+    bits-join (bitsOf w m) (replicate (m / 2 ^ w) 1 ++ (0 ∷ signs m (negOf z))) (are-bits w m)
+    (bits-join (replicate (m / 2 ^ w) 1) (0 ∷ signs m (negOf z)) (bits-replicate (m / 2 ^ w) 1 (lit< tt)) (sign-bits m (negOf z) (neg-lt z)))
+
+codes-are : (w : ℕ) (zs : List ℤ) → Bits (codes w zs)
+unfolding codes
+codes-are w [] i = lit< tt
+codes-are w (z ∷ zs) i = bits-join (code w z) (codes w zs) (code-are w z) (codes-are w zs) i
+
+form-are : (f : Fields) → Bits (formBits f)
+unfolding formBits
+form-are f =
+    bits-join (fields 8 (f .hash)) (codes 0 (f .hint) ++ codes 40 (f .response)) (fields-bits 8 (f .hash))
+    (bits-join (codes 0 (f .hint)) (codes 40 (f .response)) (codes-are 0 (f .hint)) (codes-are 40 (f .response)))
+
+-- ---- numbers at the front of a bit string
+
+take-chop : (w k n : ℕ) (l : List ℕ) → k ≤ n → take k (chop w n l) ≡ chop w k l
+unfolding chop
+take-chop w zero n l h = refl
+take-chop w (suc k) zero l h = let x : ⊥ = omega arith in absurd x
+take-chop w (suc k) (suc n) l h = ap (λ (m : List ℕ). valOf (take w l) ∷ m) (take-chop w k n (drop w l) (le-of-suc-le-suc h))
+
+chop-front : (w : ℕ) (xs r : List ℕ) → ((i : ℕ) → getD xs i 0 < 2 ^ w) → chop w (length xs) (fields w xs ++ r) ≡ xs
+unfolding chop fields
+chop-front w [] r h = refl
+chop-front w (x ∷ xs) r h =
+    let e = append-assoc (bitsOf w x) (fields w xs) r in
+    ap (λ (l : List ℕ). valOf (take w l) ∷ chop w (length xs) (drop w l)) e
+    ∙ ap (λ (n : ℕ). n ∷ chop w (length xs) (drop w (bitsOf w x ++ (fields w xs ++ r))))
+    (ap valOf (take-at (bitsOf w x) (fields w xs ++ r) w (length-bits w x)) ∙ val-bits w x ∙ mod-eq-of-lt (h 0))
+    ∙ ap (λ (l : List ℕ). x ∷ chop w (length xs) l) (drop-at (bitsOf w x) (fields w xs ++ r) w (length-bits w x))
+    ∙ ap (λ (l : List ℕ). x ∷ l) (chop-front w xs r (λ i. h (suc i)))
+
+-- ---- the writer
+
+-- the fields and n bytes: the bits with their fill
+abbrev filled : Fields → ℕ → List ℕ
+filled f n = formBits f ++ replicate (8 * n - bitCount f) 0
+
+-- the count, as the code makes it
+pub count-is : (c : List ℕ) (h z : List ℤ) → 8 * length c + (codesBits 0 h + codesBits 40 z) ≡ bitCount (fieldsOf c h z)
+unfolding bitCount
+count-is c h z = refl
+
+module _ (p : Params) (f : Fields) where
+  pub write-fits : bitCount f ≤ 8 * p .«sig_bytes» → write p f ≡ some (chop 8 (p .«sig_bytes») (filled f (p .«sig_bytes»)))
+  unfolding write
+  write-fits h = rw (le-leb _ _ h)
+
+  pub write-none : 8 * p .«sig_bytes» < bitCount f → write p f ≡ none
+  unfolding write
+  write-none h = rw (lt-leb _ _ h)
+
+module _ (p : Params) (f : Fields) (b : List ℕ) where
+  pub write-some : write p f ≡ some b → (bitCount f ≤ 8 * p .«sig_bytes») × (b ≡ chop 8 (p .«sig_bytes») (filled f (p .«sig_bytes»)))
+  unfolding write
+  write-some e = go (leb (bitCount f) (8 * p .«sig_bytes»)) refl e
+    where
+      go : (d : Bool) → leb (bitCount f) (8 * p .«sig_bytes») ≡ d → pick d (some (chop 8 (p .«sig_bytes») (filled f (p .«sig_bytes»)))) none ≡ some b
+          → (bitCount f ≤ 8 * p .«sig_bytes») × (b ≡ chop 8 (p .«sig_bytes») (filled f (p .«sig_bytes»)))
+      go true d e = (leb-true (bitCount f) (8 * p .«sig_bytes») d, cc)
+      go false d e = let x : _≡_ {A = ℕ} 0 1 = cc in absurd (omega arith)
+
+  pub write-length : write p f ≡ some b → length b ≡ p .«sig_bytes»
+  write-length e = ap length ((write-some e) .1) ∙ length-chop 8 (p .«sig_bytes») (filled f (p .«sig_bytes»))
+
+  filled-are : Bits (filled f (p .«sig_bytes»))
+  filled-are = bits-join (formBits f) (replicate (8 * p .«sig_bytes» - bitCount f) 0) (form-are f) (bits-replicate (8 * p .«sig_bytes» - bitCount f) 0 (lit< tt))
+
+  pub write-bytes : write p f ≡ some b → Bytes b
+  write-bytes e = rw ((write-some e) .1) (lt-bytes (chop 8 (p .«sig_bytes») (filled f (p .«sig_bytes»))) (chop-lt 8 (p .«sig_bytes») (filled f (p .«sig_bytes»)) filled-are))
+
+  -- the bits of what is written
+  pub write-bits : write p f ≡ some b → fields 8 b ≡ filled f (p .«sig_bytes»)
+  write-bits e =
+      let n = p .«sig_bytes» in
+      let z : ℕ = 0 in
+      let l : length (filled f n) ≡ n * 8 =
+      length-append (formBits f) (replicate (8 * n - bitCount f) z)
+      ∙ omega (arith, bits-length (f .hash) (f .hint) (f .response), length-replicate (8 * n - bitCount f) z, (write-some e) .0) in
+      ap (fields 8) ((write-some e) .1) ∙ fields-chop 8 n (filled f n) filled-are l
+
+-- ---- the reader, by what the two lists give
+
+module _ (p : Params) (b : List ℕ) where
+  abbrev behind : List ℕ
+  behind = drop (8 * hashBytes p) (fields 8 b)
+
+  read-no-hint : readCodes 0 (p .k * 512) behind ≡ none → read p b ≡ none
+  unfolding read
+  read-no-hint e = rw e
+
+  module _ (h : List ℤ) (i : ℕ) (e : readCodes 0 (p .k * 512) behind ≡ some (h, i)) where
+    read-no-response : readCodes 40 (p .l * 512) (drop i behind) ≡ none → read p b ≡ none
+    unfolding read
+    read-no-response g = rw (e, g)
+
+    pub read-some : (z : List ℤ) (j : ℕ) → readCodes 40 (p .l * 512) (drop i behind) ≡ some (z, j) → read p b ≡ some (fieldsOf (take (hashBytes p) b) h z)
+    unfolding read
+    read-some z j g = rw (e, g)
+
+-- ---- what is written is read back
+
+-- fields of the sizes of a set
+pub record Sized (p : Params) (f : Fields) : Type 0 where
+  pub hash-long : length (f .hash) ≡ hashBytes p
+  pub hash-bytes : Bytes (f .hash)
+  pub hint-long : length (f .hint) ≡ p .k * 512
+  pub response-long : length (f .response) ≡ p .l * 512
+
+pub write-read : (p : Params) (f : Fields) (b : List ℕ) → Sized p f → write p f ≡ some b → read p b ≡ some f
+unfolding formBits bitCount
+write-read p f b s e =
+    let n = p .«sig_bytes» in
+    let H = hashBytes p in
+    let F = fields 8 (f .hash) in
+    let C = codes 0 (f .hint) in
+    let D = codes 40 (f .response) in
+    let Z : List ℕ = replicate (8 * n - bitCount f) 0 in
+    let r : filled f n ≡ F ++ (C ++ (D ++ Z)) = append-assoc F (C ++ D) Z ∙ ap (λ (l : List ℕ). F ++ l) (append-assoc C D Z) in
+    let o = write-some p f b e in
+    let lf : length F ≡ 8 * H = length-fields 8 (f .hash) ∙ omega (arith, s .hash-long) in
+    let t : drop (8 * H) (fields 8 b) ≡ C ++ (D ++ Z) =
+    ap (drop (8 * H)) (write-bits p f b e ∙ r) ∙ drop-at F (C ++ (D ++ Z)) (8 * H) lf in
+    let a : readCodes 0 (p .k * 512) (drop (8 * H) (fields 8 b)) ≡ some (f .hint, length C) =
+    ap (readCodes 0 (p .k * 512)) t ∙ ap (λ (m : ℕ). readCodes 0 m (C ++ (D ++ Z))) (sym (s .hint-long)) ∙ trips 0 (f .hint) (D ++ Z) in
+    let u : drop (length C) (drop (8 * H) (fields 8 b)) ≡ D ++ Z = ap (drop (length C)) t ∙ drop-at C (D ++ Z) (length C) refl in
+    let d : readCodes 40 (p .l * 512) (drop (length C) (drop (8 * H) (fields 8 b))) ≡ some (f .response, length D) =
+    ap (readCodes 40 (p .l * 512)) u ∙ ap (λ (m : ℕ). readCodes 40 m (D ++ Z)) (sym (s .response-long)) ∙ trips 40 (f .response) Z in
+    let c : take H b ≡ f .hash =
+    ap (take H) (o .1) ∙ take-chop 8 H n (filled f n) (omega (arith, o .0, s .hash-long)) ∙ ap (λ (m : ℕ). chop 8 m (filled f n)) (sym (s .hash-long))
+    ∙ ap (chop 8 (length (f .hash))) r ∙ chop-front 8 (f .hash) (C ++ (D ++ Z)) (bytes-lt (f .hash) (s .hash-bytes)) in
+    read-some p b (f .hint) (length C) a (f .response) (length D) d ∙ ap (λ (x : List ℕ). some (fieldsOf x (f .hint) (f .response))) c
+
+-- ---- what is read, and its bits
+
+-- f was read from b: where the hint and the response end, counted from the hash
+pub record Found (p : Params) (b : List ℕ) (f : Fields) : Type 0 where
+  pub i : ℕ
+  pub j : ℕ
+  pub hash-is : take (hashBytes p) b ≡ f .hash
+  pub hint-is : readCodes 0 (p .k * 512) (drop (8 * hashBytes p) (fields 8 b)) ≡ some (f .hint, i)
+  pub response-is : readCodes 40 (p .l * 512) (drop i (drop (8 * hashBytes p) (fields 8 b))) ≡ some (f .response, j)
+
+pub found : (p : Params) (b : List ℕ) (f : Fields) → read p b ≡ some f → Found p b f
+found p b f e = go (readCodes 0 (p .k * 512) (drop (8 * hashBytes p) (fields 8 b))) refl
+  where
+    go₂ : (h : List ℤ × ℕ) → readCodes 0 (p .k * 512) (drop (8 * hashBytes p) (fields 8 b)) ≡ some h → (o : Option (List ℤ × ℕ))
+        → readCodes 40 (p .l * 512) (drop (h .1) (drop (8 * hashBytes p) (fields 8 b))) ≡ o → Found p b f
+    go₂ h g none k = let n = read-no-response p b (h .0) (h .1) g k in let x : _≡_ {A = ℕ} 0 1 = cc in absurd (omega arith)
+    go₂ h g (some z) k =
+        let r = read-some p b (h .0) (h .1) g (z .0) (z .1) k in
+        let q : fieldsOf (take (hashBytes p) b) (h .0) (z .0) ≡ f = cc in
+        record {
+          i = h .1;
+          j = z .1;
+          hash-is = ap (λ (x : Fields). x .hash) q;
+          hint-is = g ∙ ap (λ (x : Fields). some (x .hint, h .1)) q;
+          response-is = k ∙ ap (λ (x : Fields). some (x .response, z .1)) q;
+        }
+
+    go : (o : Option (List ℤ × ℕ)) → readCodes 0 (p .k * 512) (drop (8 * hashBytes p) (fields 8 b)) ≡ o → Found p b f
+    go none g = let n = read-no-hint p b g in let x : _≡_ {A = ℕ} 0 1 = cc in absurd (omega arith)
+    go (some h) g = go₂ h g (readCodes 40 (p .l * 512) (drop (h .1) (drop (8 * hashBytes p) (fields 8 b)))) refl
+
+module _ (p : Params) (b : List ℕ) (f : Fields) (size : hashBytes p ≤ length b) (r : Found p b f) where
+  abbrev fill : List ℕ
+  fill = drop (r .j) (drop (r .i) (drop (8 * hashBytes p) (fields 8 b)))
+
+  -- the bits of b are those of the fields, and the fill
+  laid : fields 8 b ≡ formBits f ++ fill
+  unfolding formBits
+  laid =
+      let H = hashBytes p in
+      let F = fields 8 b in
+      let t = drop (8 * H) F in
+      let u = drop (r .i) t in
+      let all = fields-bits 8 b in
+      let lf : length (fields 8 (take H b)) ≡ 8 * H = length-fields 8 (take H b) ∙ omega (arith, length-take-le H b size) in
+      let s : F ≡ fields 8 (take H b) ++ fields 8 (drop H b) = ap (fields 8) (sym (take-append-drop H b)) ∙ fields-append 8 (take H b) (drop H b) in
+      let a : take (8 * H) F ≡ fields 8 (f .hash) =
+      ap (take (8 * H)) s ∙ take-at (fields 8 (take H b)) (fields 8 (drop H b)) (8 * H) lf ∙ ap (fields 8) (r .hash-is) in
+      let c = (canons 0 (p .k * 512) t (f .hint) (r .i) (bits-drop (8 * H) F all) (r .hint-is)) .0 in
+      let d = (canons 40 (p .l * 512) u (f .response) (r .j) (bits-drop (r .i) t (bits-drop (8 * H) F all)) (r .response-is)) .0 in
+      let C = codes 0 (f .hint) in
+      let D = codes 40 (f .response) in
+      sym (append-assoc (fields 8 (f .hash)) (C ++ D) fill
+      ∙ ap (λ (l : List ℕ). fields 8 (f .hash) ++ l) (append-assoc C D fill
+      ∙ ap (λ (l : List ℕ). C ++ l) (ap (λ (l : List ℕ). l ++ fill) (sym d) ∙ take-append-drop (r .j) u)
+      ∙ ap (λ (l : List ℕ). l ++ u) (sym c) ∙ take-append-drop (r .i) t)
+      ∙ ap (λ (l : List ℕ). l ++ t) (sym a) ∙ take-append-drop (8 * H) F)
+
+  pub fill-is : drop (bitCount f) (fields 8 b) ≡ fill
+  fill-is = ap (drop (bitCount f)) laid ∙ drop-at (formBits f) fill (bitCount f) (bits-length (f .hash) (f .hint) (f .response))
+
+  counted : bitCount f + length fill ≡ 8 * length b
+  counted =
+      let l = length-fields 8 b in
+      omega (arith, ap length laid, length-append (formBits f) fill, bits-length (f .hash) (f .hint) (f .response))
+
+  -- question 14: b is the very string that the writer makes of the fields read, exactly if every bit behind them is 0
+  module _ (long : length b ≡ p .«sig_bytes») where
+    pub zero-canonical : Bytes b → allZero (drop (bitCount f) (fields 8 b)) ≡ true → write p f ≡ some b
+    zero-canonical byte z =
+        let n = p .«sig_bytes» in
+        let l : length fill ≡ 8 * n - bitCount f = omega (arith, counted) in
+        let e : fill ≡ replicate (8 * n - bitCount f) 0 =
+        are-zeros fill (ap allZero (sym fill-is) ∙ z) ∙ ap (λ (k : ℕ). replicate k 0) l in
+        write-fits p f (omega (arith, counted))
+        ∙ ap (λ (x : List ℕ). some (chop 8 n x)) (sym (laid ∙ ap (λ (x : List ℕ). formBits f ++ x) e))
+        ∙ ap (λ (k : ℕ). some (chop 8 k (fields 8 b))) (sym long) ∙ ap some (chop-fields 8 b (bytes-lt b byte))
+
+    pub canonical-zero : write p f ≡ some b → allZero (drop (bitCount f) (fields 8 b)) ≡ true
+    canonical-zero e =
+        ap (λ (x : List ℕ). allZero (drop (bitCount f) x)) (write-bits p f b e)
+        ∙ ap allZero (drop-at (formBits f) (replicate (8 * p .«sig_bytes» - bitCount f) 0) (bitCount f) (bits-length (f .hash) (f .hint) (f .response)))
+        ∙ zeros-are (8 * p .«sig_bytes» - bitCount f)
+
+pub read-canonical : (p : Params) (b : List ℕ) (f : Fields) → Bytes b → length b ≡ p .«sig_bytes» → hashBytes p ≤ length b → read p b ≡ some f
+    → (allZero (drop (bitCount f) (fields 8 b)) ≡ true → write p f ≡ some b) × (write p f ≡ some b → allZero (drop (bitCount f) (fields 8 b)) ≡ true)
+read-canonical p b f byte long size e = let r = found p b f e in (zero-canonical p b f size r long byte, canonical-zero p b f size r long)
+
+-- what is read has the set's sizes
+bytes-take : (n : ℕ) (xs : List ℕ) → Bytes xs → Bytes (take n xs)
+bytes-take zero xs b = tt
+bytes-take (suc n) [] b = tt
+bytes-take (suc n) (x ∷ xs) b = (b .0, bytes-take n xs (b .1))
+
+pub read-sized : (p : Params) (b : List ℕ) (f : Fields) → Bytes b → hashBytes p ≤ length b → read p b ≡ some f → Sized p f
+read-sized p b f byte size e =
+    let r = found p b f e in
+    let t = drop (8 * hashBytes p) (fields 8 b) in
+    let all = bits-drop (8 * hashBytes p) (fields 8 b) (fields-bits 8 b) in
+    record {
+      hash-long = ap length (sym (r .hash-is)) ∙ length-take-le (hashBytes p) b size;
+      hash-bytes = subst Bytes (r .hash-is) (bytes-take (hashBytes p) b byte);
+      hint-long = (canons 0 (p .k * 512) t (f .hint) (r .i) all (r .hint-is)) .1;
+      response-long = (canons 40 (p .l * 512) (drop (r .i) t) (f .response) (r .j) (bits-drop (r .i) t all) (r .response-is)) .1;
+    }
+
+-- ---- the code's test
+
+module _ (p : Params) (b : List ℕ) (byte : Bytes b) (long : length b ≡ p .«sig_bytes») (size : hashBytes p ≤ length b) where
+  -- the code accepts: the fields are those that the definition reads, and b is what is written of them
+  pub accepted : (h z : List ℤ) → parsed (p .k * 512) (p .l * 512) (drop (8 * hashBytes p) (fields 8 b)) ≡ some (h, z)
+      → (read p b ≡ some (fieldsOf (take (hashBytes p) b) h z)) × (write p (fieldsOf (take (hashBytes p) b) h z) ≡ some b)
+  accepted h z e =
+      let f = fieldsOf (take (hashBytes p) b) h z in
+      let q = parsed-some (p .k * 512) (p .l * 512) (drop (8 * hashBytes p) (fields 8 b)) h z e in
+      let s = read-some p b h (q .i) (q .hint-is) z (q .j) (q .response-is) in
+      let r : Found p b f = record { i = q .i; j = q .j; hash-is = refl; hint-is = q .hint-is; response-is = q .response-is } in
+      (s, zero-canonical p b f size r long byte (ap allZero (fill-is p b f size r) ∙ q .fill-zero))
+
+  -- and it refuses where there are no such fields
+  pub refused : (f : Fields) → parsed (p .k * 512) (p .l * 512) (drop (8 * hashBytes p) (fields 8 b)) ≡ none → read p b ≡ some f → write p f ≡ some b → ⊥
+  refused f e g k =
+      let r = found p b f g in
+      let z = ap allZero (sym (fill-is p b f size r)) ∙ canonical-zero p b f size r long k in
+      let y = both (p .k * 512) (p .l * 512) (drop (8 * hashBytes p) (fields 8 b)) (f .hint) (r .i) (r .hint-is) (f .response) (r .j) (r .response-is) z in
+      let x : _≡_ {A = ℕ} 0 1 = cc in omega arith
+
+-- ---- numbers that were read are small
+
+code-small : (w : ℕ) (z : ℤ) → w ≤ 40 → length (code w z) < 2 ^ 20 → natAbs z < 2 ^ 61
+code-small w z h l =
+    let m = natAbs z in
+    let q : m / 2 ^ w < 2 ^ 20 = omega (arith, code-length w m (negOf z)) in
+    omega (arith, split m w, digits-lt q (mod-lt m (pow-pos w)), pow-add 2 20 w, pow-mono {i = 20 + w} {j = 60} (omega arith))
+
+pub read-small : (w n : ℕ) (t : List ℕ) (zs : List ℤ) (k : ℕ) → w ≤ 40 → Bits t → length t < 2 ^ 20 → readCodes w n t ≡ some (zs, k)
+    → (i : ℕ) → natAbs (getD zs i (pos 0)) < 2 ^ 61
+read-small w n t zs k h all l e i = go (decLt i (length zs))
+  where
+    go : Dec (i < length zs) → natAbs (getD zs i (pos 0)) < 2 ^ 61
+    go (yes s) =
+        let c = (canons w n t zs k all e) .0 in
+        code-small w (getD zs i (pos 0)) h (omega (arith, codes-room w zs i s, ap length c, length-take k t))
+    go (no s) = let o : length zs ≤ i = omega (arith, s) in rw (List·getD-eq-default zs (pos 0) o) (lit< tt)
+
+pub parsed-small : (n m : ℕ) (t : List ℕ) (h z : List ℤ) → Bits t → length t < 2 ^ 20 → parsed n m t ≡ some (h, z)
+    → ((i : ℕ) → natAbs (getD h i (pos 0)) < 2 ^ 61) × ((i : ℕ) → natAbs (getD z i (pos 0)) < 2 ^ 61)
+parsed-small n m t h z all l e =
+    let q = parsed-some n m t h z e in (
+      read-small 0 n t h (q .i) (omega arith) all l (q .hint-is),
+      read-small 40 m (drop (q .i) t) z (q .j) (omega arith) (bits-drop (q .i) t all) (omega (arith, length-drop (q .i) t)) (q .response-is),
+    )

@@ -1,0 +1,63 @@
+-- What the modules `code`, `form` and `bounds` answer, in terms of the definitions of Code, Form and Bounds.
+use mathlib.Core.Path.{_≡_}
+use mathlib.Core.Bool.{Bool, true, false}
+use mathlib.Core.List.{List, [], _∷_}
+use mathlib.Core.Option.{Option, some, none}
+use Prim.Native.Nat.{ℕ, zero, suc, _+_, _*_, _^_}
+use lib.Dec.{leb}
+use lib.IntN.{ℤ}
+use lib.ListN.{drop}
+use Rattle.hash.specs.Lists.{pick}
+use Rattle.signature.specs.Code.{readCodes}
+use Rattle.signature.specs.Form.{Fields}
+use Rattle.signature.specs.Bounds.{within, squares}
+use Rattle.signature.specs.declared.bounds.Norm.{Norm}
+use Rattle.signature.specs.declared.code.Got.{Got}
+use Rattle.signature.specs.declared.code.Next.{Next}
+
+-- one number, and the place behind it, which counts from the string's start
+abbrev pub gotOf : ℕ → Option (ℤ × ℕ) → Got
+gotOf at none = Got.Bad
+gotOf at (some r) = Got.Code (r .0) (at + r .1)
+
+-- several numbers, left in zs, and the place behind them
+abbrev pub NextOf : ℕ → Option (List ℤ × ℕ) → Next → List ℤ → Type 0
+NextOf at none r zs = r ≡ Next.No
+NextOf at (some s) r zs = (r ≡ Next.At (at + s .1)) × (zs ≡ s .0)
+
+-- ---- the whole signature
+
+abbrev pub fieldsOf : List ℕ → List ℤ → List ℤ → Fields
+fieldsOf c h z = record { hash = c; hint = h; response = z }
+
+unfoldable pub allZero : List ℕ → Bool
+allZero [] = true
+allZero (zero ∷ l) = allZero l
+allZero (suc b ∷ l) = false
+
+-- n numbers of the hint's code and m of the response's from the bits t, where every bit behind them is 0 (question 14)
+abbrev pub fillOf : List ℤ → List ℕ → Option (List ℤ × ℕ) → Option (List ℤ × List ℤ)
+fillOf h t none = none
+fillOf h t (some z) = pick (allZero (drop (z .1) t)) (some (h, z .0)) none
+
+abbrev pub responseOf : ℕ → List ℕ → Option (List ℤ × ℕ) → Option (List ℤ × List ℤ)
+responseOf m t none = none
+responseOf m t (some h) = fillOf (h .0) (drop (h .1) t) (readCodes 40 m (drop (h .1) t))
+
+unfoldable pub parsed : ℕ → ℕ → List ℕ → Option (List ℤ × List ℤ)
+parsed n m t = responseOf m t (readCodes 0 n t)
+
+-- the reader's answer, and the numbers that it leaves in h and z
+abbrev pub ReadOf : Option (List ℤ × List ℤ) → Bool → List ℤ → List ℤ → Type 0
+ReadOf none r h z = r ≡ false
+ReadOf (some x) r h z = (r ≡ true) × (h ≡ x .0) × (z ≡ x .1)
+
+-- ---- CheckBounds
+
+-- of one list: the sum of squares, or that a number is above the limit
+unfoldable pub normOf : ℕ → ℕ → List ℤ → Norm
+normOf most v zs = pick (within most zs) (Norm.Square (squares v zs)) Norm.Over
+
+-- `checkBounds` over the hint's limit, B_inf and 2^-64 B_2^2
+unfoldable pub boundsOf : ℕ → ℕ → ℕ → List ℤ → List ℤ → Bool
+boundsOf limit most all h z = pick (within limit h) (pick (within most z) (leb (2 ^ 24 * squares 0 h + squares 32 z) all) false) false

@@ -1,0 +1,130 @@
+-- ChalHash and ChalPoly (000, Algorithms 9 and 10; 01, "Streams and shares"). The edition decides the order of w and mu, and which bit means -1.
+use mathlib.Core.Bool.{Bool, true, false}
+use mathlib.Core.List.{List, [], _∷_, _++_}
+use mathlib.Core.Option.{Option, some, none}
+use Prim.Native.Nat.{ℕ, zero, suc, min, _+_, _*_, _/_, _%_, _^_}
+use lib.Count.{ones}
+use lib.Dec.{eqb}
+use lib.IntN.{ℤ, pos, negsuc}
+use lib.ListN.{length, getD, set, replicate}
+use Rattle.hash.specs.Lists.{pick, table}
+use Rattle.hash.specs.Keccak.{State, keccakF}
+use Rattle.hash.specs.Params.{lookupOf}
+use Rattle.hash.specs.Shake.{absorbFrom, finish, rate, stream, shake256}
+use Rattle.hash.specs.declared.params.Edition.{Edition}
+use Rattle.hash.specs.declared.params.Params.{Params}
+use Rattle.hash.specs.declared.params.Selected.{Selected}
+use Rattle.signature.specs.declared.challenge.Challenged.{Challenged}
+
+-- ---- Algorithm 10 over a stream of bytes
+
+-- draw number n: two bytes, the lower first; bit 0 is the sign, bits 1 to 9 the position
+abbrev pub draw : List ℕ → ℕ → ℕ
+draw s n = getD s (n * 2) 0 + getD s (n * 2 + 1) 0 * 256
+
+abbrev pub place : ℕ → ℕ
+place d = d / 2 % 512
+
+-- the bit that means -1: 1 as printed, (-1)^b0; 0 in the response files
+abbrev pub minusBit : Edition → ℕ
+minusBit Edition.Printed = 1
+minusBit Edition.Kat = 0
+
+abbrev pub sign : Edition → ℕ → ℤ
+sign e d = pick (eqb (d % 2) (minusBit e)) (negsuc 0) (pos 1)
+
+-- 1 where z is not 0; how many coefficients are not 0
+abbrev pub nz : ℤ → ℕ
+nz (pos zero) = 0
+nz (pos (suc n)) = 1
+nz (negsuc n) = 1
+
+unfoldable pub weight : List ℤ → ℕ
+weight [] = 0
+weight (z ∷ c) = nz z + weight c
+
+-- a draw on a free position sets it; on a taken one it is dropped
+unfoldable pub step : Edition → List ℤ → ℕ → List ℤ
+step e c d = pick (eqb (nz (getD c (place d) (pos 0))) 0) (set c (place d) (sign e d)) c
+
+-- the polynomial after n draws of the stream s, for weight w
+unfoldable pub run : Edition → List ℕ → ℕ → ℕ → List ℤ
+run e s w zero = replicate 512 (pos 0)
+run e s w (suc n) = pick (eqb (weight (run e s w n)) w) (run e s w n) (step e (run e s w n) (draw s n))
+
+-- how many draws n bytes give: at most 1,088
+abbrev pub draws : ℕ → ℕ
+draws n = min 1088 (n / 2)
+
+-- the challenge polynomial of a stream, if w positions are taken in time (question 11)
+unfoldable pub challenge : Edition → ℕ → List ℕ → Option (List ℤ)
+challenge e w s = pick (eqb (weight (run e s w (draws (length s)))) w) (some (run e s w (draws (length s)))) none
+
+-- Algorithm 10: 1,088 draws are 2176 bytes, 16 blocks
+unfoldable pub chalPoly : Params → List ℕ → Option (List ℤ)
+chalPoly p hash = challenge (p .edition) (p .omega) (shake256 ((99 ∷ p .omega ∷ 0 ∷ 0 ∷ 0 ∷ 0 ∷ 0 ∷ 0 ∷ []) ++ hash) 2176)
+
+-- ---- Algorithm 9: w is the rounded commitment, one byte a coefficient
+
+abbrev pub ordered : Edition → List ℕ → List ℕ → List ℕ
+ordered Edition.Printed w mu = w ++ mu
+ordered Edition.Kat w mu = mu ++ w
+
+unfoldable pub chalHash : Params → List ℕ → List ℕ → List ℕ
+chalHash p w mu = shake256 ((104 ∷ p .k ∷ 0 ∷ 0 ∷ 0 ∷ 0 ∷ 0 ∷ 0 ∷ []) ++ ordered (p .edition) w mu) (p .kappa / 4)
+
+-- ---- the sampler over lent bytes: questions 1, 8 and 11
+
+abbrev answered : Option (List ℤ) → List ℤ → ℕ × List ℤ
+answered none out = (11, out)
+answered (some c) out = (0, c)
+
+abbrev asked : Selected → List ℕ → List ℤ → ℕ × List ℤ
+asked (Selected.Found p) s out = pick (eqb (length out) 512) (answered (challenge (p .edition) (p .omega) s) out) (8, out)
+asked Selected.NoSet s out = (1, out)
+asked Selected.NoShares s out = (1, out)
+
+unfoldable pub sampledChallenge : ℕ → List ℕ → List ℤ → ℕ × List ℤ
+sampledChallenge set s out = asked (lookupOf set 1 Edition.Printed) s out
+
+-- ---- the map of taken positions: bit p of eight words, and the ones of all of them
+
+abbrev pub bitAt : List ℕ → ℕ → ℕ
+bitAt m p = getD m (p / 64) 0 / 2 ^ (p % 64) % 2
+
+unfoldable pub onesOf : List ℕ → ℕ
+onesOf [] = 0
+onesOf (x ∷ m) = ones x + onesOf m
+
+-- ---- what the code holds
+
+-- the header of eight bytes: a letter and a number
+abbrev pub headed : ℕ → ℕ → List ℕ
+headed a n = a ∷ n ∷ 0 ∷ 0 ∷ 0 ∷ 0 ∷ 0 ∷ 0 ∷ []
+
+-- the answer: a polynomial, or zero where there is none
+unfoldable pub chalHeld : Option (List ℤ) → Challenged
+chalHeld (some c) = record { ok = true; poly = c }
+chalHeld none = record { ok = false; poly = replicate 512 (pos 0) }
+
+-- the bytes that are drawn from: 16 blocks of the stream that a state gives, or those lent; and how many draws they are
+abbrev pub bytesOf : Bool → State → List ℕ → List ℕ
+bytesOf true S lent = table (stream S) 2176
+bytesOf false S lent = lent
+
+abbrev pub drawsOf : Bool → ℕ → ℕ
+drawsOf true n = 1088
+drawsOf false n = draws n
+
+-- block i, of the state that gives it or of the lent bytes; and the state that gives the block behind it
+abbrev pub blockOf : Bool → State → List ℕ → ℕ → List ℕ
+blockOf true S lent i = rate S
+blockOf false S lent i = table (λ j. getD lent (i * 136 + j) 0) 136
+
+abbrev pub nextOf : Bool → State → State
+nextOf true S = keccakF S
+nextOf false S = S
+
+-- the state behind a message of n bytes that S absorbed, and a and b
+abbrev pub behind : State → ℕ → List ℕ → List ℕ → State
+behind S n a b = finish (absorbFrom (absorbFrom S n a) (n + length a) b) (n + length a + length b)

@@ -1,0 +1,6 @@
+pub mod Answers
+pub mod Bits
+pub mod Bounds
+pub mod Challenge
+pub mod Code
+pub mod Form

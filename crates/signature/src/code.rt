@@ -1,0 +1,179 @@
+// The coefficients of a signature as bits (000, 2.5.1): w low bits, the rest in ones, a stop bit, a sign. Hint: w is 0; response: w is 40.
+ghost use mathlib.Core.Path.{_≡_};
+ghost use Prim.Native.Nat.{ℕ, _+_, _*_, _^_, _<_, _≤_};
+ghost use lib.IntN.{pos, natAbs};
+ghost use lib.ListN.{length, getD, drop};
+ghost use lib.Seq.{sets};
+ghost use Rattle.signature.specs.Bits.{fields};
+ghost use Rattle.signature.specs.Code.{codeOf, code, codes, codeBits, codesBits, runOf, readCode, readCodes};
+ghost use Rattle.signature.specs.Answers.{gotOf, NextOf};
+use crate::bits;
+use crate::int;
+
+// A number and the place behind it, or too few bits.
+pub enum Got {
+    Code { z: i64, next: usize },
+    Bad,
+}
+
+// The place behind several numbers, or too few bits.
+pub enum Next {
+    At(usize),
+    No,
+}
+
+// How many bits the code of z takes.
+pub(crate) fn code_bits(w: usize, z: i64) -> usize
+    requires { ⌜ natAbs z < 2 ^ 50 ⌝ }
+    requires { ⌜ w ≤ 40 ⌝ }
+    ensures { λ r. ⌜ r ≡ codeBits w z ⌝ }
+    ensures { λ r. ⌜ r < 2 ^ 50 + 64 ⌝ }
+{
+    let m = int::mag(z);
+    if m == 0 {
+        return w + 1;
+    }
+    w + (m >> w) as usize + 2
+}
+
+// How many bits the codes of numbers take.
+pub(crate) fn codes_bits(w: usize, zs: &[i64]) -> usize
+    requires { ⌜ ((i : ℕ) → natAbs (getD (now zs) i (pos 0)) < 2 ^ 50) ⌝ }
+    requires { ⌜ length (now zs) ≤ 4608 ⌝ }
+    requires { ⌜ w ≤ 40 ⌝ }
+    ensures { λ r. ⌜ r ≡ codesBits w (now (zs .entry)) ⌝ }
+    ensures { λ r. ⌜ r ≤ 4608 * (2 ^ 50 + 64) ⌝ }
+{
+    let mut n: usize = 0;
+    let mut i: usize = 0;
+    while i < zs.len() {
+        n += code_bits(w, zs[i]);
+        i += 1;
+    }
+    n
+}
+
+// Writes the number with absolute value m and sign s from bit `at` on, and returns the place behind it.
+fn put_mag(buf: &mut [u8], at: usize, m: u64, s: u64, w: usize) -> usize
+    requires { ⌜ at + length (codeOf w m s) ≤ length (now buf) * 8 ⌝ }
+    requires { ⌜ length (now buf) < 2 ^ 17 ⌝ }
+    requires { ⌜ w ≤ 40 ⌝ }
+    requires { ⌜ s < 2 ⌝ }
+    ensures { λ r. ⌜ r ≡ at + length (codeOf w m s) ⌝ }
+    ensures { λ _. ⌜ fields 8 (now (buf .exit)) ≡ sets (fields 8 (now (buf .entry))) at (codeOf w m s) ⌝ }
+{
+    let n = (m >> w) as usize;
+    bits::put_bits(buf, at, m, w);
+    let a = at + w;
+    bits::put_run(buf, a, 1, n);
+    let b = a + n;
+    bits::put_bit(buf, b, 0);
+    if m == 0 {
+        return b + 1;
+    }
+    bits::put_bit(buf, b + 1, s);
+    b + 2
+}
+
+// Writes z from bit `at` on, and returns the place behind it.
+pub(crate) fn put_code(buf: &mut [u8], at: usize, z: i64, w: usize) -> usize
+    requires { ⌜ natAbs z < 2 ^ 63 ⌝ }
+    requires { ⌜ at + length (code w z) ≤ length (now buf) * 8 ⌝ }
+    requires { ⌜ length (now buf) < 2 ^ 17 ⌝ }
+    requires { ⌜ w ≤ 40 ⌝ }
+    ensures { λ r. ⌜ r ≡ at + length (code w z) ⌝ }
+    ensures { λ _. ⌜ fields 8 (now (buf .exit)) ≡ sets (fields 8 (now (buf .entry))) at (code w z) ⌝ }
+{
+    put_mag(buf, at, int::mag(z), int::sign(z), w)
+}
+
+// Writes numbers from bit `at` on, and returns the place behind them.
+pub(crate) fn put_codes(buf: &mut [u8], at: usize, zs: &[i64], w: usize) -> usize
+    requires { ⌜ ((i : ℕ) → natAbs (getD (now zs) i (pos 0)) < 2 ^ 63) ⌝ }
+    requires { ⌜ at + length (codes w (now zs)) ≤ length (now buf) * 8 ⌝ }
+    requires { ⌜ length (now buf) < 2 ^ 17 ⌝ }
+    requires { ⌜ w ≤ 40 ⌝ }
+    ensures { λ r. ⌜ r ≡ at + length (codes w (now (zs .entry))) ⌝ }
+    ensures { λ _. ⌜ fields 8 (now (buf .exit)) ≡ sets (fields 8 (now (buf .entry))) at (codes w (now (zs .entry))) ⌝ }
+{
+    let mut k = at;
+    let mut i: usize = 0;
+    while i < zs.len() {
+        k = put_code(buf, k, zs[i], w);
+        i += 1;
+    }
+    k
+}
+
+// How many ones there are from bit `at` on.
+fn run(buf: &[u8], at: usize) -> usize
+    requires { ⌜ at ≤ length (now buf) * 8 ⌝ }
+    requires { ⌜ length (now buf) < 2 ^ 17 ⌝ }
+    ensures { λ r. ⌜ r ≡ runOf (drop at (fields 8 (now (buf .entry)))) ⌝ }
+    ensures { λ r. ⌜ at + r ≤ length (now (buf .entry)) * 8 ⌝ }
+{
+    let mut n: usize = 0;
+    while at + n < buf.len() * 8 {
+        if bits::get_bit(buf, at + n) == 0 {
+            return n;
+        }
+        n += 1;
+    }
+    n
+}
+
+// The number that the bits from `at` on begin with.
+pub(crate) fn get_code(buf: &[u8], at: usize, w: usize) -> Got
+    requires { ⌜ at ≤ length (now buf) * 8 ⌝ }
+    requires { ⌜ length (now buf) < 2 ^ 17 ⌝ }
+    requires { ⌜ w ≤ 40 ⌝ }
+    ensures { λ r. ⌜ r ≡ gotOf at (readCode w (drop at (fields 8 (now (buf .entry))))) ⌝ }
+{
+    let end = buf.len() * 8;
+    let a = at + w;
+    if end < a {
+        return Got::Bad;
+    }
+    let n = run(buf, a);
+    let b = a + n;
+    if end <= b {
+        return Got::Bad;
+    }
+    let low = bits::get_bits(buf, at, w);
+    let m = low + ((n as u64) << w);
+    if m == 0 {
+        return Got::Code { z: 0, next: b + 1 };
+    }
+    if end <= b + 1 {
+        return Got::Bad;
+    }
+    let s = bits::get_bit(buf, b + 1);
+    Got::Code {
+        z: int::signed(m, s),
+        next: b + 2,
+    }
+}
+
+// Reads numbers from bit `at` on.
+pub(crate) fn get_codes(buf: &[u8], at: usize, w: usize, out: &mut [i64]) -> Next
+    requires { ⌜ at ≤ length (now buf) * 8 ⌝ }
+    requires { ⌜ length (now buf) < 2 ^ 17 ⌝ }
+    requires { ⌜ w ≤ 40 ⌝ }
+    ensures { λ r. ⌜ NextOf at (readCodes w (length (now (out .entry))) (drop at (fields 8 (now (buf .entry))))) r (now (out .exit)) ⌝ }
+{
+    let mut k = at;
+    let mut i: usize = 0;
+    while i < out.len() {
+        match get_code(buf, k, w) {
+            Got::Bad => {
+                return Next::No;
+            }
+            Got::Code { z, next } => {
+                out[i] = z;
+                k = next;
+            }
+        }
+        i += 1;
+    }
+    Next::At(k)
+}

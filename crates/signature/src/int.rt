@@ -1,0 +1,29 @@
+// Signed whole numbers of 64 bits by absolute value and sign.
+ghost use mathlib.Core.Path.{_≡_};
+ghost use Prim.Native.Nat.{_^_, _<_};
+ghost use lib.IntN.{natAbs};
+ghost use Rattle.signature.specs.Code.{negOf, signedOf};
+
+// The absolute value.
+pub(crate) fn mag(z: i64) -> u64
+    requires { ⌜ natAbs z < 2 ^ 63 ⌝ }
+    ensures { λ r. ⌜ r ≡ natAbs z ⌝ }
+{
+    if z < 0 { (-z) as u64 } else { z as u64 }
+}
+
+// 1 where z is negative.
+pub(crate) fn sign(z: i64) -> u64
+    ensures { λ r. ⌜ r ≡ negOf z ⌝ }
+{
+    if z < 0 { 1 } else { 0 }
+}
+
+// The number with absolute value m, below 0 where s is not 0.
+pub(crate) fn signed(m: u64, s: u64) -> i64
+    requires { ⌜ m < 2 ^ 63 ⌝ }
+    ensures { λ r. ⌜ r ≡ signedOf m s ⌝ }
+{
+    let z = m as i64;
+    if s == 0 { z } else { -z }
+}
