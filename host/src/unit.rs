@@ -10,6 +10,7 @@ mod raw {
         pub fn bench_ntt(f: *mut u64) -> bool;
         pub fn bench_product(f: *mut u64, g: *const u64) -> bool;
         pub fn bench_sample_q(header: *const u8, seed: *const u8, seed_len: usize, out: *mut u64) -> bool;
+        pub fn raccoon_sample_challenge(set: u32, bytes: *const u8, bytes_len: usize, signed_bytes_out: *mut i8, signed_bytes_len: usize) -> u32;
         pub fn raccoon_sample_uniform(bytes: *const u8, bytes_len: usize, words_out: *mut u64, words_len: usize) -> u32;
     }
 }
@@ -49,4 +50,9 @@ pub fn sample_q(header: &[u8; 8], seed: &[u8]) -> Option<Poly> {
 /// The uniform sampler over lent bytes: its status. With 0 the words hold the polynomial, else they are as they were.
 pub fn sample_uniform(bytes: &[u8], words: &mut [u64]) -> u32 {
     unsafe { raw::raccoon_sample_uniform(bytes.as_ptr(), bytes.len(), words.as_mut_ptr(), words.len()) }
+}
+
+/// The challenge sampler over lent bytes: its status. With 0 the coefficients hold the polynomial, else they are as they were.
+pub fn sample_challenge(set: u32, bytes: &[u8], coefficients: &mut [i8]) -> u32 {
+    unsafe { raw::raccoon_sample_challenge(set, bytes.as_ptr(), bytes.len(), coefficients.as_mut_ptr(), coefficients.len()) }
 }

@@ -1,6 +1,7 @@
 //! The calls of paper 01 against known answers: name, status, and the SHA-256 of the result.
 
 use koivrast_host::independent::keccak::shake256;
+use koivrast_host::independent::raccoon::{challenge, Edition};
 use koivrast_host::independent::ring::{sample_q, Q};
 use koivrast_host::independent::sha256::sha256;
 use koivrast_host::random::Random;
@@ -96,5 +97,75 @@ fn uniform_sampler_on_any_bytes_and_lengths() {
             _ => "8 -".to_string(),
         };
         assert_eq!(uniform(&bytes, n), expected);
+    }
+}
+
+/// Runs the challenge sampler on n coefficients with guards around them, and gives the answer as the file has it.
+fn challenged(set: u32, bytes: &[u8], n: usize) -> String {
+    const GUARD: i8 = 0x35;
+    let mut coefficients = vec![GUARD; n + 64];
+    let status = unit::sample_challenge(set, bytes, &mut coefficients[32..n + 32]);
+    assert!(coefficients[..32].iter().chain(&coefficients[n + 32..]).all(|&c| c == GUARD));
+    if status == 0 {
+        let result: Vec<u8> = coefficients[32..n + 32].iter().map(|&c| c as u8).collect();
+        return format!("0 {}", hex(&sha256(&result)));
+    }
+    assert!(coefficients.iter().all(|&c| c == GUARD), "a refusal changed the result");
+    format!("{status} -")
+}
+
+/// Draws on the given places, each with its sign bit and the bits above the place.
+fn challenge_draws(places: impl IntoIterator<Item = u16>, sign: u16, high: u16) -> Vec<u8> {
+    places.into_iter().flat_map(|p| (high << 10 | p << 1 | sign).to_le_bytes()).collect()
+}
+
+#[test]
+fn challenge_sampler() {
+    let places = || challenge_draws(0..19, 0, 0);
+    // place 0 again and again, and the other 18 places at the end
+    let full_at = |n: usize| [challenge_draws(vec![0; n - 18], 0, 0), challenge_draws(1..19, 0, 0)].concat();
+    let cases: [(&str, u32, Vec<u8>, usize); 10] = [
+        ("128 challenge no bytes", 128, vec![], 512),
+        ("128 challenge shake", 128, xof("challenge", 2176), 512),
+        ("128 challenge places from 0", 128, places(), 512),
+        ("128 challenge places from 0, one byte short", 128, places()[..37].to_vec(), 512),
+        ("128 challenge signs set", 128, challenge_draws(0..19, 1, 0), 512),
+        ("128 challenge high bits set", 128, challenge_draws(0..19, 0, 0x3f), 512),
+        ("128 challenge full at draw 1088", 128, full_at(1088), 512),
+        ("128 challenge full at draw 1089", 128, full_at(1089), 512),
+        ("128 challenge set 0", 0, xof("challenge", 2176), 512),
+        ("128 challenge result 513", 128, xof("challenge", 2176), 513),
+    ];
+    for (name, set, bytes, n) in cases {
+        assert_eq!(challenged(set, &bytes, n), known(name), "{name}");
+    }
+}
+
+#[test]
+fn challenge_sampler_on_any_bytes_and_lengths() {
+    let mut random = Random(21);
+    for _ in 0..3000 {
+        let length = if random.below(2) == 0 { random.below(200) } else { 2100 + random.below(200) };
+        let mut bytes = random.bytes(length);
+        // few places, so that draws are dropped
+        if random.below(2) == 0 {
+            let mask = [0x1f, 0x3f, 0x7f][random.below(3)];
+            bytes.iter_mut().enumerate().for_each(|(i, b)| *b &= if i % 2 == 0 { mask } else { 0xfc });
+        }
+        let set = [128, 192, 256, 128, 192, 256, 0, 129, u32::MAX][random.below(9)];
+        let n = [0, 511, 512, 512, 512, 512, 513, 2048][random.below(8)];
+        let omega = match set {
+            128 => 19,
+            192 => 31,
+            256 => 44,
+            _ => 0,
+        };
+        let expected = match (omega, n, challenge(Edition::Printed, omega, &bytes)) {
+            (0, _, _) => "1 -".to_string(),
+            (_, 512, Some(c)) => format!("0 {}", hex(&sha256(&c.map(|x| x as u8)))),
+            (_, 512, None) => "11 -".to_string(),
+            _ => "8 -".to_string(),
+        };
+        assert_eq!(challenged(set, &bytes, n), expected);
     }
 }
