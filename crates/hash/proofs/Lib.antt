@@ -10,3 +10,4 @@ pub mod Shape
 pub mod Sponge
 pub mod Table
 pub mod Word
+pub mod Worked

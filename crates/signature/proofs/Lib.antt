@@ -6,12 +6,16 @@ pub mod ChalResult
 pub mod ChalRun
 pub mod Codes
 pub mod Counts
+pub mod Entries
 pub mod Filled
+pub mod Images
 pub mod Lists
 pub mod Norms
 pub mod Packer
 pub mod Packing
 pub mod Parsed
+pub mod Product
+pub mod Rows
 pub mod Signs
 pub mod Strings
 pub mod Trip

@@ -4,3 +4,5 @@ pub mod Bounds
 pub mod Challenge
 pub mod Code
 pub mod Form
+pub mod Masked
+pub mod Matrix

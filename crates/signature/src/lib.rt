@@ -1,7 +1,10 @@
-// Layer 4, signature: byte forms (000, 2.5), challenges (2.4.6), bounds (2.4.4).
+// Layer 4, signature: byte forms (000, 2.5), challenges (2.4.6), bounds (2.4.4), the matrix (2.4.3) and masked products.
 mod bits;
 mod bounds;
 pub mod challenge;
 mod code;
 mod form;
 mod int;
+mod masked;
+mod matrix;
+mod vector;

@@ -1,0 +1,154 @@
+-- Lists that may not be there, one behind the other: if all are there each is a block of the whole. The entries of the matrix (000,
+-- Algorithm 6) are the polynomials of its list.
+use mathlib.Core.Path.{_≡_, refl, sym, ap, _∙_}
+use mathlib.Core.Bool.{true, false}
+use mathlib.Core.List.{List, [], _++_}
+use mathlib.Core.Option.{Option, some, none}
+use Prim.Native.Nat.{ℕ, zero, suc, _+_, _*_, _<_}
+use native.Mathlib.Nat.{not-suc-le-zero}
+use native.Mathlib.Decide.{decLt}
+use native.Mathlib.Numerals.{add-one}
+use native.Mathlib.Omega.{arith}
+use Rattle.ring.specs.Words.{Words}
+use Rattle.ring.specs.Uniform.{heldOf}
+use Rattle.ring.proofs.Draws.{sampleQ-words}
+use Rattle.sharing.specs.Blocks.{block, build}
+use Rattle.sharing.proofs.Lists.{words-build, block-build}
+use Rattle.signature.specs.Matrix.{joinedTo, buildAll, matrixAt, matrixOf, matrixHeader, filled, rowEntry}
+use Rattle.signature.proofs.Product.{block-of}
+
+-- ---- is it there?
+
+pub absurd-bool : {C : Type 0} → true ≡ false → C
+absurd-bool e = let z : _≡_ {A = ℕ} 0 1 = cc in absurd (omega arith)
+
+pub filled-some : (o : Option (List ℕ)) → filled o ≡ true → o ≡ some (heldOf o .poly)
+unfolding filled heldOf
+filled-some none e = absurd-bool (sym e)
+filled-some (some a) e = refl
+
+pub some-filled : (o : Option (List ℕ)) (a : List ℕ) → o ≡ some a → filled o ≡ true
+unfolding filled
+some-filled o a e = ap filled e
+
+pub none-filled : (o : Option (List ℕ)) → o ≡ none → filled o ≡ false
+unfolding filled
+none-filled o e = ap filled e
+
+-- .. as the sampler says it
+pub held-ok : (o : Option (List ℕ)) → heldOf o .ok ≡ filled o
+unfolding filled heldOf
+held-ok none = refl
+held-ok (some a) = refl
+
+joined-yes : (a b : Option (List ℕ)) → filled a ≡ true → filled b ≡ true → filled (joinedTo a b) ≡ true
+unfolding filled
+joined-yes none b e g = e
+joined-yes (some a) none e g = g
+joined-yes (some a) (some b) e g = refl
+
+joined-left : (a b : Option (List ℕ)) → filled a ≡ false → filled (joinedTo a b) ≡ false
+unfolding filled
+joined-left none b e = refl
+joined-left (some a) none e = refl
+joined-left (some a) (some b) e = e
+
+joined-right : (a b : Option (List ℕ)) → filled b ≡ false → filled (joinedTo a b) ≡ false
+unfolding filled
+joined-right none b e = refl
+joined-right (some a) none e = refl
+joined-right (some a) (some b) e = e
+
+-- ---- n of them: none yet, one more, and one that is not there
+
+pub all-none : (f : ℕ → Option (List ℕ)) → filled (buildAll 0 f) ≡ true
+unfolding buildAll filled
+all-none f = refl
+
+pub all-more : (n : ℕ) (f : ℕ → Option (List ℕ)) → filled (buildAll n f) ≡ true → filled (f n) ≡ true → filled (buildAll (n + 1) f) ≡ true
+unfolding buildAll
+all-more n f e g = ap (λ (m : ℕ). filled (buildAll m f)) (add-one n) ∙ joined-yes (buildAll n f) (f n) e g
+
+pub all-not : (n i : ℕ) (f : ℕ → Option (List ℕ)) → i < n → filled (f i) ≡ false → filled (buildAll n f) ≡ false
+unfolding buildAll
+all-not zero i f h e = absurd (not-suc-le-zero h)
+all-not (suc n) i f h e = go (decLt i n) (λ (k : i < n). all-not n i f k e)
+  where
+    go : Dec (i < n) → (i < n → filled (buildAll n f) ≡ false) → filled (joinedTo (buildAll n f) (f n)) ≡ false
+    go (yes k) r = joined-left (buildAll n f) (f n) (r k)
+    go (no k) r =
+        let s : i ≡ n = omega arith in
+        joined-right (buildAll n f) (f n) (ap (λ (j : ℕ). filled (f j)) (sym s) ∙ e)
+
+-- ---- what they are
+
+record Joined (a b : Option (List ℕ)) (c : List ℕ) : Type 0 where
+  pub left : a ≡ some (heldOf a .poly)
+  pub right : b ≡ some (heldOf b .poly)
+  pub both : c ≡ heldOf a .poly ++ heldOf b .poly
+
+joined : (a b : Option (List ℕ)) (c : List ℕ) → joinedTo a b ≡ some c → Joined a b c
+unfolding heldOf filled
+joined none b c e = absurd-bool (sym (ap filled e))
+joined (some a) none c e = absurd-bool (sym (ap filled e))
+joined (some a) (some b) c e = let z : a ++ b ≡ c = cc in record { left = refl; right = refl; both = sym z }
+
+-- if all are there, the whole is built of them
+pub record All (n : ℕ) (f : ℕ → Option (List ℕ)) (A : List ℕ) : Type 0 where
+  pub here : (i : ℕ) → i < n → f i ≡ some (heldOf (f i) .poly)
+  pub whole : A ≡ build n (λ (i : ℕ). heldOf (f i) .poly)
+
+pub all-some : (n : ℕ) (f : ℕ → Option (List ℕ)) (A : List ℕ) → buildAll n f ≡ some A → All n f A
+unfolding buildAll build heldOf
+all-some zero f A e =
+    let z : [] ≡ A = cc in
+    record { here = λ (i : ℕ) (h : i < 0). absurd (not-suc-le-zero h); whole = sym z }
+all-some (suc n) f A e =
+    let j = joined (buildAll n f) (f n) A e in
+    let r = all-some n f (heldOf (buildAll n f) .poly) (j .left) in
+    record {
+      here = λ (i : ℕ) (h : i < suc n). go i h (decLt i n) (r .here i) (j .right);
+      whole = j .both ∙ ap (λ (x : List ℕ). x ++ heldOf (f n) .poly) (r .whole);
+    }
+  where
+    go : (i : ℕ) → i < suc n → Dec (i < n) → (i < n → f i ≡ some (heldOf (f i) .poly)) → f n ≡ some (heldOf (f n) .poly) → f i ≡ some (heldOf (f i) .poly)
+    go i h (yes k) r e = r k
+    go i h (no k) r e =
+        let s : i ≡ n = omega arith in
+        rw s e
+
+-- ---- the matrix
+
+module _ (k l : ℕ) (seed A : List ℕ) (e : matrixOf k l seed ≡ some A) where
+  rows : All k (λ (i : ℕ). buildAll l (matrixAt seed i)) A
+  unfolding matrixOf
+  rows = all-some k (λ (i : ℕ). buildAll l (matrixAt seed i)) A e
+
+  row : (i : ℕ) → i < k → All l (matrixAt seed i) (heldOf (buildAll l (matrixAt seed i)) .poly)
+  row i h = all-some l (matrixAt seed i) (heldOf (buildAll l (matrixAt seed i)) .poly) (rows .here i h)
+
+  entry-words : (i m : ℕ) → i < k → m < l → Words 512 (rowEntry seed i m)
+  unfolding matrixAt
+  entry-words i m hi hm = sampleQ-words (matrixHeader i m) seed (rowEntry seed i m) (row i hi .here m hm)
+
+  row-words : (i : ℕ) → i < k → Words (l * 512) (heldOf (buildAll l (matrixAt seed i)) .poly)
+  row-words i h = rw (row i h .whole) (words-build l (rowEntry seed i) (λ (m : ℕ) (g : m < l). entry-words i m h g))
+
+  pub matrix-words : Words (k * l * 512) A
+  matrix-words =
+      let w : Words (k * (l * 512)) (build k (λ (i : ℕ). heldOf (buildAll l (matrixAt seed i)) .poly)) =
+      words-build k (λ (i : ℕ). heldOf (buildAll l (matrixAt seed i)) .poly) row-words in
+      let n : k * (l * 512) ≡ k * l * 512 = omega arith in
+      rw (rows .whole) (record { long = w .long ∙ n; low = w .low })
+
+  pub entry-is : (i m : ℕ) → i < k → m < l → rowEntry seed i m ≡ block 512 (i * l + m) A
+  entry-is i m hi hm =
+      let R : ℕ → List ℕ = λ (i : ℕ). heldOf (buildAll l (matrixAt seed i)) .poly in
+      let a : block (l * 512) i A ≡ R i =
+      ap (block (l * 512) i) (rows .whole) ∙ block-build (l * 512) k i R (λ (j : ℕ) (h : j < k). row-words j h .long) hi in
+      let b : block 512 m (R i) ≡ rowEntry seed i m =
+      ap (block 512 m) (row i hi .whole) ∙ block-build 512 l m (rowEntry seed i) (λ (j : ℕ) (h : j < l). entry-words i j hi h .long) hm in
+      sym b ∙ ap (block 512 m) (sym a) ∙ block-of l i m A hm
+
+  pub matrix-at : (i m : ℕ) → i < k → m < l → matrixAt seed i m ≡ some (block 512 (i * l + m) A)
+  matrix-at i m hi hm = row i hi .here m hm ∙ ap some (entry-is i m hi hm)

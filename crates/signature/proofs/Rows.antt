@@ -1,0 +1,115 @@
+-- The loops of one row of the masked product: products added share by share, column by column, and turned back. s₀ is the buffer where the
+-- loop begins, s before the turn, t behind it.
+use mathlib.Core.Path.{_≡_, refl, sym, ap, _∙_}
+use mathlib.Core.List.{List}
+use Prim.Native.Nat.{ℕ, _+_, _*_, _≤_, _<_}
+use native.Mathlib.Numerals.{add-one}
+use native.Mathlib.Omega.{arith}
+use Rattle.ring.specs.Words.{addW, Words}
+use Rattle.ring.specs.Transform.{ntt, intt, pointwise}
+use Rattle.ring.proofs.Theorems.{intt-words}
+use Rattle.sharing.specs.Blocks.{zeros, block, build, sumOf}
+use Rattle.sharing.specs.Region.{sub, Wrote}
+use Rattle.sharing.proofs.Lists.{build-ext, block-build, build-zeros, words-build}
+use Rattle.sharing.proofs.Decode.{words-sum, sum-ext}
+use Rattle.sharing.proofs.Regions.{block-sub, wrote-value, wrote-over, wrote-turn}
+use Rattle.sharing.proofs.Turns.{rest}
+use Rattle.signature.specs.Masked.{rowShare, untransformed, accrued, rowSum}
+
+-- products added to the shares at `to`
+module _ (a : List ℕ) (d to at : ℕ) (s₀ : List ℕ) (h : to + d * 512 ≤ at) where
+  pub accrue-turn : (j : ℕ) (s t x y p : List ℕ) → j < d
+      → Wrote 0 to (j * 512) (build j (accrued a (sub s₀ to (d * 512)) (sub s₀ at (d * 512)))) s₀ s
+      → x ≡ sub s (at + j * 512) 512 → y ≡ sub s (to + j * 512) 512 → p ≡ addW y (pointwise a x)
+      → Wrote 0 (to + j * 512) 512 p s t
+      → Wrote 0 to ((j + 1) * 512) (build (j + 1) (accrued a (sub s₀ to (d * 512)) (sub s₀ at (d * 512)))) s₀ t
+  accrue-turn j s t x y p l u ex ey ep v =
+      let f = accrued a (sub s₀ to (d * 512)) (sub s₀ at (d * 512)) in
+      let b : sub s (to + j * 512) 512 ≡ block 512 j (sub s₀ to (d * 512)) = rest 0 512 d to j s₀ s l (build j f) (omega arith) u in
+      let e : sub s (at + j * 512) 512 ≡ sub s₀ (at + j * 512) 512 = u .behind (at + j * 512) 512 (omega arith) (omega arith) in
+      let g : block 512 j (sub s₀ at (d * 512)) ≡ sub s₀ (at + j * 512) 512 = block-sub 512 d j s₀ at l in
+      wrote-turn 512 j f (omega arith) u (wrote-value (cc (ex, ey, ep, b, e, g)) v)
+
+-- ---- the sums over the columns
+
+sum-words : (d : ℕ) (a : ℕ → List ℕ) (X : List ℕ) (m j : ℕ) → Words 512 (rowSum d a X m j)
+unfolding rowSum
+sum-words d a X m j = words-sum 512 m (λ (i : ℕ). pointwise (ntt (a i)) (block 512 j (block (d * 512) i X)))
+
+sum-none : (d : ℕ) (a : ℕ → List ℕ) (X : List ℕ) → build d (rowSum d a X 0) ≡ zeros (d * 512)
+unfolding rowSum sumOf
+sum-none d a X = build-ext d (rowSum d a X 0) (λ (j : ℕ). zeros 512) (λ (j : ℕ) (l : j < d). refl) ∙ build-zeros 512 d
+
+sum-more : (d : ℕ) (a : ℕ → List ℕ) (X : List ℕ) (m j : ℕ)
+    → rowSum d a X (m + 1) j ≡ addW (rowSum d a X m j) (pointwise (ntt (a m)) (block 512 j (block (d * 512) m X)))
+unfolding rowSum sumOf
+sum-more d a X m j = ap (λ (n : ℕ). sumOf 512 n (λ (i : ℕ). pointwise (ntt (a i)) (block 512 j (block (d * 512) i X)))) (add-one m)
+
+module _ (d l to at : ℕ) (a : ℕ → List ℕ) (h : to + d * 512 ≤ at) where
+  -- zero is the sum of no columns
+  pub row-first : (s s₀ : List ℕ) → Wrote 0 to (d * 512) (zeros (d * 512)) s s₀
+      → Wrote 0 to (d * 512) (build d (rowSum d a (sub s₀ at (l * (d * 512))) 0)) s₀ s₀
+  row-first s s₀ z =
+      record {
+        new = z .new ∙ sym (sum-none d a (sub s₀ at (l * (d * 512))));
+        front = λ (b j : ℕ) m n. refl;
+        behind = λ (b j : ℕ) m n. refl;
+        long = refl;
+        low = z .low;
+      }
+
+  -- a column more; b is the transform of its entry
+  pub row-turn : (m : ℕ) (b s₀ s t : List ℕ) → m < l → b ≡ ntt (a m)
+      → Wrote 0 to (d * 512) (build d (rowSum d a (sub s₀ at (l * (d * 512))) m)) s₀ s
+      → Wrote 0 to (d * 512) (build d (accrued b (sub s to (d * 512)) (sub s (at + m * (d * 512)) (d * 512)))) s t
+      → Wrote 0 to (d * 512) (build d (rowSum d a (sub s₀ at (l * (d * 512))) (m + 1))) s₀ t
+  row-turn m b s₀ s t g e u v =
+      let X = sub s₀ at (l * (d * 512)) in
+      let Y = sub s (at + m * (d * 512)) (d * 512) in
+      let y : Y ≡ block (d * 512) m X =
+      u .behind (at + m * (d * 512)) (d * 512) (omega arith) (omega arith) ∙ sym (block-sub (d * 512) l m s₀ at g) in
+      let r : (j : ℕ) → j < d → accrued b (sub s to (d * 512)) Y j ≡ rowSum d a X (m + 1) j =
+      λ (j : ℕ) (i : j < d).
+      let x : block 512 j (sub s to (d * 512)) ≡ rowSum d a X m j =
+      ap (block 512 j) (u .new) ∙ block-build 512 d j (rowSum d a X m) (λ (k : ℕ) (n : k < d). sum-words d a X m k .long) i in
+      let f = sum-more d a X m j in
+      cc (x, y, e, f) in
+      wrote-over u (wrote-value (build-ext d (accrued b (sub s to (d * 512)) Y) (rowSum d a X (m + 1)) r) v)
+
+  -- all columns; s is the buffer before it was cleared
+  pub row-all : (m : ℕ) (s s₀ t : List ℕ) → m ≡ l → Wrote 0 to (d * 512) (zeros (d * 512)) s s₀
+      → Wrote 0 to (d * 512) (build d (rowSum d a (sub s₀ at (l * (d * 512))) m)) s₀ t
+      → Wrote 0 to (d * 512) (build d (rowSum d a (sub s at (l * (d * 512))) l)) s t
+  row-all m s s₀ t e z u =
+      let x : sub s₀ at (l * (d * 512)) ≡ sub s at (l * (d * 512)) = z .behind at (l * (d * 512)) (omega arith) h in
+      wrote-over z (wrote-value (ap (λ (X : List ℕ). build d (rowSum d a X m)) x ∙ ap (λ (n : ℕ). build d (rowSum d a (sub s at (l * (d * 512))) n)) e) u)
+
+-- turned back
+pub row-back : (d l to : ℕ) (a : ℕ → List ℕ) (X s₀ s t : List ℕ) → Wrote 0 to (d * 512) (build d (rowSum d a X l)) s₀ s
+    → Wrote 0 to (d * 512) (untransformed d (sub s to (d * 512))) s t → Wrote 0 to (d * 512) (build d (rowShare d l a X)) s₀ t
+unfolding untransformed rowShare rowSum
+row-back d l to a X s₀ s t u v =
+    let r : (j : ℕ) → j < d → intt (block 512 j (sub s to (d * 512))) ≡ rowShare d l a X j =
+    λ (j : ℕ) (i : j < d).
+    ap intt (ap (block 512 j) (u .new) ∙ block-build 512 d j (rowSum d a X l) (λ (k : ℕ) (n : k < d). sum-words d a X l k .long) i) in
+    wrote-over u (wrote-value (build-ext d (λ (j : ℕ). intt (block 512 j (sub s to (d * 512)))) (rowShare d l a X) r) v)
+
+-- ---- the shares of a row are words, and depend on its entries only
+
+pub row-share-words : (d l : ℕ) (a : ℕ → List ℕ) (X : List ℕ) (j : ℕ) → Words 512 (rowShare d l a X j)
+unfolding rowShare
+row-share-words d l a X j =
+    intt-words (sumOf 512 l (λ (m : ℕ). pointwise (ntt (a m)) (block 512 j (block (d * 512) m X))))
+    (words-sum 512 l (λ (m : ℕ). pointwise (ntt (a m)) (block 512 j (block (d * 512) m X))))
+
+pub row-words : (d l : ℕ) (a : ℕ → List ℕ) (X : List ℕ) → Words (d * 512) (build d (rowShare d l a X))
+row-words d l a X = words-build d (rowShare d l a X) (λ (j : ℕ) (h : j < d). row-share-words d l a X j)
+
+pub row-ext : (d l : ℕ) (a b : ℕ → List ℕ) (X : List ℕ) → ((m : ℕ) → m < l → a m ≡ b m) → build d (rowShare d l a X) ≡ build d (rowShare d l b X)
+unfolding rowShare
+row-ext d l a b X h =
+    build-ext d (rowShare d l a X) (rowShare d l b X)
+    (λ (j : ℕ) (g : j < d).
+    ap intt
+    (sum-ext 512 l (λ (m : ℕ). pointwise (ntt (a m)) (block 512 j (block (d * 512) m X))) (λ (m : ℕ). pointwise (ntt (b m)) (block 512 j (block (d * 512) m X)))
+    (λ (m : ℕ) (i : m < l). ap (λ (x : List ℕ). pointwise (ntt x) (block 512 j (block (d * 512) m X))) (h m i))))

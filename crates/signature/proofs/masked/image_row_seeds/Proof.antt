@@ -1,0 +1,53 @@
+use mathlib.Core.Path.{_≡_, sym, _∙_}
+use mathlib.Core.Bool.{true}
+use native.Mathlib.Omega.{arith}
+use Rattle.sharing.specs.Noise.{seedNoise}
+use Rattle.signature.specs.Matrix.{rowEntry}
+use borrow.Author.Tests.{not-true, not-false}
+use Rattle.signature.proofs.Entries.{absurd-bool}
+use Rattle.signature.proofs.Images.{image-made}
+use borrow.Author.Needs.{needs}
+use Rattle.signature.proofs.masked.image_row_seeds.Statement.{statement}
+use Rattle.signature.proofs.masked.image_row_seeds.Tie as tie
+
+row-at-requires : tie.Need-row-at-requires
+row-at-requires c κs =
+    let p = c .before .before .before .before .pre .1 .0 in
+    (p .1, omega (arith, p .2, p .3), p .4, p .5, p .6)
+
+returns : tie.Need-returns
+returns c =
+    let z = c .before .before .before .row-at .ensures .0 in
+    ((sym (not-true _ (c .if1 .taken)) ∙ z .0, z .1, z .2), λ e. absurd-bool (sym e))
+
+add-rep-noise-at-requires : tie.Need-add-rep-noise-at-requires
+add-rep-noise-at-requires c κs =
+    let a = c .before .before .before .before .before .before .before .before .before in
+    let p = a .pre .1 .0 in
+    let r = a .pre .1 .1 in
+    let z = c .before .before .before .before .row-at .ensures .0 in
+    let n = z .1 in
+    (a .pre .0, ((p .0, omega (arith, n, p .1, p .2, p .3), z .2, r .0), (r .1, p .5, r .2, r .3, r .4)))
+
+decode-at-requires : tie.Need-decode-at-requires
+decode-at-requires c κs =
+    let p = c .before .before .before .before .before .before .before .before .before .before .before .before .before .pre .1 .0 in
+    let v = c .before .before .before .add-rep-noise-at .ensures .0 in
+    let n = v .long ∙ c .before .before .before .before .before .before .before .before .row-at .ensures .0 .1 in
+    (omega (arith, n, p .1, p .2, p .3), omega (arith, n, p .3), v .low)
+
+returns-2 : tie.Need-returns-2
+returns-2 c =
+    let a = c .before .before .before .before .before .before .before .before .before .before .before .before .before .before .before .before in
+    let b = a .args in
+    let p = a .pre .1 .0 in
+    let z = c .before .before .before .before .before .before .before .before .before .before .before .row-at .ensures in
+    let e : c .before .before .before .before .before .before .before .before .before .before .before .row-at .result ≡ true = not-false _ (c .before .before .before .before .before .before .before .before .if1 .left) in
+    let v = c .before .before .before .before .before .before .add-rep-noise-at .ensures in
+    let w = image-made (b .d) (b .l) (b .rep) (b .row) (b .at) (b .to) (b .g) (seedNoise (b .d) (b .rep) (b .u) (b .n) (b .seeds .now) (b .i)) (rowEntry (b .seed .now) (b .i)) (b .s .now) _ _ _ (p .0) (omega (arith, p .1, p .2)) (z .1 e) (v .0) (c .before .before .decode-at .ensures) in
+    ((sym e ∙ z .0 .0, w .long, w .low), λ _. (w, v .1))
+
+pub image-row-seeds-spec : {M : Type 1} → statement M
+image-row-seeds-spec =
+    tie.close (tie.spec row-at-requires (λ c. search needs) returns add-rep-noise-at-requires decode-at-requires
+    (λ c. search needs) returns-2)
