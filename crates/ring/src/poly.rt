@@ -78,6 +78,18 @@ pub fn all_below(s: &[u64], p: u64) -> bool
     true
 }
 
+// p into s, which is as long.
+pub fn copy_into(s: &mut [u64], p: &[u64])
+    requires { ⌜ length (now s) ≡ length (now p) ⌝ }
+    ensures { λ _. ⌜ now (s .exit) ≡ now (p .entry) ⌝ }
+{
+    let mut i: usize = 0;
+    while i < p.len() {
+        s[i] = p[i];
+        i += 1;
+    }
+}
+
 // s + p, place by place, into s.
 pub fn add_into(s: &mut [u64], p: &[u64])
     requires { ⌜ (length (now s) ≡ length (now p)) × Below q (now s) × Below q (now p) ⌝ }

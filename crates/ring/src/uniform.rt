@@ -4,6 +4,7 @@ ghost use Prim.Native.Nat.{min, _*_, _≤_};
 ghost use lib.ListN.{length};
 ghost use Rattle.ring.specs.Words.{Words};
 ghost use Rattle.ring.specs.Uniform.{Gathered, sampledOf, sampleQ, heldOf};
+use crate::poly::copy_into;
 
 // The modulus q (000, Tables 2 to 4).
 const Q: u64 = 549824583172097;
@@ -18,18 +19,6 @@ fn least(x: usize, y: usize) -> usize
     ensures { λ r. ⌜ r ≡ min x y ⌝ }
 {
     if x < y { x } else { y }
-}
-
-// The words of a into out, which has as many.
-fn copy(a: &[u64], out: &mut [u64])
-    requires { ⌜ length (now out) ≡ length (now a) ⌝ }
-    ensures { λ _. ⌜ now (out .exit) ≡ now (a .entry) ⌝ }
-{
-    let mut i: usize = 0;
-    while i < a.len() {
-        out[i] = a[i];
-        i += 1;
-    }
 }
 
 // Draws 0 to n - 1 of b: those below q go into a from the place k on, until its 512 places are full. The new k.
@@ -66,7 +55,7 @@ pub fn sample_uniform(bytes: &[u8], out: &mut [u64]) -> u32
     if k != 512 {
         return 10;
     }
-    copy(&a, out);
+    copy_into(out, &a);
     0
 }
 

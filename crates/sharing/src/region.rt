@@ -6,16 +6,8 @@ ghost use Rattle.ring.specs.Words.{q, addW, subW, Below, Words};
 ghost use Rattle.sharing.specs.Blocks.{zeros};
 ghost use Rattle.sharing.specs.Region.{sub, put, Wrote};
 use ring::poly::add_into;
+use ring::poly::copy_into;
 use ring::poly::sub_into;
-
-fn copy(s: &mut [u64], p: &[u64])
-    requires { ⌜ length (now s) ≡ length (now p) ⌝ }
-    ensures { λ _. ⌜ now (s .exit) ≡ now (p .entry) ⌝ }
-{
-    for i in 0..p.len() {
-        s[i] = p[i];
-    }
-}
 
 // The polynomial at `at`.
 pub fn load(s: &[u64], at: usize) -> [u64; 512]
@@ -24,7 +16,7 @@ pub fn load(s: &[u64], at: usize) -> [u64; 512]
 {
     let e = at + 512;
     let mut p = [0u64; 512];
-    copy(&mut p, &s[at..e]);
+    copy_into(&mut p, &s[at..e]);
     p
 }
 
@@ -34,7 +26,7 @@ pub fn store_at(s: &mut [u64], at: usize, p: &[u64; 512])
     ensures { λ _. ⌜ Wrote 0 at 512 (now (p .entry)) (now (s .entry)) (now (s .exit)) ⌝ }
 {
     let e = at + 512;
-    copy(&mut s[at..e], p);
+    copy_into(&mut s[at..e], p);
 }
 
 // Zero everywhere.

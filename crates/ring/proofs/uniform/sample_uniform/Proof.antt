@@ -21,7 +21,7 @@ returns-3 c =
     let t = c .before .before .before .before .before in
     let g = t .before .before in
     let m = g .before .before in
-    ap (λ (o : List ℕ). (0, o)) (c .before .before .copy .ensures)
+    ap (λ (o : List ℕ). (0, o)) (c .before .before .copy-into .ensures)
     ∙ answered-some _ _ _ (m .before .if1 .left)
     (filled _ _ _ _ _ (g .gather .ensures) (omega (arith, m .least .ensures)) (t .if2 .left))
 

@@ -13,7 +13,7 @@ returns c =
     let s = a .args .s .now in
     let at = a .args .at in
     let k : at + 512 - at ≡ 512 = omega arith in
-    let e : c .before .copy .last .0 ≡ sub s at 512 = rw k at (c .before .copy .ensures) in
+    let e : c .before .copy-into .last .0 ≡ sub s at 512 = rw k at (c .before .copy-into .ensures) in
     (e, rw e (sub-words s at 512 (a .pre .0) (a .pre .1)))
 
 pub load-spec : {M : Type 1} → statement M

@@ -12,7 +12,7 @@ returns c =
     let at = a .args .at in
     let k : at + 512 - at ≡ 512 = omega arith in
     wrote-put at 512 (a .args .p .now) (a .args .s .now) _ (a .pre .0) (search needs) (a .pre .1) (a .pre .2)
-    (put-back (a .args .s .now) at k (c .before .before .copy .ensures))
+    (put-back (a .args .s .now) at k (c .before .before .copy-into .ensures))
 
 pub store-at-spec : {M : Type 1} → statement M
 store-at-spec =
