@@ -1,3 +1,4 @@
+pub mod Asked
 pub mod Canon
 pub mod Canonical
 pub mod ChalBytes
@@ -8,13 +9,16 @@ pub mod Codes
 pub mod Counts
 pub mod Entries
 pub mod Filled
+pub mod Fronts
 pub mod Images
 pub mod Lists
 pub mod Norms
+pub mod Opened
 pub mod Packer
 pub mod Packing
 pub mod Parsed
 pub mod Product
+pub mod Renewed
 pub mod Rows
 pub mod Signs
 pub mod Strings

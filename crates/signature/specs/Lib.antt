@@ -2,7 +2,11 @@ pub mod Answers
 pub mod Bits
 pub mod Bounds
 pub mod Challenge
+pub mod Checks
 pub mod Code
 pub mod Form
+pub mod KeyCalls
+pub mod Keys
 pub mod Masked
 pub mod Matrix
+pub mod Opening

@@ -5,6 +5,7 @@ pub mod challenge;
 mod code;
 mod form;
 mod int;
+pub mod keys;
 mod masked;
 mod matrix;
 mod vector;

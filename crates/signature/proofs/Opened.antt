@@ -1,0 +1,224 @@
+-- Opening (000, Algorithm 15): polynomials that may not fill, one behind the other; parts of a key; the loops over shares.
+use mathlib.Core.Path.{_≡_, refl, sym, ap, subst, _∙_}
+use mathlib.Core.Bool.{Bool, true, false}
+use mathlib.Core.List.{List, _++_}
+use mathlib.Core.Option.{Option, some, none}
+use Prim.Native.Nat.{ℕ, zero, suc, _+_, _-_, _*_, _≤_, _<_}
+use native.Mathlib.Nat.{mul-le-mul}
+use native.Mathlib.Decide.{decLt}
+use native.Mathlib.Numerals.{add-one}
+use native.Mathlib.Omega.{arith}
+use lib.ListN.{length, take, drop, length-drop}
+use lib.Seq.{take-all}
+use Rattle.hash.specs.declared.params.Params.{Params}
+use Rattle.ring.specs.Words.{q, Below}
+use Rattle.ring.specs.Uniform.{heldOf}
+use Rattle.ring.specs.declared.uniform.Sampled.{Sampled}
+use Rattle.sharing.specs.Blocks.{zeros, block, build}
+use Rattle.sharing.specs.Region.{sub, Wrote}
+use Rattle.sharing.proofs.Lists.{zeros-words, inside, build-ext}
+use Rattle.sharing.proofs.Regions.{wrote-start, wrote-turn, wrote-end}
+use Rattle.signature.specs.Matrix.{joinedTo, buildAll, filled}
+use Rattle.signature.specs.Bits.{repack}
+use Rattle.signature.proofs.Packing.{length-repack}
+use Rattle.signature.specs.Keys.{seedBytes, fullShare, seededShare, shareAt, decompressed, expandOf}
+use Rattle.signature.specs.Opening.{Listed, partBytes, openedAt, opened, openedKey}
+use Rattle.signature.specs.KeyCalls.{outcome}
+
+-- ---- the seeds of a key, and the words of an expanded one
+
+module _ (p : Params) (h : Listed p) where
+  pub seeds-low : (p .shares - 1) * seedBytes p ≤ 992
+  seeds-low = let a : p .shares - 1 ≤ 31 = omega (arith, h .shares-low) in omega (arith, mul-le-mul a (h .seed-low))
+
+  pub seed-in : (i : ℕ) → 1 ≤ i → i < p .shares → (i - 1) * seedBytes p + seedBytes p ≤ (p .shares - 1) * seedBytes p
+  seed-in i k l = inside (i - 1) (p .shares - 1) (seedBytes p) (omega arith)
+
+  pub words-few : p .l * (p .shares * 512) ≤ 114688
+  words-few = let a : p .shares * 512 ≤ 16384 = omega (arith, h .shares-low) in omega (arith, mul-le-mul (h .columns-low) a)
+
+  pub share-in : (j i : ℕ) → j < p .l → i < p .shares → j * (p .shares * 512) + i * 512 + 512 ≤ p .l * (p .shares * 512)
+  share-in j i k l = omega (arith, inside j (p .l) (p .shares * 512) k, inside i (p .shares) 512 l)
+
+-- ---- the tail of a list as a part
+
+pub tail-is : (xs : List ℕ) (a : ℕ) → take (length xs - a) (drop a xs) ≡ drop a xs
+tail-is xs a = take-all (length xs - a) (drop a xs) (omega (arith, length-drop a xs))
+
+-- ---- what fills
+
+held-ok : (o : Option (List ℕ)) → heldOf o .ok ≡ filled o
+unfolding heldOf filled
+held-ok none = refl
+held-ok (some a) = refl
+
+joined-both : (a b : Option (List ℕ)) → filled (joinedTo a b) ≡ true → (filled a ≡ true) × (filled b ≡ true)
+unfolding filled
+joined-both none b e = (e, let x : _≡_ {A = ℕ} 0 1 = cc in absurd (omega arith))
+joined-both (some a) none e = (refl, e)
+joined-both (some a) (some b) e = (refl, refl)
+
+both-joined : (a b : Option (List ℕ)) → filled a ≡ true → filled b ≡ true → filled (joinedTo a b) ≡ true
+unfolding filled
+both-joined none b e f = e
+both-joined (some a) none e f = f
+both-joined (some a) (some b) e f = refl
+
+none-joined : (a b : Option (List ℕ)) → filled a ≡ false → filled (joinedTo a b) ≡ false
+unfolding filled
+none-joined none b e = refl
+none-joined (some a) b e = let x : _≡_ {A = ℕ} 0 1 = cc in absurd (omega arith)
+
+joined-none : (a b : Option (List ℕ)) → filled b ≡ false → filled (joinedTo a b) ≡ false
+unfolding filled
+joined-none none b e = refl
+joined-none (some a) none e = refl
+joined-none (some a) (some b) e = let x : _≡_ {A = ℕ} 0 1 = cc in absurd (omega arith)
+
+joined-is : (a b : Option (List ℕ)) (xs : List ℕ) → a ≡ some xs → filled b ≡ true → joinedTo a b ≡ some (xs ++ heldOf b .poly)
+unfolding filled heldOf
+joined-is a none xs e f = let x : _≡_ {A = ℕ} 0 1 = cc in absurd (omega arith)
+joined-is a (some b) xs e f = rw e refl
+
+module _ (f : ℕ → Option (List ℕ)) where
+  pub fill-start : filled (buildAll 0 f) ≡ true
+  unfolding buildAll filled
+  fill-start = refl
+
+  pub fill-turn : (i : ℕ) → filled (buildAll i f) ≡ true → filled (f i) ≡ true → filled (buildAll (i + 1) f) ≡ true
+  unfolding buildAll
+  fill-turn i h g = ap (λ (k : ℕ). filled (buildAll k f)) (add-one i) ∙ both-joined (buildAll i f) (f i) h g
+
+  pub fill-stop : (i n : ℕ) → i < n → filled (f i) ≡ false → filled (buildAll n f) ≡ false
+  unfolding buildAll
+  fill-stop i zero l h = let x : ⊥ = omega arith in absurd x
+  fill-stop i (suc n) l h = go (decLt i n) (λ (m : i < n). fill-stop i n m h)
+    where
+      go : Dec (i < n) → (i < n → filled (buildAll n f) ≡ false) → filled (joinedTo (buildAll n f) (f n)) ≡ false
+      go (yes m) r = none-joined (buildAll n f) (f n) (r m)
+      go (no m) r = let e : i ≡ n = omega arith in joined-none (buildAll n f) (f n) (sym (ap (λ (k : ℕ). filled (f k)) e) ∙ h)
+
+  fill-each : (n : ℕ) → filled (buildAll n f) ≡ true → (i : ℕ) → i < n → filled (f i) ≡ true
+  fill-each n h i l = go (filled (f i)) (fill-stop i n l)
+    where
+      go : (b : Bool) → (b ≡ false → filled (buildAll n f) ≡ false) → b ≡ true
+      go true g = refl
+      go false g = sym (g refl) ∙ h
+
+  built : (n : ℕ) → filled (buildAll n f) ≡ true → buildAll n f ≡ some (build n (λ (i : ℕ). heldOf (f i) .poly))
+  unfolding buildAll build
+  built zero h = refl
+  built (suc n) h =
+      let b = joined-both (buildAll n f) (f n) h in
+      joined-is (buildAll n f) (f n) (build n (λ (i : ℕ). heldOf (f i) .poly)) (built n (b .0)) (b .1)
+
+held-some : (o : Option (List ℕ)) (xs : List ℕ) → o ≡ some xs → heldOf o .poly ≡ xs
+unfolding heldOf
+held-some o xs e = ap (λ (x : Option (List ℕ)). heldOf x .poly) e
+
+module _ (p : Params) (part : List ℕ) where
+  pub first-fills : (j : ℕ) → filled (buildAll 1 (shareAt p part j)) ≡ true
+  unfolding buildAll filled shareAt
+  first-fills j = refl
+
+  share-is : (j i : ℕ) → 1 ≤ i → seededShare p part j i ≡ shareAt p part j i
+  unfolding shareAt
+  share-is j zero h = let x : ⊥ = omega arith in absurd x
+  share-is j (suc i) h = refl
+
+  full-is : (j : ℕ) → block 512 j (fullShare p part) ≡ openedAt p part j 0
+  unfolding shareAt heldOf
+  full-is j = refl
+
+  pub opened-all : filled (decompressed p part) ≡ true → decompressed p part ≡ some (opened p part)
+  unfolding decompressed opened
+  opened-all h =
+      let F : ℕ → Option (List ℕ) = λ (j : ℕ). buildAll (p .shares) (shareAt p part j) in
+      built F (p .l) h
+      ∙ ap some (build-ext (p .l) (λ (j : ℕ). heldOf (F j) .poly) (λ (j : ℕ). build (p .shares) (openedAt p part j))
+      (λ (j : ℕ) (l : j < p .l). held-some (F j) (build (p .shares) (openedAt p part j))
+      (built (shareAt p part j) (p .shares) (fill-each F (p .l) h j l))))
+
+  pub share-fills : (j i : ℕ) (r : Sampled) → 1 ≤ i → r ≡ heldOf (seededShare p part j i) → filled (shareAt p part j i) ≡ r .ok
+  share-fills j i r h e =
+      sym (ap (λ (s : Sampled). s .ok) e ∙ held-ok (seededShare p part j i) ∙ ap filled (share-is j i h))
+
+  pub share-opens : (j i : ℕ) (r : Sampled) → (i ≡ 0 → ⊥) → r ≡ heldOf (seededShare p part j i) → r .poly ≡ openedAt p part j i
+  share-opens j i r h e =
+      let k : 1 ≤ i = omega arith in
+      ap (λ (s : Sampled). s .poly) e ∙ ap (λ (o : Option (List ℕ)). heldOf o .poly) (share-is j i k)
+
+  pub full-opens : (j i : ℕ) (full : List ℕ) → i ≡ 0 → full ≡ fullShare p part → sub full (j * 512) 512 ≡ openedAt p part j i
+  unfolding block
+  full-opens j i full z e = ap (λ (l : List ℕ). sub l (j * 512) 512) e ∙ full-is j ∙ sym (ap (openedAt p part j) z)
+
+  pub full-length : length (fullShare p part) ≡ p .l * 512
+  unfolding fullShare
+  full-length = length-repack 8 49 (p .l * 512) (drop ((p .shares - 1) * seedBytes p) part)
+
+  pub full-made : (out out₀ : List ℕ) → length out₀ ≡ p .l * 512
+      → out ≡ repack 8 49 (length out₀) (take (length part - (p .shares - 1) * seedBytes p) (drop ((p .shares - 1) * seedBytes p) part))
+      → out ≡ fullShare p part
+  unfolding fullShare
+  full-made out out₀ n e = e ∙ cc (n, tail-is part ((p .shares - 1) * seedBytes p))
+
+  -- ---- the loop over the polynomials, from words that are zero
+  abbrev pub polynomial : ℕ → List ℕ
+  polynomial j = build (p .shares) (openedAt p part j)
+
+  pub open-start : (s s₀ : List ℕ) → s ≡ zeros (length s₀) → Wrote 0 0 (0 * (p .shares * 512)) (build 0 polynomial) s s
+  open-start s s₀ e =
+      wrote-start (p .shares * 512) polynomial 0 0 s (subst (λ (l : List ℕ). Below q l) (sym e) (zeros-words (length s₀) .low))
+
+  pub open-turn : (j : ℕ) (s₀ s t : List ℕ) → Wrote 0 0 (j * (p .shares * 512)) (build j polynomial) s₀ s
+      → Wrote 0 (j * (p .shares * 512)) (p .shares * 512) (polynomial j) s t
+      → Wrote 0 0 ((j + 1) * (p .shares * 512)) (build (j + 1) polynomial) s₀ t
+  open-turn j s₀ s t u w =
+      let k : j * (p .shares * 512) ≡ 0 + j * (p .shares * 512) = omega arith in
+      wrote-turn (p .shares * 512) j polynomial (omega arith) u
+      (subst (λ (a : ℕ). Wrote 0 a (p .shares * 512) (polynomial j) s t) k w)
+
+  pub open-end : (j : ℕ) (s₀ s : List ℕ) → j ≡ p .l → length s ≡ p .l * (p .shares * 512)
+      → Wrote 0 0 (j * (p .shares * 512)) (build j polynomial) s₀ s → s ≡ opened p part
+  unfolding opened
+  open-end j s₀ s e n u =
+      let w = wrote-end (p .shares * 512) polynomial e u in
+      sym (take-all (p .l * (p .shares * 512)) s (omega arith)) ∙ w .new
+
+-- ---- the key
+
+pub not-filled : (o : Option (List ℕ)) → filled o ≡ false → o ≡ none
+unfolding filled
+not-filled none e = refl
+not-filled (some a) e = let x : _≡_ {A = ℕ} 0 1 = cc in absurd (omega arith)
+
+module _ (p : Params) (h : Listed p) (key : List ℕ) (n : length key ≡ p .«sk_bytes») where
+  pub vk-in : p .«vk_bytes» ≤ length key
+  vk-in = omega (arith, h .sk)
+
+  pub part-long : length (take (length key - p .«vk_bytes») (drop (p .«vk_bytes») key)) ≡ partBytes p
+  part-long =
+      ap (λ (l : List ℕ). length l) (tail-is key (p .«vk_bytes»)) ∙ length-drop (p .«vk_bytes») key ∙ omega (arith, h .sk)
+
+  pub part-low : Below q (fullShare p (drop (p .«vk_bytes») key)) → Below q (fullShare p (take (length key - p .«vk_bytes») (drop (p .«vk_bytes») key)))
+  part-low b = subst (λ (l : List ℕ). Below q (fullShare p l)) (sym (tail-is key (p .«vk_bytes»))) b
+
+module _ (p : Params) (key bytes words : List ℕ) (r : Bool)
+    (e : r ≡ filled (decompressed p (take (length key - p .«vk_bytes») (drop (p .«vk_bytes») key)))) where
+  fills : r ≡ filled (expandOf p key)
+  unfolding expandOf
+  fills = e ∙ ap (λ (l : List ℕ). filled (decompressed p l)) (tail-is key (p .«vk_bytes»))
+
+  pub key-unfilled : r ≡ false → outcome 10 bytes words ≡ openedKey p key bytes words
+  unfolding openedKey
+  key-unfilled z = simp (sym fills ∙ z)
+
+  pub key-opened : r ≡ true → (b w : List ℕ) → b ≡ take (p .«vk_bytes» - 0) key
+      → w ≡ opened p (take (length key - p .«vk_bytes») (drop (p .«vk_bytes») key)) → outcome 0 b w ≡ openedKey p key bytes words
+  unfolding openedKey
+  key-opened z b w eb ew =
+      let k : p .«vk_bytes» - 0 ≡ p .«vk_bytes» = omega arith in
+      let fb : b ≡ take (p .«vk_bytes») key = eb ∙ ap (λ (m : ℕ). take m key) k in
+      let fw : w ≡ opened p (drop (p .«vk_bytes») key) = ew ∙ ap (opened p) (tail-is key (p .«vk_bytes»)) in
+      let m : outcome 0 (take (p .«vk_bytes») key) (opened p (drop (p .«vk_bytes») key)) ≡ openedKey p key bytes words = simp (sym fills ∙ z) in
+      (λ i. outcome 0 (fb i) (fw i)) ∙ m

@@ -1,0 +1,28 @@
+use mathlib.Core.Path.{sym, ap, subst, _∙_}
+use mathlib.Core.List.{List}
+use Prim.Native.Nat.{ℕ, _*_}
+use Rattle.ring.specs.Words.{Words}
+use Rattle.sharing.specs.Encoding.{refreshed}
+use Rattle.sharing.specs.Masks.{masks}
+use Rattle.sharing.specs.declared.masks.MaskGen.{MaskGen}
+use borrow.Author.Needs.{needs}
+use Rattle.signature.proofs.keys.renew.Statement.{statement}
+use Rattle.signature.proofs.keys.renew.Tie as tie
+
+refresh-words-requires : tie.Need-refresh-words-requires
+refresh-words-requires c κs =
+    let a = c .before .before .before .before .before .before .before .before .before .before .before .before .before .before .before in
+    (subst (λ (x : List ℕ). Words (a .args .l * (a .args .d * 512)) x) (sym (c .before .before .before .before .copy-words .ensures)) (a .pre .0), a .pre .1 .1)
+
+returns : tie.Need-returns
+returns c =
+    let a = c .before .before .before .before .before .before .before .before .before .before .before .before .before .before .before .before .before .before .args in
+    let g = ap (λ (h : MaskGen). refreshed masks (a .d) h (a .l) (a .words .now)) (c .before .before .before .start .ensures) in (
+      c .before .before .before .before .before .before .before .before .before .before .before .copy-bytes .ensures,
+      c .before .before .refresh-words .ensures ∙ ap (refreshed masks (a .d) (c .before .before .before .start .result) (a .l)) (c .before .before .before .before .before .before .before .copy-words .ensures) ∙ g,
+    )
+
+pub renew-spec : {M : Type 1} → statement M
+renew-spec =
+    tie.close (tie.spec (λ c κs. search needs) (λ c κs. search needs) (λ c κs. search needs) refresh-words-requires
+    (λ c. search needs) (λ c. search needs) returns)

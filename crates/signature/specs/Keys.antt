@@ -1,0 +1,106 @@
+-- Keys: byte forms (000, 2.5.2 and 2.5.3), MaskCompress and MaskDecompress (Algorithms 14 and 15), KeyGen (Algorithm 1).
+use mathlib.Core.List.{List, [], _∷_, _++_}
+use mathlib.Core.Option.{Option, some, none}
+use Prim.Native.Nat.{ℕ, zero, suc, _+_, _-_, _*_, _/_}
+use lib.ListN.{take, drop}
+use Rattle.hash.specs.declared.params.Edition.{Edition}
+use Rattle.hash.specs.declared.params.Params.{Params}
+use Rattle.ring.specs.Words.{addW, subW}
+use Rattle.ring.specs.Transform.{ntt}
+use Rattle.ring.specs.Round.{roundT}
+use Rattle.ring.specs.Uniform.{sampleQ}
+use Rattle.sharing.specs.Blocks.{block, build, totals, each}
+use Rattle.sharing.specs.Encoding.{refreshed}
+use Rattle.sharing.specs.Masks.{masks, maskStart}
+use Rattle.sharing.specs.Noise.{noiseBytes}
+use Rattle.sharing.specs.declared.masks.MaskGen.{MaskGen}
+use Rattle.signature.specs.Bits.{repack}
+use Rattle.signature.specs.Matrix.{buildAll, matrix}
+use Rattle.signature.specs.Masked.{seeded, maskedNoise, maskedImage}
+
+-- ---- the public key: the seed of the matrix, then t at 7 bits a coefficient
+
+abbrev pub seedBytes : Params → ℕ
+seedBytes p = p .kappa / 8
+
+unfoldable pub vkSeed : Params → List ℕ → List ℕ
+vkSeed p key = take (seedBytes p) key
+
+unfoldable pub vkVector : Params → List ℕ → List ℕ
+vkVector p key = repack 8 7 (p .k * 512) (take (p .k * 448) (drop (seedBytes p) key))
+
+unfoldable pub publicKey : Params → List ℕ → List ℕ → List ℕ
+publicKey p seed t = seed ++ repack 7 8 (p .k * 448) t
+
+-- ---- the share part of a signing key, behind the public key: d - 1 seeds, then one share at 49 bits a coefficient
+
+unfoldable pub fullShare : Params → List ℕ → List ℕ
+fullShare p part = repack 8 49 (p .l * 512) (drop ((p .shares - 1) * seedBytes p) part)
+
+-- the header of share i of polynomial j: as printed, and in the response files
+abbrev pub shareHeader : Edition → ℕ → ℕ → List ℕ
+shareHeader Edition.Printed i j = 75 ∷ i ∷ j ∷ 0 ∷ 0 ∷ 0 ∷ 0 ∷ 0 ∷ []
+shareHeader Edition.Kat i j = 75 ∷ j ∷ i ∷ 0 ∷ 0 ∷ 0 ∷ 0 ∷ 0 ∷ []
+
+-- share i, from 1, of polynomial j, expanded from its seed
+unfoldable pub seededShare : Params → List ℕ → ℕ → ℕ → Option (List ℕ)
+seededShare p seeds j i = sampleQ (shareHeader (p .edition) i j) (block (seedBytes p) (i - 1) seeds)
+
+-- Algorithm 15: polynomial by polynomial, the full share first
+unfoldable pub shareAt : Params → List ℕ → ℕ → ℕ → Option (List ℕ)
+shareAt p part j zero = some (block 512 j (fullShare p part))
+shareAt p part j (suc i) = seededShare p part j (suc i)
+
+unfoldable pub decompressed : Params → List ℕ → Option (List ℕ)
+decompressed p part = buildAll (p .l) (λ (j : ℕ). buildAll (p .shares) (shareAt p part j))
+
+-- Algorithm 14 at polynomial j, of the sharing xs: x := s_0, then x - r + s_i for the shares i from 1
+abbrev pub exchanged : List ℕ → Option (List ℕ) → Option (List ℕ) → Option (List ℕ)
+exchanged s none r = none
+exchanged s (some x) none = none
+exchanged s (some x) (some r) = some (addW (subW x r) s)
+
+unfoldable pub collected : Params → List ℕ → List ℕ → ℕ → ℕ → Option (List ℕ)
+collected p seeds xs j zero = some (block 512 0 xs)
+collected p seeds xs j (suc i) = exchanged (block 512 (suc i) xs) (collected p seeds xs j i) (seededShare p seeds j (suc i))
+
+unfoldable pub compressed : Params → List ℕ → List ℕ → Option (List ℕ)
+compressed p seeds s = buildAll (p .l) (λ (j : ℕ). collected p seeds (block (p .shares * 512) j s) j (p .shares - 1))
+
+-- ---- Algorithm 1
+
+-- what key generation is lent: the matrix seed, one noise tape, d - 1 share seeds
+abbrev pub keygenBytes : Params → ℕ
+keygenBytes p = seedBytes p + noiseBytes p + (p .shares - 1) * seedBytes p
+
+abbrev pub noisePart : Params → List ℕ → List ℕ
+noisePart p seeds = take (noiseBytes p) (drop (seedBytes p) seeds)
+
+abbrev pub sharePart : Params → List ℕ → List ℕ
+sharePart p seeds = drop (seedBytes p + noiseBytes p) seeds
+
+-- the shares of s in the transform domain, and t
+unfoldable pub keyShares : Params → List ℕ → MaskGen → List ℕ
+keyShares p tape g = build (p .l) (λ (i : ℕ). each (p .shares) ntt (block (p .shares * 512) i (maskedNoise p (seeded p (p .ut) tape) g)))
+
+unfoldable pub keyVector : Params → List ℕ → MaskGen → List ℕ → List ℕ
+keyVector p tape g A = roundT (totals (p .k) (p .shares) (maskedImage p (seeded p (p .ut) tape) g A))
+
+-- the signing key, if matrix and share seeds fill
+abbrev madeKey : Params → List ℕ → MaskGen → Option (List ℕ) → Option (List ℕ) → Option (List ℕ)
+madeKey p seeds g none x = none
+madeKey p seeds g (some A) none = none
+madeKey p seeds g (some A) (some x) =
+    some (publicKey p (vkSeed p seeds) (keyVector p (noisePart p seeds) g A) ++ (sharePart p seeds ++ repack 49 8 (p .l * 3136) x))
+
+unfoldable pub keygenOf : Params → List ℕ → List ℕ → Option (List ℕ)
+keygenOf p seeds mask =
+    madeKey p seeds (maskStart mask) (matrix p (vkSeed p seeds)) (compressed p (sharePart p seeds) (keyShares p (noisePart p seeds) (maskStart mask)))
+
+-- ---- expanding and refreshing (01: opening, refreshing)
+
+unfoldable pub expandOf : Params → List ℕ → Option (List ℕ)
+expandOf p key = decompressed p (drop (p .«vk_bytes») key)
+
+unfoldable pub refreshOf : Params → List ℕ → List ℕ → List ℕ
+refreshOf p words mask = refreshed masks (p .shares) (maskStart mask) (p .l) words

@@ -1,0 +1,40 @@
+-- Opening a key (01: opening; 000, Algorithm 15): the sizes of a record of the table, and the shares one by one.
+use mathlib.Core.Path.{_≡_}
+use mathlib.Core.List.{List}
+use Prim.Native.Nat.{ℕ, _+_, _-_, _*_, _^_, _≤_}
+use lib.ListN.{take, drop}
+use Rattle.hash.specs.Lists.{pick}
+use Rattle.hash.specs.Params.{orderIndex}
+use Rattle.hash.specs.declared.params.Params.{Params}
+use Rattle.ring.specs.Uniform.{heldOf}
+use Rattle.sharing.specs.Blocks.{build}
+use Rattle.signature.specs.Matrix.{filled}
+use Rattle.signature.specs.Keys.{seedBytes, shareAt, expandOf}
+use Rattle.signature.specs.KeyCalls.{Outcome, outcome}
+
+-- what every record of the table has
+pub record Listed (p : Params) : Type 0 where
+  pub vk : p .«vk_bytes» ≡ seedBytes p + p .k * 448
+  pub sk : p .«sk_bytes» ≡ p .«vk_bytes» + (p .shares - 1) * seedBytes p + p .l * 3136
+  pub rows-low : p .k ≤ 9
+  pub columns-low : p .l ≤ 7
+  pub shares-pos : 1 ≤ p .shares
+  pub shares-low : p .shares ≤ 32
+  pub power : p .shares ≡ 2 ^ orderIndex (p .shares)
+  pub seed-low : seedBytes p ≤ 32
+
+-- the bytes behind the public key: d - 1 seeds and one share
+abbrev pub partBytes : Params → ℕ
+partBytes p = (p .shares - 1) * seedBytes p + p .l * 3136
+
+-- share i of polynomial j, zero where it does not fill; all of them
+abbrev pub openedAt : Params → List ℕ → ℕ → ℕ → List ℕ
+openedAt p part j i = heldOf (shareAt p part j i) .poly
+
+unfoldable pub opened : Params → List ℕ → List ℕ
+opened p part = build (p .l) (λ (j : ℕ). build (p .shares) (openedAt p part j))
+
+-- what the call leaves where only question 10 is open
+unfoldable pub openedKey : Params → List ℕ → List ℕ → List ℕ → Outcome
+openedKey p key bytes words =
+    pick (filled (expandOf p key)) (outcome 0 (take (p .«vk_bytes») key) (opened p (drop (p .«vk_bytes») key))) (outcome 10 bytes words)

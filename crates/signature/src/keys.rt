@@ -1,0 +1,357 @@
+// Keys: opening and refreshing (01, "Questions put to a call"; 000, Algorithms 11 and 15). A call puts its questions in their order; the
+// first no is its status, and the results are then as they were.
+ghost use mathlib.Core.Path.{_≡_};
+ghost use Prim.Native.Nat.{_+_, _*_, _^_, _≤_, _<_};
+ghost use lib.Dec.{eqb};
+ghost use lib.ListN.{length, take, drop};
+ghost use Rattle.hash.specs.Params.{orderIndex};
+ghost use Rattle.ring.specs.Words.{q, Below, Words, allBelow};
+ghost use Rattle.ring.specs.Uniform.{heldOf};
+ghost use Rattle.sharing.specs.Blocks.{build};
+ghost use Rattle.sharing.specs.Region.{Wrote};
+ghost use Rattle.sharing.specs.Encoding.{refreshed};
+ghost use Rattle.sharing.specs.Masks.{masks, maskStart};
+ghost use Rattle.signature.specs.Bits.{repack};
+ghost use Rattle.signature.specs.Checks.{both};
+ghost use Rattle.signature.specs.Matrix.{buildAll, filled};
+ghost use Rattle.signature.specs.Keys.{fullShare, shareHeader, seededShare, shareAt, decompressed};
+ghost use Rattle.signature.specs.Opening.{Listed, partBytes, openedAt, opened, openedKey};
+ghost use Rattle.signature.specs.KeyCalls.{outcome, expandNo, expandCall, refreshNo, refreshCall};
+use crate::bits::unpack;
+use hash::params::Edition;
+use hash::params::Params;
+use hash::params::Selected;
+use hash::params::lookup;
+use ring::poly::all_below;
+use ring::uniform::Sampled;
+use ring::uniform::sample_q;
+use sharing::encoding::zero_encoding_at;
+use sharing::masks::MaskGen;
+use sharing::masks::start;
+use sharing::region::clear;
+use sharing::region::load;
+use sharing::region::store_at;
+use sharing::shares::add_shares_at;
+
+// The modulus q (000, Tables 2 to 4).
+const Q: u64 = 549824583172097;
+
+fn copy_bytes(a: &[u8], out: &mut [u8])
+    requires { ⌜ length (now out) ≡ length (now a) ⌝ }
+    ensures { λ _. ⌜ now (out .exit) ≡ now (a .entry) ⌝ }
+{
+    let mut i: usize = 0;
+    while i < a.len() {
+        out[i] = a[i];
+        i += 1;
+    }
+}
+
+fn copy_words(a: &[u64], out: &mut [u64])
+    requires { ⌜ length (now out) ≡ length (now a) ⌝ }
+    ensures { λ _. ⌜ now (out .exit) ≡ now (a .entry) ⌝ }
+{
+    let mut i: usize = 0;
+    while i < a.len() {
+        out[i] = a[i];
+        i += 1;
+    }
+}
+
+// Question 4: are the k * 512 coefficients of t, 7 bits each behind the n bytes of the seed, below 125?
+fn public_key_good(key: &[u8], n: usize, k: usize) -> bool
+    requires { ⌜ (n + k * 448 ≤ length (now key)) × (k ≤ 9) ⌝ }
+    ensures { λ r. ⌜ r ≡ allBelow 125 (repack 8 7 (k * 512) (take (k * 448) (drop n (now (key .entry))))) ⌝ }
+{
+    let mut t = [0u64; 4608];
+    let m = k * 512;
+    let e = n + k * 448;
+    unpack(&key[n..e], 7, &mut t[0..m]);
+    all_below(&t[0..m], 125)
+}
+
+// Questions 3 and 8, of an expanded key: are there vk bytes and n words?
+fn sized(vk: usize, n: usize, bytes: &[u8], words: &[u64]) -> bool
+    ensures { λ r. ⌜ r ≡ both (eqb (length (now (bytes .entry))) vk) (eqb (length (now (words .entry))) n) ⌝ }
+{
+    if bytes.len() != vk {
+        return false;
+    }
+    words.len() == n
+}
+
+// The first no of refreshing behind the look-up, or 0.
+fn refresh_no(
+    p: Params,
+    bytes: &[u8],
+    words: &[u64],
+    mask_seed: &[u8],
+    bytes_out: &[u8],
+    words_out: &[u64],
+) -> u32
+    requires { ⌜ Listed p ⌝ }
+    ensures { λ r. ⌜ r ≡ refreshNo p (now (bytes .entry)) (now (words .entry)) (now («mask_seed» .entry)) (now («bytes_out» .entry)) (now («words_out» .entry)) ⌝ }
+{
+    let vk = p.vk_bytes;
+    let n = p.l * (p.shares * 512);
+    if !sized(vk, n, bytes, words) {
+        return 3;
+    }
+    if !public_key_good(bytes, p.kappa / 8, p.k) {
+        return 4;
+    }
+    if !all_below(words, Q) {
+        return 5;
+    }
+    if mask_seed.len() != 32 {
+        return 7;
+    }
+    if !sized(vk, n, bytes_out, words_out) {
+        return 8;
+    }
+    0
+}
+
+// Algorithm 11 at each of l sharings, each with a zero encoding of its own.
+fn refresh_words(s: &mut [u64], l: usize, d: usize, g: MaskGen)
+    requires { ⌜ Words (l * (d * 512)) (now s) ⌝ }
+    requires { ⌜ (d ≡ 2 ^ orderIndex d) × (d ≤ 32) ⌝ }
+    ensures { λ _. ⌜ now (s .exit) ≡ refreshed masks d g l (now (s .entry)) ⌝ }
+{
+    let mut x = g;
+    let mut z = [0u64; 16384];
+    for i in 0..l {
+        let a = i * (d * 512);
+        x = zero_encoding_at(&mut z, 0, d, x);
+        add_shares_at(s, a, &z, 0, d);
+    }
+}
+
+// The results of refreshing: the bytes as they are, the words refreshed.
+fn renew(
+    l: usize,
+    d: usize,
+    bytes: &[u8],
+    words: &[u64],
+    mask_seed: &[u8],
+    bytes_out: &mut [u8],
+    words_out: &mut [u64],
+)
+    requires { ⌜ Words (l * (d * 512)) (now words) ⌝ }
+    requires { ⌜ (length (now «bytes_out») ≡ length (now bytes)) × (length (now «words_out») ≡ length (now words)) ⌝ }
+    requires { ⌜ (d ≡ 2 ^ orderIndex d) × (d ≤ 32) ⌝ }
+    ensures { λ _. ⌜ (now («bytes_out» .exit) ≡ now (bytes .entry)) × (now («words_out» .exit) ≡ refreshed masks d (maskStart (now («mask_seed» .entry))) l (now (words .entry))) ⌝ }
+{
+    copy_bytes(bytes, bytes_out);
+    copy_words(words, words_out);
+    refresh_words(words_out, l, d, start(mask_seed));
+}
+
+// Refreshing an expanded key (01, "Questions put to a call": 1 to 5, 7, 8).
+pub fn refresh_key(
+    set: u64,
+    shares: u64,
+    bytes: &[u8],
+    words: &[u64],
+    mask_seed: &[u8],
+    bytes_out: &mut [u8],
+    words_out: &mut [u64],
+) -> u32
+    ensures { λ r. ⌜ outcome r (now («bytes_out» .exit)) (now («words_out» .exit)) ≡ refreshCall set shares (now (bytes .entry)) (now (words .entry)) (now («mask_seed» .entry)) (now («bytes_out» .entry)) (now («words_out» .entry)) ⌝ }
+{
+    match lookup(set, shares, Edition::Printed) {
+        Selected::NoSet => 1,
+        Selected::NoShares => 2,
+        Selected::Found(p) => {
+            let k = refresh_no(p, bytes, words, mask_seed, bytes_out, words_out);
+            if k == 0 {
+                renew(p.l, p.shares, bytes, words, mask_seed, bytes_out, words_out);
+            }
+            k
+        }
+    }
+}
+
+// The header of share i of polynomial j (000, Algorithm 15, in both editions).
+fn share_header(edition: Edition, i: usize, j: usize) -> [u8; 8]
+    requires { ⌜ (i < 256) × (j < 256) ⌝ }
+    ensures { λ r. ⌜ r ≡ shareHeader edition i j ⌝ }
+{
+    match edition {
+        Edition::Printed => [75u8, i as u8, j as u8, 0, 0, 0, 0, 0],
+        Edition::Kat => [75u8, j as u8, i as u8, 0, 0, 0, 0, 0],
+    }
+}
+
+// Share i, from 1, of polynomial j, expanded from its seed.
+fn seeded_share(p: Params, part: &[u8], j: usize, i: usize) -> Sampled
+    requires { ⌜ Listed p × (length (now part) ≡ partBytes p) × (j < p .l) × (1 ≤ i) × (i < p .shares) ⌝ }
+    ensures { λ r. ⌜ (r ≡ heldOf (seededShare p (now (part .entry)) j i)) × Words 512 (r .poly) ⌝ }
+{
+    let n = p.kappa / 8;
+    let a = (i - 1) * n;
+    let e = a + n;
+    let edition = p.edition;
+    let header = share_header(edition, i, j);
+    sample_q(&header, &part[a..e])
+}
+
+// Question 10 for polynomial j: do all of its seeded shares fill?
+fn polynomial_fills(p: Params, part: &[u8], j: usize) -> bool
+    requires { ⌜ Listed p × (length (now part) ≡ partBytes p) × (j < p .l) ⌝ }
+    ensures { λ r. ⌜ r ≡ filled (buildAll (p .shares) (shareAt p (now (part .entry)) j)) ⌝ }
+{
+    let d = p.shares;
+    for i in 1..d {
+        let x = seeded_share(p, part, j, i);
+        if !x.ok {
+            return false;
+        }
+    }
+    true
+}
+
+// Question 10: do all seeded shares fill?
+fn shares_fill(p: Params, part: &[u8]) -> bool
+    requires { ⌜ Listed p × (length (now part) ≡ partBytes p) ⌝ }
+    ensures { λ r. ⌜ r ≡ filled (decompressed p (now (part .entry))) ⌝ }
+{
+    let l = p.l;
+    for j in 0..l {
+        if !polynomial_fills(p, part, j) {
+            return false;
+        }
+    }
+    true
+}
+
+// The full share, 49 bits a coefficient behind the seeds.
+fn full_share(p: Params, part: &[u8], out: &mut [u64])
+    requires { ⌜ Listed p × (length (now part) ≡ partBytes p) × (length (now out) ≡ p .l * 512) ⌝ }
+    ensures { λ _. ⌜ now (out .exit) ≡ fullShare p (now (part .entry)) ⌝ }
+{
+    let a = (p.shares - 1) * (p.kappa / 8);
+    unpack(&part[a..], 49, out);
+}
+
+// Question 5: are the words of the full share below q?
+fn full_share_good(p: Params, part: &[u8]) -> bool
+    requires { ⌜ Listed p × (length (now part) ≡ partBytes p) ⌝ }
+    ensures { λ r. ⌜ r ≡ allBelow q (fullShare p (now (part .entry))) ⌝ }
+{
+    let mut full = [0u64; 3584];
+    let n = p.l * 512;
+    full_share(p, part, &mut full[0..n]);
+    all_below(&full[0..n], Q)
+}
+
+// Share i of polynomial j: the full one is share 0.
+fn share_at(p: Params, part: &[u8], full: &[u64], j: usize, i: usize) -> [u64; 512]
+    requires { ⌜ Listed p × (length (now part) ≡ partBytes p) × (j < p .l) × (i < p .shares) ⌝ }
+    requires { ⌜ (now full ≡ fullShare p (now part)) × Words (p .l * 512) (now full) ⌝ }
+    ensures { λ r. ⌜ (r ≡ openedAt p (now (part .entry)) j i) × Words 512 r ⌝ }
+{
+    if i == 0 {
+        return load(full, j * 512);
+    }
+    let s = seeded_share(p, part, j, i);
+    s.poly
+}
+
+// The shares of polynomial j (000, Algorithm 15).
+fn open_polynomial(p: Params, part: &[u8], full: &[u64], j: usize, out: &mut [u64])
+    requires { ⌜ Listed p × (length (now part) ≡ partBytes p) × (j < p .l) ⌝ }
+    requires { ⌜ (now full ≡ fullShare p (now part)) × Words (p .l * 512) (now full) × Words (p .l * (p .shares * 512)) (now out) ⌝ }
+    ensures { λ _. ⌜ Wrote 0 (j * (p .shares * 512)) (p .shares * 512) (build (p .shares) (openedAt p (now (part .entry)) j)) (now (out .entry)) (now (out .exit)) ⌝ }
+{
+    let d = p.shares;
+    for i in 0..d {
+        let x = share_at(p, part, full, j, i);
+        store_at(out, j * (d * 512) + i * 512, &x);
+    }
+}
+
+// .. of all polynomials, over words that are zero.
+fn open_all(p: Params, part: &[u8], full: &[u64], out: &mut [u64])
+    requires { ⌜ Listed p × (length (now part) ≡ partBytes p) ⌝ }
+    requires { ⌜ (now full ≡ fullShare p (now part)) × Words (p .l * 512) (now full) × (length (now out) ≡ p .l * (p .shares * 512)) ⌝ }
+    ensures { λ _. ⌜ now (out .exit) ≡ opened p (now (part .entry)) ⌝ }
+{
+    let l = p.l;
+    clear(out);
+    for j in 0..l {
+        open_polynomial(p, part, full, j, out);
+    }
+}
+
+// MaskDecompress (000, Algorithm 15), where all seeded shares fill.
+fn open_shares(p: Params, part: &[u8], out: &mut [u64])
+    requires { ⌜ Listed p × (length (now part) ≡ partBytes p) ⌝ }
+    requires { ⌜ (length (now out) ≡ p .l * (p .shares * 512)) × Below q (fullShare p (now part)) ⌝ }
+    ensures { λ _. ⌜ now (out .exit) ≡ opened p (now (part .entry)) ⌝ }
+{
+    let mut full = [0u64; 3584];
+    let n = p.l * 512;
+    full_share(p, part, &mut full[0..n]);
+    open_all(p, part, &full[0..n], out);
+}
+
+// The first no of expanding behind the look-up, but question 10, or 0.
+fn expand_no(p: Params, key: &[u8], bytes_out: &[u8], words_out: &[u64]) -> u32
+    requires { ⌜ Listed p ⌝ }
+    ensures { λ r. ⌜ r ≡ expandNo p (now (key .entry)) (now («bytes_out» .entry)) (now («words_out» .entry)) ⌝ }
+{
+    let vk = p.vk_bytes;
+    if key.len() != p.sk_bytes {
+        return 3;
+    }
+    if !public_key_good(key, p.kappa / 8, p.k) {
+        return 4;
+    }
+    if !full_share_good(p, &key[vk..]) {
+        return 5;
+    }
+    if !sized(vk, p.l * (p.shares * 512), bytes_out, words_out) {
+        return 8;
+    }
+    0
+}
+
+// Question 10, before anything is written; then the results of expanding: the public key's bytes, and the words of all shares.
+fn open_key(p: Params, key: &[u8], bytes_out: &mut [u8], words_out: &mut [u64]) -> u32
+    requires { ⌜ Listed p × (length (now key) ≡ p .«sk_bytes») × Below q (fullShare p (drop (p .«vk_bytes») (now key))) ⌝ }
+    requires { ⌜ (length (now «bytes_out») ≡ p .«vk_bytes») × (length (now «words_out») ≡ p .l * (p .shares * 512)) ⌝ }
+    ensures { λ r. ⌜ outcome r (now («bytes_out» .exit)) (now («words_out» .exit)) ≡ openedKey p (now (key .entry)) (now («bytes_out» .entry)) (now («words_out» .entry)) ⌝ }
+{
+    let vk = p.vk_bytes;
+    if !shares_fill(p, &key[vk..]) {
+        return 10;
+    }
+    copy_bytes(&key[0..vk], bytes_out);
+    open_shares(p, &key[vk..], words_out);
+    0
+}
+
+// Expanding a signing key (01, "Questions put to a call": 1 to 5, 8, 10).
+pub fn expand_key(
+    set: u64,
+    shares: u64,
+    edition: Edition,
+    key: &[u8],
+    bytes_out: &mut [u8],
+    words_out: &mut [u64],
+) -> u32
+    ensures { λ r. ⌜ outcome r (now («bytes_out» .exit)) (now («words_out» .exit)) ≡ expandCall edition set shares (now (key .entry)) (now («bytes_out» .entry)) (now («words_out» .entry)) ⌝ }
+{
+    match lookup(set, shares, edition) {
+        Selected::NoSet => 1,
+        Selected::NoShares => 2,
+        Selected::Found(p) => {
+            let k = expand_no(p, key, bytes_out, words_out);
+            if k == 0 {
+                return open_key(p, key, bytes_out, words_out);
+            }
+            k
+        }
+    }
+}
