@@ -1,5 +1,6 @@
 //! The proved code through its C exports. A slice passes as a pointer and a length, a reference to an array as a pointer.
 
+use crate::independent::raccoon::Edition;
 use crate::independent::ring::{Poly, N};
 
 mod raw {
@@ -10,6 +11,16 @@ mod raw {
         pub fn bench_ntt(f: *mut u64) -> bool;
         pub fn bench_product(f: *mut u64, g: *const u64) -> bool;
         pub fn bench_sample_q(header: *const u8, seed: *const u8, seed_len: usize, out: *mut u64) -> bool;
+        pub fn raccoon_expand_key(
+            set: u32, shares: u32, key: *const u8, key_len: usize, bytes_out: *mut u8, bytes_len: usize, words_out: *mut u64, words_len: usize,
+        ) -> u32;
+        pub fn raccoon_kat_expand_key(
+            set: u32, shares: u32, key: *const u8, key_len: usize, bytes_out: *mut u8, bytes_len: usize, words_out: *mut u64, words_len: usize,
+        ) -> u32;
+        pub fn raccoon_refresh_key(
+            set: u32, shares: u32, bytes: *const u8, bytes_len: usize, words: *const u64, words_len: usize, mask_seed: *const u8, mask_len: usize,
+            bytes_out: *mut u8, bytes_out_len: usize, words_out: *mut u64, words_out_len: usize,
+        ) -> u32;
         pub fn raccoon_sample_challenge(set: u32, bytes: *const u8, bytes_len: usize, signed_bytes_out: *mut i8, signed_bytes_len: usize) -> u32;
         pub fn raccoon_sample_uniform(bytes: *const u8, bytes_len: usize, words_out: *mut u64, words_len: usize) -> u32;
     }
@@ -55,4 +66,33 @@ pub fn sample_uniform(bytes: &[u8], words: &mut [u64]) -> u32 {
 /// The challenge sampler over lent bytes: its status. With 0 the coefficients hold the polynomial, else they are as they were.
 pub fn sample_challenge(set: u32, bytes: &[u8], coefficients: &mut [i8]) -> u32 {
     unsafe { raw::raccoon_sample_challenge(set, bytes.as_ptr(), bytes.len(), coefficients.as_mut_ptr(), coefficients.len()) }
+}
+
+/// Expanding a signing key: its status. With 0 the results hold the expanded key, else they are as they were.
+pub fn expand_key(edition: Edition, set: u32, shares: u32, key: &[u8], bytes: &mut [u8], words: &mut [u64]) -> u32 {
+    let call = match edition {
+        Edition::Printed => raw::raccoon_expand_key,
+        Edition::Kat => raw::raccoon_kat_expand_key,
+    };
+    unsafe { call(set, shares, key.as_ptr(), key.len(), bytes.as_mut_ptr(), bytes.len(), words.as_mut_ptr(), words.len()) }
+}
+
+/// A new sharing of an expanded key: its status, and the results as in [`expand_key`].
+pub fn refresh_key(set: u32, shares: u32, key: (&[u8], &[u64]), mask_seed: &[u8], bytes: &mut [u8], words: &mut [u64]) -> u32 {
+    unsafe {
+        raw::raccoon_refresh_key(
+            set,
+            shares,
+            key.0.as_ptr(),
+            key.0.len(),
+            key.1.as_ptr(),
+            key.1.len(),
+            mask_seed.as_ptr(),
+            mask_seed.len(),
+            bytes.as_mut_ptr(),
+            bytes.len(),
+            words.as_mut_ptr(),
+            words.len(),
+        )
+    }
 }

@@ -1,5 +1,6 @@
 //! Times the proved code beside the independent implementation, turn by turn in one run, and prints the best of each.
 
+use koivrast_host::independent::raccoon::{self, Edition, Params};
 use koivrast_host::independent::{keccak, ring};
 use koivrast_host::unit;
 use std::hint::black_box;
@@ -8,14 +9,20 @@ use std::time::Instant;
 const TURNS: usize = 400;
 
 /// The best time of each of two jobs, in nanoseconds for one of `n` parts.
-fn best(n: usize, mut a: impl FnMut(), mut b: impl FnMut()) -> (f64, f64) {
+fn best(n: usize, a: impl FnMut(), b: impl FnMut()) -> (f64, f64) {
+    let (x, y) = best_of(TURNS, a, b);
+    (x / n as f64, y / n as f64)
+}
+
+/// The best of so many turns.
+fn best_of(turns: usize, mut a: impl FnMut(), mut b: impl FnMut()) -> (f64, f64) {
     let time = |job: &mut dyn FnMut()| {
         let start = Instant::now();
         job();
-        start.elapsed().as_nanos() as f64 / n as f64
+        start.elapsed().as_nanos() as f64
     };
     let (mut x, mut y) = (f64::MAX, f64::MAX);
-    for _ in 0..TURNS {
+    for _ in 0..turns {
         x = x.min(time(&mut a));
         y = y.min(time(&mut b));
     }
@@ -69,6 +76,7 @@ fn main() {
     assert_eq!(out, other);
     assert_eq!(d, e);
     ring_rows(permutation.0);
+    key_rows(permutation.0);
 }
 
 /// The ring, by the same method on both sides: residues of the two primes, butterflies in place.
@@ -114,4 +122,30 @@ fn ring_rows(permutation: f64) {
     row("uniform polynomial", uniform);
     println!("{:<44} {:>10.2}", "  of that, 28 permutations of the unit", uniform.0 / permutation / 28.0);
     assert_eq!(p, r);
+}
+
+/// Keys: expanding and refreshing at 32 shares.
+fn key_rows(permutation: f64) {
+    let p = Params::new(128, 32, Edition::Printed).unwrap();
+    let key = raccoon::keygen(&p, &vec![5u8; p.keygen_bytes()], &[6; 32]).unwrap();
+    let n = p.l * p.d * ring::N;
+    let (mut bytes, mut words, mut other) = (vec![0u8; p.vk_bytes()], vec![0u64; n], vec![]);
+    let opening = best_of(
+        20,
+        || assert_eq!(unit::expand_key(Edition::Printed, 128, 32, black_box(&key), &mut bytes, &mut words), 0),
+        || other = raccoon::expand(&p, black_box(&key)).unwrap(),
+    );
+    row("expanding a key of 128-32", opening);
+    assert_eq!(words, other);
+    let (mut fresh_bytes, mut fresh) = (bytes.clone(), words.clone());
+    let refreshing = best_of(
+        20,
+        || assert_eq!(unit::refresh_key(128, 32, (&bytes, &words), &[8; 32], &mut fresh_bytes, &mut fresh), 0),
+        || other = raccoon::refresh(&p, black_box(&words), &[8; 32]),
+    );
+    row("refreshing a key of 128-32", refreshing);
+    assert_eq!(fresh, other);
+    // 80 masking polynomials for each of the l sharings, 17 words to a permutation
+    let permutations = (p.l * 80 * ring::N) as f64 / 17.0;
+    println!("{:<44} {:>10.2}", "  of that, its permutations", refreshing.0 / permutation / permutations);
 }
