@@ -11,6 +11,12 @@ pub mod Entries
 pub mod Filled
 pub mod Fronts
 pub mod Images
+pub mod KeyBytes
+pub mod KeyEnds
+pub mod KeyMade
+pub mod KeyOpens
+pub mod KeyRanges
+pub mod KeySecret
 pub mod Lists
 pub mod Norms
 pub mod Opened

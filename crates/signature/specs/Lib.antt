@@ -6,6 +6,7 @@ pub mod Checks
 pub mod Code
 pub mod Form
 pub mod KeyCalls
+pub mod KeySizes
 pub mod Keys
 pub mod Masked
 pub mod Matrix

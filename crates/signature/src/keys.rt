@@ -23,6 +23,7 @@ use hash::params::Params;
 use hash::params::Selected;
 use hash::params::lookup;
 use ring::poly::all_below;
+use ring::poly::copy_into;
 use ring::uniform::Sampled;
 use ring::uniform::sample_q;
 use sharing::encoding::zero_encoding_at;
@@ -36,18 +37,8 @@ use sharing::shares::add_shares_at;
 // The modulus q (000, Tables 2 to 4).
 const Q: u64 = 549824583172097;
 
-fn copy_bytes(a: &[u8], out: &mut [u8])
-    requires { ⌜ length (now out) ≡ length (now a) ⌝ }
-    ensures { λ _. ⌜ now (out .exit) ≡ now (a .entry) ⌝ }
-{
-    let mut i: usize = 0;
-    while i < a.len() {
-        out[i] = a[i];
-        i += 1;
-    }
-}
-
-fn copy_words(a: &[u64], out: &mut [u64])
+// a into out, which is as long.
+pub(crate) fn copy_bytes(a: &[u8], out: &mut [u8])
     requires { ⌜ length (now out) ≡ length (now a) ⌝ }
     ensures { λ _. ⌜ now (out .exit) ≡ now (a .entry) ⌝ }
 {
@@ -143,7 +134,7 @@ fn renew(
     ensures { λ _. ⌜ (now («bytes_out» .exit) ≡ now (bytes .entry)) × (now («words_out» .exit) ≡ refreshed masks d (maskStart (now («mask_seed» .entry))) l (now (words .entry))) ⌝ }
 {
     copy_bytes(bytes, bytes_out);
-    copy_words(words, words_out);
+    copy_into(words_out, words);
     refresh_words(words_out, l, d, start(mask_seed));
 }
 

@@ -5,6 +5,8 @@ pub mod challenge;
 mod code;
 mod form;
 mod int;
+mod keycheck;
+mod keyform;
 pub mod keys;
 mod masked;
 mod matrix;

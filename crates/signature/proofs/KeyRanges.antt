@@ -1,0 +1,100 @@
+-- The ranges of the parameters, and the sizes of key generation below 2^32.
+use Prim.Native.Nat.{ℕ, _+_, _-_, _*_, _/_, _^_, _≤_, _<_}
+use mathlib.Core.Path.{_≡_, refl, _∙_}
+use mathlib.Core.Bool.{Bool, true, false}
+use native.Mathlib.Omega.{arith}
+use native.Mathlib.Nat.{mul-le-mul}
+use borrow.Author.Tests.{eqb-false}
+use lib.Dec.{eqb}
+use lib.Pow.{pow-pos, pow-mono}
+use Rattle.hash.specs.declared.params.Edition.{Edition}
+use Rattle.hash.specs.declared.params.Params.{Params}
+use Rattle.hash.specs.declared.params.Selected.{Selected}
+use Rattle.hash.specs.Lists.{pick}
+use Rattle.hash.specs.Params.{setIndex, orderIndex, lookupOf}
+use Rattle.hash.proofs.Rows.{found, order-le}
+use Rattle.sharing.specs.Noise.{noiseBytes}
+use Rattle.signature.specs.Keys.{keygenBytes}
+use Rattle.signature.specs.KeySizes.{Ranges}
+
+picked : (a b : Bool) (f : Selected) (p : Params) → pick a Selected.NoSet (pick b Selected.NoShares f) ≡ Selected.Found p → b ≡ false
+picked true b f p e = let x : _≡_ {A = ℕ} 0 1 = cc in absurd (omega arith)
+picked false true f p e = let x : _≡_ {A = ℕ} 0 1 = cc in absurd (omega arith)
+picked false false f p e = refl
+
+few : (set d : ℕ) (e : Edition) (p : Params) → lookupOf set d e ≡ Selected.Found p → orderIndex d ≤ 5
+unfolding lookupOf
+few set d e p h =
+    let n = eqb-false (orderIndex d) 6 (picked (eqb (setIndex set) 3) (eqb (orderIndex d) 6) _ p h) in
+    omega (arith, order-le d, n)
+
+pub ranged : (set d : ℕ) (e : Edition) (p : Params) → lookupOf set d e ≡ Selected.Found p → Ranges p
+ranged set d e p h =
+    let r = found set d e p h in
+    let i = orderIndex d in
+    let a : p .shares ≡ 2 ^ i = r .shares-are ∙ r .power in
+    record {
+      shares-pos = omega (arith, a, pow-pos i);
+      shares-low = omega (arith, a, pow-mono {i = i} {j = 5} (few set d e p h));
+      rows-low = r .rule .rows-low;
+      columns-low = r .rule .columns-low;
+      rep-low = r .rule .rep-low;
+      kappa-low = r .rule .kappa-low;
+    }
+
+-- the sizes, from the left, as the machine makes them
+module _ (p : Params) (r : Ranges p) where
+  seed-le : p .kappa / 8 ≤ 32
+  seed-le = omega (arith, r .kappa-low)
+
+  shares-le : (p .l + p .k) * p .shares ≤ 512
+  shares-le = let a : p .l + p .k ≤ 16 = omega (arith, r .columns-low, r .rows-low) in omega (arith, mul-le-mul a (r .shares-low))
+
+  seeds-le : (p .l + p .k) * p .shares * p .rep ≤ 4096
+  seeds-le = omega (arith, mul-le-mul shares-le (r .rep-low))
+
+  noise-le : (p .l + p .k) * p .shares * p .rep * (p .kappa / 8) ≤ 131072
+  noise-le = omega (arith, mul-le-mul seeds-le seed-le)
+
+  share-seeds-le : (p .shares - 1) * (p .kappa / 8) ≤ 1024
+  share-seeds-le = let b : p .shares - 1 ≤ 32 = omega (arith, r .shares-low) in omega (arith, mul-le-mul b seed-le)
+
+  pub shares-fit : (p .l + p .k) * p .shares < 2 ^ 64
+  shares-fit = omega (arith, shares-le)
+
+  pub seeds-fit : (p .l + p .k) * p .shares * p .rep < 2 ^ 64
+  seeds-fit = omega (arith, seeds-le)
+
+  pub noise-fit : (p .l + p .k) * p .shares * p .rep * (p .kappa / 8) < 2 ^ 64
+  noise-fit = omega (arith, noise-le)
+
+  pub front-fit : p .kappa / 8 + (p .l + p .k) * p .shares * p .rep * (p .kappa / 8) < 2 ^ 64
+  front-fit = omega (arith, noise-le, seed-le)
+
+  pub share-seeds-fit : (p .shares - 1) * (p .kappa / 8) < 2 ^ 64
+  share-seeds-fit = omega (arith, share-seeds-le)
+
+  pub bytes-fit : p .kappa / 8 + (p .l + p .k) * p .shares * p .rep * (p .kappa / 8) + (p .shares - 1) * (p .kappa / 8) < 2 ^ 64
+  bytes-fit = omega (arith, noise-le, seed-le, share-seeds-le)
+
+  pub bytes-are : p .kappa / 8 + (p .l + p .k) * p .shares * p .rep * (p .kappa / 8) + (p .shares - 1) * (p .kappa / 8) ≡ keygenBytes p
+  unfolding noiseBytes
+  bytes-are = refl
+
+  columns-le : 2 * p .l * p .shares ≤ 448
+  columns-le = let a : 2 * p .l ≤ 14 = omega (arith, r .columns-low) in omega (arith, mul-le-mul a (r .shares-low))
+
+  pub columns-fit : 2 * p .l * p .shares < 2 ^ 64
+  columns-fit = omega (arith, columns-le)
+
+  pub rest-fit : 2 * p .l * p .shares + 4 * p .shares < 2 ^ 64
+  rest-fit = omega (arith, columns-le, r .shares-low)
+
+  pub rows-fit : 2 * p .l * p .shares + 4 * p .shares + 2 * p .k < 2 ^ 64
+  rows-fit = omega (arith, columns-le, r .shares-low, r .rows-low)
+
+  pub polys-fit : 2 * p .l * p .shares + 4 * p .shares + 2 * p .k + 8 < 2 ^ 64
+  polys-fit = omega (arith, columns-le, r .shares-low, r .rows-low)
+
+  pub words-fit : 512 * (2 * p .l * p .shares + 4 * p .shares + 2 * p .k + 8) < 2 ^ 64
+  words-fit = omega (arith, columns-le, r .shares-low, r .rows-low)
