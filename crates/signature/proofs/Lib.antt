@@ -6,6 +6,7 @@ pub mod ChalMap
 pub mod ChalResult
 pub mod ChalRun
 pub mod Codes
+pub mod Collected
 pub mod Counts
 pub mod Entries
 pub mod Filled
@@ -17,6 +18,8 @@ pub mod KeyMade
 pub mod KeyOpens
 pub mod KeyRanges
 pub mod KeySecret
+pub mod KeySteps
+pub mod Listing
 pub mod Lists
 pub mod Norms
 pub mod Opened
@@ -25,8 +28,10 @@ pub mod Packing
 pub mod Parsed
 pub mod Product
 pub mod Renewed
+pub mod Rounded
 pub mod Rows
 pub mod Signs
+pub mod Sizes
 pub mod Strings
 pub mod Trip
 pub mod Whole

@@ -4,8 +4,10 @@ pub mod Bounds
 pub mod Challenge
 pub mod Checks
 pub mod Code
+pub mod Compress
 pub mod Form
 pub mod KeyCalls
+pub mod Keygen
 pub mod KeySizes
 pub mod Keys
 pub mod Masked

@@ -1,0 +1,152 @@
+-- Key generation (000, Algorithm 1): the steps on the work buffer, joined.
+use mathlib.Core.Path.{_≡_, sym, ap, subst, _∙_}
+use mathlib.Core.Bool.{Bool, true, false}
+use mathlib.Core.List.{List}
+use mathlib.Core.Option.{some}
+use Prim.Native.Nat.{ℕ, _+_, _*_, _/_, _^_}
+use native.Mathlib.Omega.{arith}
+use lib.ListN.{length, drop}
+use Rattle.hash.specs.Params.{orderIndex}
+use Rattle.hash.specs.declared.params.Params.{Params}
+use Rattle.ring.specs.Words.{q, Below, Words}
+use Rattle.ring.specs.Round.{roundT}
+use Rattle.ring.specs.Uniform.{heldOf}
+use Rattle.sharing.specs.Blocks.{totals}
+use Rattle.sharing.specs.Region.{sub, Wrote}
+use Rattle.sharing.specs.Encoding.{skip, addNoise, zeroVector}
+use Rattle.sharing.specs.Masks.{masks}
+use Rattle.sharing.specs.Noise.{seedNoise}
+use Rattle.sharing.specs.declared.masks.MaskGen.{MaskGen}
+use Rattle.sharing.proofs.Carry.{mask-low}
+use Rattle.sharing.proofs.Regions.{wrote-value, wrote-wide, wrote-over}
+use Rattle.sharing.proofs.Totals.{skip-add, noise-words, zeroVector-words}
+use Rattle.signature.specs.Checks.{both}
+use Rattle.signature.specs.Keygen.{atS, atT, atX}
+use Rattle.signature.specs.Keys.{keyShares, keyVector, compressed}
+use Rattle.signature.specs.Compress.{compressedOf}
+use Rattle.signature.specs.Masked.{seeded, maskedNoise, maskedImage, transformed, rowsOf}
+use Rattle.signature.specs.Matrix.{matrix, matrixOf, filled}
+use Rattle.signature.proofs.Collected.{compressed-is}
+use Rattle.signature.proofs.Entries.{filled-some}
+use Rattle.signature.proofs.Images.{image-product}
+use Rattle.signature.proofs.Product.{transformed-each}
+
+-- lines 3 and 4
+pub secret-made : (l d rep at : ℕ) (N : ℕ → ℕ → List ℕ) (g x : MaskGen) (s₀ s₁ s₂ s₃ : List ℕ) → x ≡ skip masks d l g
+    → Wrote (d * 512) at (l * (d * 512)) (zeroVector masks d g l) s₀ s₁
+    → Wrote (d * 512) at (l * (d * 512)) (addNoise masks d x l rep N (sub s₁ at (l * (d * 512)))) s₁ s₂
+    → Wrote 0 at (l * d * 512) (transformed (l * d) (sub s₂ at (l * d * 512))) s₂ s₃
+    → Wrote (d * 512) at (l * (d * 512)) (transformed (l * d) (addNoise masks d (skip masks d l g) l rep N (zeroVector masks d g l))) s₀ s₃
+secret-made l d rep at N g x s₀ s₁ s₂ s₃ e u v w =
+    let n : l * d * 512 ≡ l * (d * 512) = omega arith in
+    let t : Wrote 0 at (l * (d * 512)) (transformed (l * d) (sub s₂ at (l * (d * 512)))) s₂ s₃ =
+    subst (λ (m : ℕ). Wrote 0 at m (transformed (l * d) (sub s₂ at m)) s₂ s₃) n w in
+    let f : sub s₂ at (l * (d * 512)) ≡ addNoise masks d (skip masks d l g) l rep N (zeroVector masks d g l) =
+    v .new ∙ ap (addNoise masks d x l rep N) (u .new) ∙ ap (λ (h : MaskGen). addNoise masks d h l rep N (zeroVector masks d g l)) e in
+    wrote-over u (wrote-over v (wrote-wide (omega arith) (wrote-value (ap (transformed (l * d)) f) t)))
+
+pub skip-two : (d a b : ℕ) (g x y : MaskGen) → x ≡ skip masks d a g → y ≡ skip masks d b x → y ≡ skip masks d (a + b) g
+skip-two d a b g x y e f = f ∙ ap (skip masks d b) e ∙ skip-add masks d a b g
+
+-- lines 5 to 8: a sum, rounded where it is
+pub rounded-made : (n at k : ℕ) (X s₀ s₁ s₂ : List ℕ) → Wrote n at (k * 512) X s₀ s₁ → Wrote 0 at (k * 512) (roundT (sub s₁ at (k * 512))) s₁ s₂
+    → Wrote n at (k * 512) (roundT X) s₀ s₂
+rounded-made n at k X s₀ s₁ s₂ u v = wrote-over u (wrote-wide (omega arith) (wrote-value (ap roundT (u .new)) v))
+
+-- ---- all of it: s₁ is the buffer behind `secret`, s₂ behind `public_vector`, s₃ behind `compress_vector`
+
+both-right : (a b : Bool) → a ≡ true → both a b ≡ b
+both-right a b e = ap (λ (c : Bool). both c b) e
+
+pub both-no : (p : Params) (seed tape shares : List ℕ) (g : MaskGen) → filled (matrixOf (p .k) (p .l) seed) ≡ false
+    → false ≡ both (filled (matrix p seed)) (filled (compressed p shares (keyShares p tape g)))
+both-no p seed tape shares g e = sym (ap (λ (c : Bool). both c (filled (compressed p shares (keyShares p tape g)))) e)
+
+abbrev pub Said : Params → List ℕ → List ℕ → List ℕ → Bool → List ℕ → MaskGen → Type 0
+Said p seed tape shares c s g =
+    (c ≡ both (filled (matrix p seed)) (filled (compressed p shares (keyShares p tape g))))
+    × ((A X : List ℕ) → matrix p seed ≡ some A → compressed p shares (keyShares p tape g) ≡ some X
+    → (sub s (atT (p .l) (p .shares)) (p .k * 512) ≡ keyVector p tape g A) × (sub s (atX (p .k) (p .l) (p .shares)) (p .l * 512) ≡ X))
+
+-- s in the coefficient domain
+abbrev pub secretOf : Params → List ℕ → MaskGen → List ℕ
+secretOf p tape g =
+    addNoise masks (p .shares) (skip masks (p .shares) (p .l) g) (p .l) (p .rep) (seedNoise (p .shares) (p .rep) (p .ut) (p .kappa / 8) tape)
+    (zeroVector masks (p .shares) g (p .l))
+
+-- the tape behind the seeds of s
+abbrev pub restOf : Params → List ℕ → List ℕ
+restOf p tape = drop (p .l * p .rep * p .shares * (p .kappa / 8)) tape
+
+-- t, of the tape's rest, the list at s and the generator x behind it
+abbrev pub publicOf : Params → List ℕ → MaskGen → List ℕ → List ℕ → List ℕ
+publicOf p rest x A S =
+    roundT (totals (p .k) (p .shares) (addNoise masks (p .shares) x (p .k) (p .rep) (seedNoise (p .shares) (p .rep) (p .ut) (p .kappa / 8) rest)
+    (rowsOf (p .shares) (p .k) (p .l) A S)))
+
+module _ (p : Params) (power : p .shares ≡ 2 ^ orderIndex (p .shares)) (tape shares : List ℕ) (g : MaskGen) where
+  secret-words : Words (p .l * (p .shares * 512)) (secretOf p tape g)
+  secret-words =
+      noise-words masks mask-low (p .shares) power (p .l) (zeroVector masks (p .shares) g (p .l))
+      (zeroVector-words masks mask-low (p .shares) power g (p .l)) (skip masks (p .shares) (p .l) g) (p .rep)
+      (seedNoise (p .shares) (p .rep) (p .ut) (p .kappa / 8) tape)
+
+  shares-is : transformed (p .l * p .shares) (secretOf p tape g) ≡ keyShares p tape g
+  unfolding keyShares maskedNoise seeded
+  shares-is = transformed-each (p .l) (p .shares) (secretOf p tape g)
+
+  vector-is : (seed A : List ℕ) (x : MaskGen) → matrix p seed ≡ some A → x ≡ skip masks (p .shares) (p .l + p .l * p .rep) g
+      → publicOf p (restOf p tape) x A (transformed (p .l * p .shares) (secretOf p tape g)) ≡ keyVector p tape g A
+  unfolding keyVector maskedImage maskedNoise seeded
+  vector-is seed A x e f =
+      let S = transformed (p .l * p .shares) (secretOf p tape g) in
+      let y = skip masks (p .shares) (p .l + p .l * p .rep) g in
+      let N = seedNoise (p .shares) (p .rep) (p .ut) (p .kappa / 8) (restOf p tape) in
+      ap (λ (h : MaskGen). publicOf p (restOf p tape) h A S) f
+      ∙ ap (λ (Y : List ℕ). roundT (totals (p .k) (p .shares) (addNoise masks (p .shares) y (p .k) (p .rep) N Y)))
+      (image-product (p .shares) (p .k) (p .l) seed A (secretOf p tape g) e secret-words)
+
+  module _ (seed rest s₀ s₁ s₂ s₃ : List ℕ) (x : MaskGen) (b : Bool) (hr : rest ≡ restOf p tape)
+      (u : Wrote (p .shares * 512) (atS (p .shares)) (p .l * (p .shares * 512)) (transformed (p .l * p .shares) (secretOf p tape g)) s₀ s₁)
+      (hx : x ≡ skip masks (p .shares) (p .l + p .l * p .rep) g)
+      (hb : b ≡ filled (matrixOf (p .k) (p .l) seed))
+      (v : (A : List ℕ) → matrixOf (p .k) (p .l) seed ≡ some A
+      → Wrote (p .shares * 512 + p .shares * 512) (atT (p .l) (p .shares)) (p .k * 512) (publicOf p rest x A (sub s₁ (atS (p .shares)) (p .l * (p .shares * 512)))) s₁ s₂) where
+    module _ (c : Bool) (yes : b ≡ true)
+        (hc : c ≡ filled (compressedOf (p .edition) (p .kappa / 8) shares (p .l) (p .shares) (sub s₂ (atS (p .shares)) (p .l * (p .shares * 512)))))
+        (w : (X : List ℕ) → compressedOf (p .edition) (p .kappa / 8) shares (p .l) (p .shares) (sub s₂ (atS (p .shares)) (p .l * (p .shares * 512))) ≡ some X
+        → Wrote 0 (atX (p .k) (p .l) (p .shares)) (p .l * 512) X s₂ s₃) where
+      kept : sub s₂ (atS (p .shares)) (p .l * (p .shares * 512)) ≡ keyShares p tape g
+      kept =
+          let m = matrixOf (p .k) (p .l) seed in
+          v (heldOf m .poly) (filled-some m (sym hb ∙ yes)) .front (atS (p .shares)) (p .l * (p .shares * 512)) (omega arith) (omega arith)
+          ∙ u .new ∙ shares-is
+
+      full : compressedOf (p .edition) (p .kappa / 8) shares (p .l) (p .shares) (sub s₂ (atS (p .shares)) (p .l * (p .shares * 512)))
+          ≡ compressed p shares (keyShares p tape g)
+      full = ap (compressedOf (p .edition) (p .kappa / 8) shares (p .l) (p .shares)) kept ∙ compressed-is p shares (keyShares p tape g)
+
+      key-filled : c ≡ both (filled (matrix p seed)) (filled (compressed p shares (keyShares p tape g)))
+      key-filled =
+          hc ∙ ap filled full ∙ sym (both-right (filled (matrix p seed)) (filled (compressed p shares (keyShares p tape g))) (sym hb ∙ yes))
+
+      key-made : (A X : List ℕ) → matrix p seed ≡ some A → compressed p shares (keyShares p tape g) ≡ some X
+          → (sub s₃ (atT (p .l) (p .shares)) (p .k * 512) ≡ keyVector p tape g A) × (sub s₃ (atX (p .k) (p .l) (p .shares)) (p .l * 512) ≡ X)
+      key-made A X hA hX =
+          let z = w X (full ∙ hX) in
+          (z .front (atT (p .l) (p .shares)) (p .k * 512) (omega arith) (omega arith) ∙ v A hA .new ∙ ap (publicOf p rest x A) (u .new)
+          ∙ ap (λ (t : List ℕ). publicOf p t x A (transformed (p .l * p .shares) (secretOf p tape g))) hr ∙ vector-is seed A x hA hx, z .new)
+
+      pub made-parts : (g′ : MaskGen) → g ≡ g′ → Said p seed tape shares c s₃ g′
+      made-parts g′ e = subst (Said p seed tape shares c s₃) e (key-filled, key-made)
+
+-- what is said of the parts of the seeds, said of the seeds
+pub three-parts : {a a′ b b′ c c′ : List ℕ} (P : List ℕ → List ℕ → List ℕ → Type 0) → a ≡ a′ → b ≡ b′ → c ≡ c′ → P a b c → P a′ b′ c′
+three-parts {a} {a′} {b} {b′} {c} {c′} P e f h x =
+    subst (λ (t : List ℕ). P a′ b′ t) h (subst (λ (t : List ℕ). P a′ t c) f (subst (λ (t : List ℕ). P t b c) e x))
+
+abbrev pub Made : Params → MaskGen → Bool → List ℕ → List ℕ → List ℕ → List ℕ → List ℕ → Type 0
+Made p g r s₀ s seed tape shares =
+    ((r ≡ both (filled (matrix p seed)) (filled (compressed p shares (keyShares p tape g)))) × (length s ≡ length s₀) × Below q s)
+    × ((A x : List ℕ) → matrix p seed ≡ some A → compressed p shares (keyShares p tape g) ≡ some x
+    → (sub s (atT (p .l) (p .shares)) (p .k * 512) ≡ keyVector p tape g A) × (sub s (atX (p .k) (p .l) (p .shares)) (p .l * 512) ≡ x))

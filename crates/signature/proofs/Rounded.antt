@@ -1,0 +1,38 @@
+-- Rounding polynomial by polynomial is rounding of the whole vector (000, 2.2).
+use mathlib.Core.Path.{_≡_, refl, sym, ap, _∙_}
+use mathlib.Core.List.{List, [], _∷_, _++_}
+use Prim.Native.Nat.{ℕ, zero, suc, _+_, _*_, _≤_}
+use native.Mathlib.Omega.{arith}
+use lib.ListN.{length}
+use Rattle.ring.specs.Words.{q, Below}
+use Rattle.ring.specs.Round.{mapN, rounded, roundT}
+use Rattle.sharing.specs.Blocks.{block, build}
+use Rattle.sharing.specs.Region.{sub, Wrote}
+use Rattle.sharing.proofs.Lists.{blocks-all}
+use Rattle.sharing.proofs.Regions.{length-sub, wrote-value, wrote-end}
+
+map-append : (f : ℕ → ℕ) (xs ys : List ℕ) → mapN f (xs ++ ys) ≡ mapN f xs ++ mapN f ys
+unfolding mapN
+map-append f [] ys = refl
+map-append f (x ∷ xs) ys = ap (λ (t : List ℕ). f x ∷ t) (map-append f xs ys)
+
+map-build : (f : ℕ → ℕ) (n : ℕ) (g : ℕ → List ℕ) → build n (λ (i : ℕ). mapN f (g i)) ≡ mapN f (build n g)
+unfolding build mapN
+map-build f zero g = refl
+map-build f (suc n) g = ap (λ (t : List ℕ). t ++ mapN f (g n)) (map-build f n g) ∙ sym (map-append f (build n g) (g n))
+
+-- block after block, and the whole of length n * w
+pub map-blocks : (f : ℕ → ℕ) (w n : ℕ) (xs : List ℕ) → length xs ≡ n * w → build n (λ (i : ℕ). mapN f (block w i xs)) ≡ mapN f xs
+map-blocks f w n xs e = map-build f n (λ (i : ℕ). block w i xs) ∙ ap (mapN f) (blocks-all w n xs e)
+
+pub round-end : (k at i : ℕ) (s₀ s : List ℕ) → at + k * 512 ≤ length s₀ → i ≡ k
+    → Wrote 0 at (i * 512) (build i (λ (j : ℕ). roundT (block 512 j (sub s₀ at (k * 512))))) s₀ s
+    → Wrote 0 at (k * 512) (roundT (sub s₀ at (k * 512))) s₀ s
+round-end k at i s₀ s h e u =
+    let X = sub s₀ at (k * 512) in
+    wrote-value (map-blocks (rounded 42 125) 512 k X (length-sub s₀ at (k * 512) h)) (wrote-end 512 (λ (j : ℕ). roundT (block 512 j X)) e u)
+
+-- rounded words are below q
+pub below-up : (p : ℕ) (xs : List ℕ) → p ≤ q → Below p xs → Below q xs
+below-up p [] h b = tt
+below-up p (x ∷ xs) h b = (omega (arith, b .0, h), below-up p xs h (b .1))

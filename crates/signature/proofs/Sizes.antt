@@ -1,0 +1,104 @@
+-- The numbers of a row of the parameter table, for key generation: what `Small` says, and the products that stay small.
+use mathlib.Core.Path.{_≡_, sym, ap, subst, _∙_}
+use mathlib.Core.List.{List}
+use Prim.Native.Nat.{ℕ, _+_, _-_, _*_, _/_, _≤_}
+use native.Mathlib.Nat.{mul-le-mul}
+use native.Mathlib.Omega.{arith}
+use lib.ListN.{length, take, drop, length-drop}
+use lib.Seq.{take-all, length-take-le}
+use mir.Syntax.{w64}
+use mir.Val.{Fits}
+use Rattle.hash.specs.declared.params.Params.{Params}
+use Rattle.ring.specs.Words.{Words}
+use Rattle.sharing.specs.Blocks.{zeros}
+use Rattle.sharing.proofs.Lists.{zeros-words}
+use Rattle.sharing.specs.Noise.{noiseBytes}
+use Rattle.signature.specs.Checks.{workWords}
+use Rattle.signature.specs.Keygen.{atS, atT, atX, Small}
+use Rattle.signature.specs.Keys.{keygenBytes, noisePart, sharePart}
+
+pub cleared : (xs ys : List ℕ) → ys ≡ zeros (length xs) → Words (length xs) ys
+cleared xs ys e = subst (Words (length xs)) (sym e) (zeros-words (length xs))
+
+pub fits-low : (x : ℕ) → x ≤ 262400 → Fits w64 x
+fits-low x h = record { fits = omega arith }
+
+pub same-le : {a b : ℕ} → a ≡ b → b ≤ a
+same-le e = omega arith
+
+-- a part that ends with its whole
+pub part-all : (b : ℕ) (xs : List ℕ) → take (length xs - b) (drop b xs) ≡ drop b xs
+part-all b xs = let e : length (drop b xs) ≡ length xs - b = length-drop b xs in take-all (length xs - b) (drop b xs) (omega arith)
+
+module _ (p : Params) (h : Small p) where
+  seed-low : p .kappa / 8 ≤ 32
+  seed-low = let k = h .kappa-low in omega arith
+
+  -- the seeds of s
+  pub first-low : (p .l * p .rep ≤ 56) × (p .l * p .rep * p .shares ≤ 3584) × (p .l * p .rep * p .shares * (p .kappa / 8) ≤ 114688)
+  first-low =
+      let x : p .l * p .rep ≤ 7 * 8 = mul-le-mul (h .columns-low) (h .rep-low) in
+      let y : p .l * p .rep * p .shares ≤ 7 * 8 * 64 = mul-le-mul x (h .shares-low) in
+      let z : p .l * p .rep * p .shares * (p .kappa / 8) ≤ 7 * 8 * 64 * 32 = mul-le-mul y seed-low in
+      (omega arith, omega arith, omega arith)
+
+  -- the whole tape
+  pub tape-low : ((p .l + p .k) * p .shares ≤ 1024) × ((p .l + p .k) * p .shares * p .rep ≤ 8192)
+      × ((p .l + p .k) * p .shares * p .rep * (p .kappa / 8) ≤ 262144)
+  tape-low =
+      let a : p .l + p .k ≤ 16 = let m = h .columns-low in let n = h .rows-low in omega arith in
+      let x : (p .l + p .k) * p .shares ≤ 16 * 64 = mul-le-mul a (h .shares-low) in
+      let y : (p .l + p .k) * p .shares * p .rep ≤ 16 * 64 * 8 = mul-le-mul x (h .rep-low) in
+      let z : (p .l + p .k) * p .shares * p .rep * (p .kappa / 8) ≤ 16 * 64 * 8 * 32 = mul-le-mul y seed-low in
+      (omega arith, omega arith, omega arith)
+
+  -- the work buffer's regions
+  pub room : (n : ℕ) → n ≡ workWords p → (atS (p .shares) + p .l * (p .shares * 512) ≤ n) × (atT (p .l) (p .shares) + p .k * 512 ≤ n)
+      × (atX (p .k) (p .l) (p .shares) + p .l * 512 ≤ n)
+  room n e = let m = h .columns-rows in (omega arith, omega arith, omega arith)
+
+  -- the tape's two parts
+  pub tape-first : (n : ℕ) → n ≡ noiseBytes p → p .l * p .rep * p .shares * (p .kappa / 8) ≤ n
+  unfolding noiseBytes
+  tape-first n e = omega arith
+
+  pub tape-second : (xs : List ℕ) → length xs ≡ noiseBytes p
+      → p .k * p .rep * p .shares * (p .kappa / 8) ≤ length (take (length xs - p .l * p .rep * p .shares * (p .kappa / 8)) (drop (p .l * p .rep * p .shares * (p .kappa / 8)) xs))
+  unfolding noiseBytes
+  tape-second xs e =
+      let b = p .l * p .rep * p .shares * (p .kappa / 8) in
+      let m : length (drop b xs) ≡ length xs - b = length-drop b xs in
+      rw (part-all b xs) (omega arith)
+
+  pub tape-is : noiseBytes p ≡ (p .l + p .k) * p .shares * p .rep * (p .kappa / 8)
+  unfolding noiseBytes
+  tape-is = omega arith
+
+  -- the seeds' three parts
+  module _ (xs : List ℕ) (e : length xs ≡ keygenBytes p) where
+    pub seed-ends : p .kappa / 8 ≤ length xs
+    seed-ends = omega arith
+
+    pub tape-ends : p .kappa / 8 + (p .l + p .k) * p .shares * p .rep * (p .kappa / 8) ≤ length xs
+    tape-ends = let m = tape-is in omega (arith, m, e)
+
+    pub seed-long : p .kappa / 8 ≡ length (take (p .kappa / 8) xs)
+    seed-long = sym (length-take-le (p .kappa / 8) xs seed-ends)
+
+    pub tape-part : take (p .kappa / 8 + (p .l + p .k) * p .shares * p .rep * (p .kappa / 8) - p .kappa / 8) (drop (p .kappa / 8) xs) ≡ noisePart p xs
+    tape-part =
+        let m : p .kappa / 8 + (p .l + p .k) * p .shares * p .rep * (p .kappa / 8) - p .kappa / 8 ≡ noiseBytes p = omega (arith, tape-is) in
+        ap (λ (n : ℕ). take n (drop (p .kappa / 8) xs)) m
+
+    pub share-part : take (length xs - (p .kappa / 8 + (p .l + p .k) * p .shares * p .rep * (p .kappa / 8))) (drop (p .kappa / 8 + (p .l + p .k) * p .shares * p .rep * (p .kappa / 8)) xs) ≡ sharePart p xs
+    share-part =
+        part-all (p .kappa / 8 + (p .l + p .k) * p .shares * p .rep * (p .kappa / 8)) xs
+        ∙ ap (λ (n : ℕ). drop (p .kappa / 8 + n) xs) (sym tape-is)
+
+    pub tape-long : length (noisePart p xs) ≡ noiseBytes p
+    tape-long =
+        let m : length (drop (p .kappa / 8) xs) ≡ length xs - p .kappa / 8 = length-drop (p .kappa / 8) xs in
+        length-take-le (noiseBytes p) (drop (p .kappa / 8) xs) (omega (arith, m, e))
+
+    pub share-long : length (sharePart p xs) ≡ (p .shares - 1) * (p .kappa / 8)
+    share-long = length-drop (p .kappa / 8 + noiseBytes p) xs ∙ (omega (arith, e))

@@ -1,0 +1,47 @@
+use mathlib.Core.Path.{_≡_, ap, _∙_}
+use Prim.Native.Nat.{ℕ, _+_, _-_, _*_}
+use native.Mathlib.Omega.{arith}
+use Rattle.sharing.proofs.Lists.{inside}
+use Rattle.sharing.specs.Blocks.{block}
+use Rattle.signature.specs.Compress.{seededShareOf}
+use Rattle.ring.specs.Uniform.{heldOf}
+use Rattle.sharing.specs.Region.{sub}
+use Rattle.ring.specs.Uniform.{sampleQ}
+use mathlib.Core.List.{List}
+use borrow.Author.Needs.{needs}
+use Rattle.signature.proofs.compress.seeded_share.Statement.{statement}
+use Rattle.signature.proofs.compress.seeded_share.Tie as tie
+
+mul-a : tie.Need-mul-a
+mul-a c =
+    let b = c .before .args in
+    let p = c .before .pre in
+    let m = inside (b .i - 1) (b .i) (b .n) (omega (arith, p .0)) in
+    omega (arith, p .3, m)
+
+add-e : tie.Need-add-e
+add-e c =
+    let b = c .before .args in
+    let p = c .before .pre in
+    let m = inside (b .i - 1) (b .i) (b .n) (omega (arith, p .0)) in
+    omega (arith, p .3, m)
+
+part-sample-q-end : tie.Need-part-sample-q-end
+part-sample-q-end c =
+    let b = c .before .before .before .args in
+    let p = c .before .before .before .pre in
+    let m = inside (b .i - 1) (b .i) (b .n) (omega (arith, p .0)) in
+    omega (arith, p .3, m)
+
+returns : tie.Need-returns
+unfolding seededShareOf block
+returns c =
+    let b = c .before .before .before .before .before .args in
+    let a = (b .i - 1) * b .n in
+    let k : a + b .n - a ≡ b .n = omega arith in
+    (c .sample-q .ensures .0 ∙ ap (λ (m : ℕ). heldOf (sampleQ (c .before .before .before .share-header .result) (sub (b .seeds .now) a m))) k ∙ ap (λ (t : List ℕ). heldOf (sampleQ t (sub (b .seeds .now) a (b .n)))) (c .before .before .before .share-header .ensures), c .sample-q .ensures .1)
+
+pub seeded-share-spec : {M : Type 1} → statement M
+seeded-share-spec =
+    tie.close (tie.spec (λ c. search needs) mul-a add-e (λ c κs. search needs) (λ c. search needs) (λ c. search needs)
+    part-sample-q-end (λ c κs. search needs) returns)

@@ -1,0 +1,141 @@
+use mathlib.Core.Path.{_≡_, sym, _∙_}
+use mathlib.Core.Bool.{true, false}
+use Prim.Native.Nat.{_*_, _/_}
+use native.Mathlib.Omega.{arith}
+use borrow.Author.Tests.{not-true, not-false}
+use Rattle.signature.proofs.Entries.{absurd-bool, some-filled}
+use Rattle.signature.proofs.KeySteps.{both-no, made-parts}
+use Rattle.signature.proofs.Sizes.{same-le, cleared, fits-low, part-all, first-low, room, tape-first, tape-second}
+use Rattle.sharing.specs.Masks.{maskStart}
+use lib.ListN.{length}
+use borrow.Author.Needs.{needs}
+use Rattle.signature.proofs.keygen.make_parts.Statement.{statement}
+use Rattle.signature.proofs.keygen.make_parts.Tie as tie
+
+mul-b : tie.Need-mul-b
+mul-b c =
+    let a = c .before .before .before .before .before .before in
+    let m = first-low (a .args .p) (a .pre .0) .0 in
+    fits-low _ (omega (arith, m))
+
+mul-b-2 : tie.Need-mul-b-2
+mul-b-2 c =
+    let a = c .before .before .before .before .before .before in
+    let m = first-low (a .args .p) (a .pre .0) .1 in
+    fits-low _ (omega (arith, m))
+
+mul-b-3 : tie.Need-mul-b-3
+mul-b-3 c =
+    let a = c .before .before .before .before .before .before in
+    let p = a .args .p in
+    let m = first-low p (a .pre .0) .2 in
+    fits-low (p .l * p .rep * p .shares * (p .kappa / 8)) (omega (arith, m))
+
+secret-requires : tie.Need-secret-requires
+secret-requires c κs =
+    let a = c .before .before .before .before .before .before .before .before .before .before .before .before in
+    let b = a .args in
+    let p = b .p in
+    let h = a .pre .0 in
+    let w = cleared (b .work .now) _ (c .before .before .before .before .clear .ensures) in
+    let R = room p h (length (b .work .now)) (a .pre .1) in
+    let n = w .long in
+    let r0 = R .0 in
+    (h .power, ((omega arith, omega (arith, r0, n), w .low, tape-first p h (length (b .tape .now)) (a .pre .2)), (omega (arith, h .rep-low), omega (arith, h .columns-low), omega (arith, h .shares-low), h .ut-pos, omega (arith, h .ut-low))))
+
+sub-public-vector : tie.Need-sub-public-vector
+sub-public-vector c =
+    let a = c .before .before .before .before .before .before .before .before .before .before .before .before .before .before .before .before in
+    let b = a .args in
+    let p = b .p in
+    let h = a .pre .0 in
+    tape-first p h (length (b .tape .now)) (a .pre .2)
+
+part-public-vector-start : tie.Need-part-public-vector-start
+part-public-vector-start c =
+    let a = c .before .before .before .before .before .before .before .before .before .before .before .before .before .before .before .before in
+    let b = a .args in
+    let p = b .p in
+    let h = a .pre .0 in
+    tape-first p h (length (b .tape .now)) (a .pre .2)
+
+public-vector-requires : tie.Need-public-vector-requires
+public-vector-requires c κs =
+    let a = c .before .before .before .before .before .before .before .before .before .before .before .before .before .before .before .before .before in
+    let b = a .args in
+    let p = b .p in
+    let h = a .pre .0 in
+    let w = cleared (b .work .now) _ (c .before .before .before .before .before .before .before .before .before .clear .ensures) in
+    let R = room p h (length (b .work .now)) (a .pre .1) in
+    let u = c .before .before .before .before .secret .ensures .0 in
+    let n = u .long ∙ w .long in
+    let r1 = R .1 in
+    (h .power, ((omega arith, omega arith, omega (arith, r1, n), u .low, omega (arith, h .rows-low), omega (arith, h .columns-low)), (tape-second p h (b .tape .now) (a .pre .2), omega (arith, h .rep-low), omega (arith, h .shares-low), h .ut-pos, omega (arith, h .ut-low))))
+
+returns : tie.Need-returns
+returns c =
+    let a = c .before .before .before .before .before .before .before .before .before .before .before .before .before .before .before .before .before .before .before .before .before in
+    let b = a .args in
+    let p = b .p in
+    let h = a .pre .0 in
+    let w = cleared (b .work .now) _ (c .before .before .before .before .before .before .before .before .before .before .before .before .before .clear .ensures) in
+    let R = room p h (length (b .work .now)) (a .pre .1) in
+    let s = c .before .before .before .before .before .before .before .before .secret .ensures in
+    let z = c .before .before .before .public-vector .ensures in
+    let e : c .before .before .before .public-vector .result ≡ false = not-true _ (c .if1 .taken) in
+    let g = maskStart (b .mask-seed .now) in
+    let no = sym (z .0 .0) ∙ e in
+    ((both-no p (b .seed .now) (b .tape .now) (b .shares .now) g no, z .0 .1 ∙ s .0 .long ∙ w .long, z .0 .2), λ A X m k. absurd-bool (sym (some-filled _ A m) ∙ no))
+
+mul-compress-vector : tie.Need-mul-compress-vector
+mul-compress-vector c =
+    let a = c .before .before .before .before .before .before .before .before .before .before .before .before .before .before .before .before .before .before .before .before .before .before in
+    let m = a .pre .0 .rows-low in
+    fits-low _ (omega (arith, m))
+
+add-compress-vector : tie.Need-add-compress-vector
+add-compress-vector c =
+    let a = c .before .before .before .before .before .before .before .before .before .before .before .before .before .before .before .before .before .before .before .before .before .before in
+    let b = a .args in
+    let p = b .p in
+    let h = a .pre .0 in
+    let r1 = room p h (length (b .work .now)) (a .pre .1) .1 in
+    omega (arith, r1)
+
+compress-vector-requires : tie.Need-compress-vector-requires
+compress-vector-requires c κs =
+    let a = c .before .before .before .before .before .before .before .before .before .before .before .before .before .before .before .before .before .before .before .before .before .before in
+    let b = a .args in
+    let p = b .p in
+    let h = a .pre .0 in
+    let w = cleared (b .work .now) _ (c .before .before .before .before .before .before .before .before .before .before .before .before .before .before .clear .ensures) in
+    let R = room p h (length (b .work .now)) (a .pre .1) in
+    let z = c .before .before .before .before .public-vector .ensures .0 in
+    let n = z .1 ∙ c .before .before .before .before .before .before .before .before .before .secret .ensures .0 .long ∙ w .long in
+    let r2 = R .2 in
+    (h .shares-pos, omega (arith, h .shares-low), omega (arith, h .columns-low), omega arith, omega (arith, r2, n), z .2, same-le (a .pre .3))
+
+returns-2 : tie.Need-returns-2
+returns-2 c =
+    let a = c .before .before .before .before .before .before .before .before .before .before .before .before .before .before .before .before .before .before .before .before .before .before .before .before .before in
+    let b = a .args in
+    let p = b .p in
+    let h = a .pre .0 in
+    let w = cleared (b .work .now) _ (c .before .before .before .before .before .before .before .before .before .before .before .before .before .before .before .before .before .clear .ensures) in
+    let R = room p h (length (b .work .now)) (a .pre .1) in
+    let s = c .before .before .before .before .before .before .before .before .before .before .before .before .secret .ensures in
+    let z = c .before .before .before .before .before .before .before .public-vector .ensures in
+    let t = c .before .before .compress-vector .ensures in
+    let e : c .before .before .before .before .before .before .before .public-vector .result ≡ true = not-false _ (c .before .before .before .before .if1 .left) in
+    let g = c .before .before .before .before .before .before .before .before .before .before .before .before .before .before .start .result in
+    let G : g ≡ maskStart (b .mask-seed .now) = c .before .before .before .before .before .before .before .before .before .before .before .before .before .before .start .ensures in
+    let m = made-parts p (h .power) (b .tape .now) (b .shares .now) g (b .seed .now) _ _ _ _ _ _ _ (part-all (p .l * p .rep * p .shares * (p .kappa / 8)) (b .tape .now)) (s .0) (s .1) (z .0 .0) (z .1) _ e (t .0 .0) (t .1) (maskStart (b .mask-seed .now)) G in
+    ((m .0, t .0 .1 ∙ z .0 .1 ∙ s .0 .long ∙ w .long, t .0 .2), m .1)
+
+pub make-parts-spec : {M : Type 1} → statement M
+make-parts-spec =
+    tie.close (tie.spec (λ c. search needs) (λ c. search needs) (λ c. search needs) (λ c. search needs)
+    (λ c. search needs) (λ c. search needs) (λ c. search needs) (λ c. search needs) (λ c. search needs) mul-b mul-b-2
+    mul-b-3 (λ c κs. search needs) (λ c κs. search needs) secret-requires sub-public-vector part-public-vector-start
+    (λ c. search needs) public-vector-requires (λ c. search needs) returns mul-compress-vector add-compress-vector
+    compress-vector-requires (λ c. search needs) returns-2)

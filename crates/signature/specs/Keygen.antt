@@ -1,0 +1,27 @@
+-- The work buffer of key generation (01: memory), in words: zero encoding d * 512, row d * 512, room, s, room for r, t, x. And what is
+-- known of a row of the parameter table.
+use mathlib.Core.Path.{_≡_}
+use Prim.Native.Nat.{ℕ, _+_, _*_, _^_, _≤_}
+use Rattle.hash.specs.Params.{orderIndex}
+use Rattle.hash.specs.declared.params.Params.{Params}
+
+abbrev pub atS : ℕ → ℕ
+atS d = 4 * (d * 512) + 4096
+
+abbrev pub atT : ℕ → ℕ → ℕ
+atT l d = atS d + l * (d * 512) + l * (d * 512)
+
+abbrev pub atX : ℕ → ℕ → ℕ → ℕ
+atX k l d = atT l d + k * 512
+
+pub record Small (p : Params) : Type 0 where
+  pub power : p .shares ≡ 2 ^ orderIndex (p .shares)
+  pub shares-pos : 1 ≤ p .shares
+  pub shares-low : p .shares ≤ 64
+  pub rows-low : p .k ≤ 9
+  pub columns-low : p .l ≤ 7
+  pub columns-rows : p .l ≤ p .k
+  pub rep-low : p .rep ≤ 8
+  pub ut-pos : 1 ≤ p .ut
+  pub ut-low : p .ut ≤ 7
+  pub kappa-low : p .kappa ≤ 256

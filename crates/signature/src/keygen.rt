@@ -1,0 +1,128 @@
+// Key generation (000, Algorithm 1, lines 2 to 8, and the compression of s) on one work buffer, laid out as specs/Keygen.antt says.
+ghost use mathlib.Core.Path.{_≡_};
+ghost use mathlib.Core.List.{List};
+ghost use mathlib.Core.Option.{some};
+ghost use Prim.Native.Nat.{ℕ, _+_, _-_, _*_, _/_, _^_, _≤_, _<_};
+ghost use lib.ListN.{length};
+ghost use Rattle.hash.specs.Params.{orderIndex};
+ghost use Rattle.ring.specs.Words.{q, Below};
+ghost use Rattle.ring.specs.Round.{roundT};
+ghost use Rattle.sharing.specs.Blocks.{totals};
+ghost use Rattle.sharing.specs.Region.{sub, Wrote};
+ghost use Rattle.sharing.specs.Encoding.{skip, addNoise, zeroVector};
+ghost use Rattle.sharing.specs.Masks.{masks, maskStart};
+ghost use Rattle.sharing.specs.Noise.{seedNoise, noiseBytes};
+ghost use Rattle.signature.specs.Checks.{both, workWords};
+ghost use Rattle.signature.specs.Keygen.{atT, atX, Small};
+ghost use Rattle.signature.specs.Keys.{vkSeed, noisePart, sharePart, keygenBytes, keyShares, keyVector, compressed};
+ghost use Rattle.signature.specs.Masked.{transformed, rowsOf};
+ghost use Rattle.signature.specs.Matrix.{matrix, matrixOf, filled};
+use crate::compress::compress_vector;
+use crate::masked::image_seeds;
+use crate::rounding::round_t_vector;
+use crate::vector::ntt_vector;
+use hash::params::Params;
+use sharing::encoding::zero_vector;
+use sharing::masks::MaskGen;
+use sharing::masks::start;
+use sharing::region::clear;
+use sharing::repeat::noise_vector;
+
+// Lines 3 and 4: l sharings of zero at `at` and their noise, transformed.
+fn secret(
+    s: &mut [u64],
+    at: usize,
+    l: usize,
+    d: usize,
+    rep: usize,
+    u: usize,
+    seeds: &[u8],
+    n: usize,
+    g: MaskGen,
+) -> MaskGen
+    requires { ⌜ d ≡ 2 ^ orderIndex d ⌝ }
+    requires { ⌜ (d * 512 ≤ at) × (at + l * (d * 512) ≤ length (now s)) × Below q (now s) × (l * rep * d * n ≤ length (now seeds)) ⌝ }
+    requires { ⌜ (rep < 256) × (l ≤ 256) × (d < 256) × (1 ≤ u) × (u ≤ 48) ⌝ }
+    ensures { λ r. ⌜ Wrote (d * 512) at (l * (d * 512)) (transformed (l * d) (addNoise masks d (skip masks d l g) l rep (seedNoise d rep u n (now (seeds .entry))) (zeroVector masks d g l))) (now (s .entry)) (now (s .exit)) × (r ≡ skip masks d (l + l * rep) g) ⌝ }
+{
+    let x = zero_vector(s, at, l, d, g);
+    let y = noise_vector(s, at, l, d, rep, u, seeds, n, x);
+    ntt_vector(s, at, l * d);
+    y
+}
+
+// Lines 5 to 8: t, rounded, at `to`; s is at `at`, transformed. False where the matrix does not fill.
+fn public_vector(
+    s: &mut [u64],
+    at: usize,
+    to: usize,
+    seed: &[u8],
+    k: usize,
+    l: usize,
+    d: usize,
+    rep: usize,
+    u: usize,
+    seeds: &[u8],
+    n: usize,
+    g: MaskGen,
+) -> bool
+    requires { ⌜ d ≡ 2 ^ orderIndex d ⌝ }
+    requires { ⌜ (d * 512 + d * 512 ≤ at) × (at + l * (d * 512) ≤ to) × (to + k * 512 ≤ length (now s)) × Below q (now s) × (k ≤ 256) × (l < 256) ⌝ }
+    requires { ⌜ (k * rep * d * n ≤ length (now seeds)) × (rep < 256) × (d < 256) × (1 ≤ u) × (u ≤ 48) ⌝ }
+    ensures { λ r. ⌜ (r ≡ filled (matrixOf k l (now (seed .entry)))) × (length (now (s .exit)) ≡ length (now (s .entry))) × Below q (now (s .exit)) ⌝ }
+    ensures { λ r. ⌜ ((A : List ℕ) → matrixOf k l (now (seed .entry)) ≡ some A → Wrote (d * 512 + d * 512) to (k * 512) (roundT (totals k d (addNoise masks d g k rep (seedNoise d rep u n (now (seeds .entry))) (rowsOf d k l A (sub (now (s .entry)) at (l * (d * 512))))))) (now (s .entry)) (now (s .exit))) ⌝ }
+{
+    let y = image_seeds(s, d * 512, at, to, seed, k, l, d, rep, u, seeds, n, g);
+    if !y.ok {
+        return false;
+    }
+    round_t_vector(s, to, k);
+    true
+}
+
+// Both, and the compression of s: t at 4 d + 8 + 2 l d polynomials, x behind it. The seeds by their parts.
+fn make_parts(
+    work: &mut [u64],
+    p: Params,
+    seed: &[u8],
+    tape: &[u8],
+    shares: &[u8],
+    mask_seed: &[u8],
+) -> bool
+    requires { ⌜ Small p × (length (now work) ≡ workWords p) × (length (now tape) ≡ noiseBytes p) × (length (now shares) ≡ (p .shares - 1) * (p .kappa / 8)) ⌝ }
+    ensures { λ r. ⌜ (r ≡ both (filled (matrix p (now (seed .entry)))) (filled (compressed p (now (shares .entry)) (keyShares p (now (tape .entry)) (maskStart (now («mask_seed» .entry))))))) × (length (now (work .exit)) ≡ length (now (work .entry))) × Below q (now (work .exit)) ⌝ }
+    ensures { λ r. ⌜ ((A x : List ℕ) → matrix p (now (seed .entry)) ≡ some A → compressed p (now (shares .entry)) (keyShares p (now (tape .entry)) (maskStart (now («mask_seed» .entry)))) ≡ some x → (sub (now (work .exit)) (atT (p .l) (p .shares)) (p .k * 512) ≡ keyVector p (now (tape .entry)) (maskStart (now («mask_seed» .entry))) A) × (sub (now (work .exit)) (atX (p .k) (p .l) (p .shares)) (p .l * 512) ≡ x)) ⌝ }
+{
+    let k = p.k;
+    let l = p.l;
+    let d = p.shares;
+    let rep = p.rep;
+    let u = p.ut;
+    let n = p.kappa / 8;
+    let edition = p.edition;
+    let at = 4 * (d * 512) + 4096;
+    let to = at + l * (d * 512) + l * (d * 512);
+    let b = l * rep * d * n;
+    clear(work);
+    let g = start(mask_seed);
+    let x = secret(work, at, l, d, rep, u, tape, n, g);
+    if !public_vector(work, at, to, seed, k, l, d, rep, u, &tape[b..], n, x) {
+        return false;
+    }
+    compress_vector(work, at, to + k * 512, l, d, edition, shares, n)
+}
+
+// Lines 2 to 8 and the compression. Lent are the matrix seed, one noise tape and d - 1 share seeds, one behind the other.
+pub(crate) fn make_key(work: &mut [u64], p: Params, seeds: &[u8], mask_seed: &[u8]) -> bool
+    requires { ⌜ Small p × (length (now work) ≡ workWords p) × (length (now seeds) ≡ keygenBytes p) ⌝ }
+    ensures { λ r. ⌜ (r ≡ both (filled (matrix p (vkSeed p (now (seeds .entry))))) (filled (compressed p (sharePart p (now (seeds .entry))) (keyShares p (noisePart p (now (seeds .entry))) (maskStart (now («mask_seed» .entry))))))) × (length (now (work .exit)) ≡ length (now (work .entry))) × Below q (now (work .exit)) ⌝ }
+    ensures { λ r. ⌜ ((A x : List ℕ) → matrix p (vkSeed p (now (seeds .entry))) ≡ some A → compressed p (sharePart p (now (seeds .entry))) (keyShares p (noisePart p (now (seeds .entry))) (maskStart (now («mask_seed» .entry)))) ≡ some x → (sub (now (work .exit)) (atT (p .l) (p .shares)) (p .k * 512) ≡ keyVector p (noisePart p (now (seeds .entry))) (maskStart (now («mask_seed» .entry))) A) × (sub (now (work .exit)) (atX (p .k) (p .l) (p .shares)) (p .l * 512) ≡ x)) ⌝ }
+{
+    let k = p.k;
+    let l = p.l;
+    let d = p.shares;
+    let rep = p.rep;
+    let n = p.kappa / 8;
+    let e = n + (l + k) * d * rep * n;
+    make_parts(work, p, &seeds[..n], &seeds[n..e], &seeds[e..], mask_seed)
+}

@@ -1,0 +1,22 @@
+// Rounding of a vector in a work buffer (000, 2.2).
+ghost use Prim.Native.Nat.{_+_, _*_, _≤_};
+ghost use lib.ListN.{length};
+ghost use Rattle.ring.specs.Words.{q, Below};
+ghost use Rattle.ring.specs.Round.{roundT};
+ghost use Rattle.sharing.specs.Region.{sub, Wrote};
+use ring::poly::round_t;
+use sharing::region::load;
+use sharing::region::store_at;
+
+// The k polynomials from `at` on, rounded to the modulus of a public key's t.
+pub(crate) fn round_t_vector(s: &mut [u64], at: usize, k: usize)
+    requires { ⌜ (at + k * 512 ≤ length (now s)) × Below q (now s) ⌝ }
+    ensures { λ _. ⌜ Wrote 0 at (k * 512) (roundT (sub (now (s .entry)) at (k * 512))) (now (s .entry)) (now (s .exit)) ⌝ }
+{
+    for i in 0..k {
+        let a = at + i * 512;
+        let p = load(s, a);
+        let t = round_t(p);
+        store_at(s, a, &t);
+    }
+}
