@@ -36,3 +36,4 @@ pub mod Strings
 pub mod Trip
 pub mod Whole
 pub mod Words
+pub mod KeyDone

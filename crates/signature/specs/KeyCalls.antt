@@ -25,7 +25,7 @@ outcome n b w = record { status = n; bytes = b; words = w }
 unfoldable pub keygenNo : Params → List ℕ → List ℕ → List ℕ → List ℕ → ℕ
 keygenNo p seeds mask out work = ask 7 (keygenSeedsSized p seeds mask) (ask 8 (keygenBuffersSized p out work) 0)
 
-abbrev keygenMade : Option (List ℕ) → List ℕ → List ℕ → Outcome
+abbrev pub keygenMade : Option (List ℕ) → List ℕ → List ℕ → Outcome
 keygenMade none out work = outcome 10 out (zeros (length work))
 keygenMade (some key) out work = outcome 0 key (zeros (length work))
 

@@ -13,15 +13,21 @@ ghost use Rattle.sharing.specs.Encoding.{skip, addNoise, zeroVector};
 ghost use Rattle.sharing.specs.Masks.{masks, maskStart};
 ghost use Rattle.sharing.specs.Noise.{seedNoise, noiseBytes};
 ghost use Rattle.signature.specs.Checks.{both, workWords};
-ghost use Rattle.signature.specs.Keygen.{atT, atX, Small};
-ghost use Rattle.signature.specs.Keys.{vkSeed, noisePart, sharePart, keygenBytes, keyShares, keyVector, compressed};
+ghost use Rattle.signature.specs.Keygen.{atT, atX, Small, keyOf};
+ghost use Rattle.signature.specs.KeyCalls.{outcome, keygenMade, keygenCall};
+ghost use Rattle.signature.specs.Keys.{vkSeed, noisePart, sharePart, keygenBytes, keyShares, keyVector, compressed, keygenOf};
 ghost use Rattle.signature.specs.Masked.{transformed, rowsOf};
 ghost use Rattle.signature.specs.Matrix.{matrix, matrixOf, filled};
 use crate::compress::compress_vector;
+use crate::keycheck::keygen_no;
+use crate::keyform::write_key;
 use crate::masked::image_seeds;
 use crate::rounding::round_t_vector;
 use crate::vector::ntt_vector;
+use hash::params::Edition;
 use hash::params::Params;
+use hash::params::Selected;
+use hash::params::lookup;
 use sharing::encoding::zero_vector;
 use sharing::masks::MaskGen;
 use sharing::masks::start;
@@ -125,4 +131,62 @@ pub(crate) fn make_key(work: &mut [u64], p: Params, seeds: &[u8], mask_seed: &[u
     let n = p.kappa / 8;
     let e = n + (l + k) * d * rep * n;
     make_parts(work, p, &seeds[..n], &seeds[n..e], &seeds[e..], mask_seed)
+}
+
+// The signing key of the parts that make_key left in the work buffer.
+fn write_made(work: &[u64], p: Params, seeds: &[u8], out: &mut [u8])
+    requires { ⌜ Small p × (length (now work) ≡ workWords p) × (length (now seeds) ≡ keygenBytes p) ⌝ }
+    requires { ⌜ length (now out) ≡ p .kappa / 8 + p .k * 448 + ((p .shares - 1) * (p .kappa / 8) + p .l * 3136) ⌝ }
+    ensures { λ _. ⌜ now (out .exit) ≡ keyOf p (now (seeds .entry)) (now (work .entry)) ⌝ }
+{
+    let k = p.k;
+    let l = p.l;
+    let d = p.shares;
+    let rep = p.rep;
+    let n = p.kappa / 8;
+    let e = n + (l + k) * d * rep * n;
+    let a = 4 * (d * 512) + 4096 + l * (d * 512) + l * (d * 512);
+    let b = a + k * 512;
+    let c = b + l * 512;
+    write_key(&seeds[0..n], &work[a..b], k, &seeds[e..], &work[b..c], l, out);
+}
+
+// Key generation behind its checks: the key, or 10. The work buffer is zero afterwards.
+fn generate(p: Params, seeds: &[u8], mask_seed: &[u8], out: &mut [u8], work: &mut [u64]) -> u32
+    requires { ⌜ Small p × (length (now work) ≡ workWords p) × (length (now seeds) ≡ keygenBytes p) ⌝ }
+    requires { ⌜ length (now out) ≡ p .kappa / 8 + p .k * 448 + ((p .shares - 1) * (p .kappa / 8) + p .l * 3136) ⌝ }
+    ensures { λ r. ⌜ outcome r (now (out .exit)) (now (work .exit)) ≡ keygenMade (keygenOf p (now (seeds .entry)) (now («mask_seed» .entry))) (now (out .entry)) (now (work .entry)) ⌝ }
+{
+    if !make_key(work, p, seeds, mask_seed) {
+        clear(work);
+        return 10;
+    }
+    write_made(work, p, seeds, out);
+    clear(work);
+    0
+}
+
+// Key generation (01, "Questions put to a call": 1, 2, 7, 8, 10).
+pub fn keygen(
+    set: u64,
+    shares: u64,
+    edition: Edition,
+    seeds: &[u8],
+    mask_seed: &[u8],
+    key_out: &mut [u8],
+    work: &mut [u64],
+) -> u32
+    ensures { λ r. ⌜ outcome r (now («key_out» .exit)) (now (work .exit)) ≡ keygenCall edition set shares (now (seeds .entry)) (now («mask_seed» .entry)) (now («key_out» .entry)) (now (work .entry)) ⌝ }
+{
+    match lookup(set, shares, edition) {
+        Selected::NoSet => 1,
+        Selected::NoShares => 2,
+        Selected::Found(p) => {
+            let k = keygen_no(p, seeds.len(), mask_seed.len(), key_out.len(), work.len());
+            if k == 0 {
+                return generate(p, seeds, mask_seed, key_out, work);
+            }
+            k
+        }
+    }
 }

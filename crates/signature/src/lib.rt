@@ -8,7 +8,7 @@ mod form;
 mod int;
 mod keycheck;
 mod keyform;
-mod keygen;
+pub mod keygen;
 pub mod keys;
 mod masked;
 mod matrix;

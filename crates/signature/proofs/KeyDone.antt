@@ -1,0 +1,124 @@
+-- The ends of key generation behind its checks: the key of both parts, or 10.
+use mathlib.Core.Path.{_≡_, refl, sym, ap, _∙_}
+use mathlib.Core.Bool.{Bool, true, false}
+use mathlib.Core.List.{List, _++_}
+use mathlib.Core.Option.{Option, some, none}
+use Prim.Native.Nat.{ℕ, _+_, _-_, _*_, _/_, _^_, _≤_, _<_}
+use native.Mathlib.Nat.{mul-le-mul}
+use native.Mathlib.Omega.{arith}
+use lib.ListN.{length, take, drop}
+use Rattle.hash.specs.Params.{lookupOf}
+use Rattle.hash.specs.declared.params.Edition.{Edition}
+use Rattle.hash.specs.declared.params.Params.{Params}
+use Rattle.hash.specs.declared.params.Selected.{Selected}
+use Rattle.ring.specs.Uniform.{heldOf}
+use Rattle.sharing.specs.Blocks.{zeros}
+use Rattle.sharing.specs.Masks.{maskStart}
+use Rattle.sharing.specs.Region.{sub}
+use Rattle.sharing.proofs.Regions.{length-sub}
+use Rattle.signature.specs.Bits.{repack}
+use Rattle.signature.specs.Checks.{both, workWords}
+use Rattle.signature.specs.Keys.{keygenBytes, vkSeed, noisePart, sharePart, keyShares, keyVector, compressed, keygenOf, publicKey}
+use Rattle.signature.specs.Keygen.{atT, atX, Small, keyOf}
+use Rattle.signature.specs.KeyCalls.{outcome, keygenNo, keygenMade, keygenCall}
+use Rattle.signature.specs.Opening.{Listed}
+use Rattle.signature.specs.Matrix.{matrix, filled}
+use Rattle.signature.proofs.Entries.{filled-some}
+use Rattle.signature.proofs.KeyMade.{fullOf, vectorOf, no-matrix, no-share, both-there}
+use Rattle.signature.proofs.KeyBytes.{key-bytes}
+use Rattle.signature.proofs.Sizes.{room, seed-long, share-part, share-long}
+
+filled-none : (o : Option (List ℕ)) → filled o ≡ false → o ≡ none
+unfolding filled
+filled-none none e = refl
+filled-none (some a) e = let z : _≡_ {A = ℕ} 0 1 = cc in absurd (omega arith)
+
+both-split : (a b : Bool) → both a b ≡ true → (a ≡ true) × (b ≡ true)
+both-split true b e = (refl, e)
+both-split false b e = let z : _≡_ {A = ℕ} 0 1 = cc in absurd (omega arith)
+
+module _ (p : Params) (seeds mask : List ℕ) where
+  -- one of the two does not fill
+  none-made : both (filled (matrix p (vkSeed p seeds))) (filled (fullOf p seeds mask)) ≡ false → keygenOf p seeds mask ≡ none
+  none-made = go (filled (matrix p (vkSeed p seeds))) refl
+    where
+      go : (b : Bool) → filled (matrix p (vkSeed p seeds)) ≡ b → both b (filled (fullOf p seeds mask)) ≡ false → keygenOf p seeds mask ≡ none
+      go true f e = no-share p seeds mask _ (filled-some (matrix p (vkSeed p seeds)) f) (filled-none (fullOf p seeds mask) e)
+      go false f e = no-matrix p seeds mask (filled-none (matrix p (vkSeed p seeds)) f)
+
+  module _ (out work : List ℕ) (r : Bool) (is : r ≡ both (filled (matrix p (vkSeed p seeds))) (filled (fullOf p seeds mask))) where
+    pub unfilled : (w : List ℕ) → r ≡ false → length w ≡ length work → outcome 10 out (zeros (length w)) ≡ keygenMade (keygenOf p seeds mask) out work
+    unfilled w f l = rw (none-made (sym is ∙ f), l)
+
+    pub made : (k w : List ℕ) → r ≡ true
+        → ((A x : List ℕ) → matrix p (vkSeed p seeds) ≡ some A → fullOf p seeds mask ≡ some x
+        → (sub w (atT (p .l) (p .shares)) (p .k * 512) ≡ vectorOf p seeds mask A) × (sub w (atX (p .k) (p .l) (p .shares)) (p .l * 512) ≡ x))
+        → k ≡ keyOf p seeds w → length w ≡ length work → outcome 0 k (zeros (length w)) ≡ keygenMade (keygenOf p seeds mask) out work
+    unfolding keyOf
+    made k w f parts e l =
+        let b = both-split (filled (matrix p (vkSeed p seeds))) (filled (fullOf p seeds mask)) (sym is ∙ f) in
+        let A = heldOf (matrix p (vkSeed p seeds)) .poly in
+        let x = heldOf (fullOf p seeds mask) .poly in
+        let hA = filled-some (matrix p (vkSeed p seeds)) (b .0) in
+        let hx = filled-some (fullOf p seeds mask) (b .1) in
+        let s = parts A x hA hx in
+        let key : k ≡ publicKey p (vkSeed p seeds) (vectorOf p seeds mask A) ++ (sharePart p seeds ++ repack 49 8 (p .l * 3136) x) =
+        e ∙ rw (s .0, s .1) (sym (key-bytes p (vkSeed p seeds) (vectorOf p seeds mask A) (sharePart p seeds) x)) in
+        rw (both-there p seeds mask A x hA hx, key, l)
+
+pub key-long : (p : Params) → Listed p → p .«sk_bytes» ≡ p .kappa / 8 + p .k * 448 + ((p .shares - 1) * (p .kappa / 8) + p .l * 3136)
+key-long p h = omega (arith, h .vk, h .sk)
+
+-- behind the checks
+pub goes-on : (e : Edition) (set d : ℕ) (seeds mask out work : List ℕ) (p : Params) → lookupOf set d e ≡ Selected.Found p
+    → keygenNo p seeds mask out work ≡ 0 → keygenMade (keygenOf p seeds mask) out work ≡ keygenCall e set d seeds mask out work
+unfolding keygenCall
+goes-on e set d seeds mask out work p h k = rw (h, k)
+
+-- the key's four parts, as slices of the seeds and of the work buffer
+module _ (p : Params) (h : Small p) (seeds work : List ℕ) (w : length work ≡ workWords p) (s : length seeds ≡ keygenBytes p) where
+  abbrev a : ℕ
+  a = atT (p .l) (p .shares)
+
+  abbrev tapeEnd : ℕ
+  tapeEnd = p .kappa / 8 + (p .l + p .k) * p .shares * p .rep * (p .kappa / 8)
+
+  abbrev seedPart : List ℕ
+  seedPart = take (p .kappa / 8 - 0) seeds
+
+  abbrev vectorPart : List ℕ
+  vectorPart = take (a + p .k * 512 - a) (drop a work)
+
+  abbrev sharesPart : List ℕ
+  sharesPart = take (length seeds - tapeEnd) (drop tapeEnd seeds)
+
+  abbrev fullPart : List ℕ
+  fullPart = take (a + p .k * 512 + p .l * 512 - (a + p .k * 512)) (drop (a + p .k * 512) work)
+
+  from-start : seedPart ≡ take (p .kappa / 8) seeds
+  from-start = let e : p .kappa / 8 - 0 ≡ p .kappa / 8 = omega arith in ap (λ (m : ℕ). take m seeds) e
+
+  exactly : (b n : ℕ) → take (b + n - b) (drop b work) ≡ sub work b n
+  exactly b n = let e : b + n - b ≡ n = omega arith in ap (λ (m : ℕ). take m (drop b work)) e
+
+  pub part-lengths : (out : ℕ) → out ≡ p .kappa / 8 + p .k * 448 + ((p .shares - 1) * (p .kappa / 8) + p .l * 3136)
+      → ((length vectorPart ≡ p .k * 512) × (length fullPart ≡ p .l * 512))
+      × ((out ≡ length seedPart + p .k * 448 + (length sharesPart + p .l * 3136)) × (out < 2 ^ 32))
+  part-lengths out o =
+      let r = room p h (length work) w in
+      let m = exactly a (p .k * 512) in
+      let n = exactly (a + p .k * 512) (p .l * 512) in
+      ((ap length m ∙ length-sub work a (p .k * 512) (r .1), ap length n ∙ length-sub work (a + p .k * 512) (p .l * 512) (r .2)), (fits, low))
+      where
+        fits : out ≡ length seedPart + p .k * 448 + (length sharesPart + p .l * 3136)
+        fits = rw (from-start, ← seed-long p h seeds s, share-part p h seeds s, share-long p h seeds s) o
+
+        low : out < 2 ^ 32
+        low =
+            let x : p .shares - 1 ≤ 64 = omega (arith, h .shares-low) in
+            let y : p .kappa / 8 ≤ 32 = omega (arith, h .kappa-low) in
+            omega (arith, mul-le-mul x y, y, h .rows-low, h .columns-low, o)
+
+  pub parts-key : (seedPart ++ repack 7 8 (p .k * 448) vectorPart) ++ (sharesPart ++ repack 49 8 (p .l * 3136) fullPart) ≡ keyOf p seeds work
+  unfolding keyOf vkSeed
+  parts-key = rw (from-start, exactly a (p .k * 512), exactly (a + p .k * 512) (p .l * 512), share-part p h seeds s)
