@@ -11,6 +11,14 @@ mod raw {
         pub fn bench_ntt(f: *mut u64) -> bool;
         pub fn bench_product(f: *mut u64, g: *const u64) -> bool;
         pub fn bench_sample_q(header: *const u8, seed: *const u8, seed_len: usize, out: *mut u64) -> bool;
+        pub fn raccoon_keygen(
+            set: u32, shares: u32, seeds: *const u8, seeds_len: usize, mask_seed: *const u8, mask_len: usize, key_out: *mut u8, key_len: usize,
+            work: *mut u64, work_len: usize,
+        ) -> u32;
+        pub fn raccoon_kat_keygen(
+            set: u32, shares: u32, seeds: *const u8, seeds_len: usize, mask_seed: *const u8, mask_len: usize, key_out: *mut u8, key_len: usize,
+            work: *mut u64, work_len: usize,
+        ) -> u32;
         pub fn raccoon_expand_key(
             set: u32, shares: u32, key: *const u8, key_len: usize, bytes_out: *mut u8, bytes_len: usize, words_out: *mut u64, words_len: usize,
         ) -> u32;
@@ -66,6 +74,28 @@ pub fn sample_uniform(bytes: &[u8], words: &mut [u64]) -> u32 {
 /// The challenge sampler over lent bytes: its status. With 0 the coefficients hold the polynomial, else they are as they were.
 pub fn sample_challenge(set: u32, bytes: &[u8], coefficients: &mut [i8]) -> u32 {
     unsafe { raw::raccoon_sample_challenge(set, bytes.as_ptr(), bytes.len(), coefficients.as_mut_ptr(), coefficients.len()) }
+}
+
+/// Key generation: its status. With 0 the result holds the signing key, else it is as it was; the work buffer is zero with 0 and 10.
+pub fn keygen(edition: Edition, set: u32, shares: u32, seeds: &[u8], mask_seed: &[u8], key: &mut [u8], work: &mut [u64]) -> u32 {
+    let call = match edition {
+        Edition::Printed => raw::raccoon_keygen,
+        Edition::Kat => raw::raccoon_kat_keygen,
+    };
+    unsafe {
+        call(
+            set,
+            shares,
+            seeds.as_ptr(),
+            seeds.len(),
+            mask_seed.as_ptr(),
+            mask_seed.len(),
+            key.as_mut_ptr(),
+            key.len(),
+            work.as_mut_ptr(),
+            work.len(),
+        )
+    }
 }
 
 /// Expanding a signing key: its status. With 0 the results hold the expanded key, else they are as they were.

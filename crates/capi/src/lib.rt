@@ -3,30 +3,118 @@ ghost use mathlib.Core.Path.{_≡_};
 ghost use Rattle.hash.specs.declared.params.Edition.{Edition};
 ghost use Rattle.ring.specs.Uniform.{sampledOf};
 ghost use Rattle.signature.specs.Challenge.{sampledChallenge};
-ghost use Rattle.signature.specs.KeyCalls.{outcome, expandCall, refreshCall};
+ghost use Rattle.signature.specs.KeyCalls.{outcome, keygenCall, expandCall, refreshCall};
+
+// Key generation (01: key making): checks 1, 2, 7, 8 and 10.
+#[no_mangle]
+pub extern "C" fn raccoon_keygen(
+    set: u32,
+    shares: u32,
+    seeds: &[u8],
+    mask_seed: &[u8],
+    key_out: &mut [u8],
+    work: &mut [u64],
+) -> u32
+    ensures { λ r. ⌜ outcome r (now («key_out» .exit)) (now (work .exit)) ≡ keygenCall Edition.Printed set shares (now (seeds .entry)) (now («mask_seed» .entry)) (now («key_out» .entry)) (now (work .entry)) ⌝ }
+{
+    signature::keygen::keygen(
+        set as u64,
+        shares as u64,
+        hash::params::Edition::Printed,
+        seeds,
+        mask_seed,
+        key_out,
+        work,
+    )
+}
+
+// The same with the headers of the response files.
+#[no_mangle]
+pub extern "C" fn raccoon_kat_keygen(
+    set: u32,
+    shares: u32,
+    seeds: &[u8],
+    mask_seed: &[u8],
+    key_out: &mut [u8],
+    work: &mut [u64],
+) -> u32
+    ensures { λ r. ⌜ outcome r (now («key_out» .exit)) (now (work .exit)) ≡ keygenCall Edition.Kat set shares (now (seeds .entry)) (now («mask_seed» .entry)) (now («key_out» .entry)) (now (work .entry)) ⌝ }
+{
+    signature::keygen::keygen(
+        set as u64,
+        shares as u64,
+        hash::params::Edition::Kat,
+        seeds,
+        mask_seed,
+        key_out,
+        work,
+    )
+}
 
 // Expanding a signing key (01: opening): checks 1, 2, 3, 4, 5, 8 and 10.
 #[no_mangle]
-pub extern "C" fn raccoon_expand_key(set: u32, shares: u32, key: &[u8], bytes_out: &mut [u8], words_out: &mut [u64]) -> u32
+pub extern "C" fn raccoon_expand_key(
+    set: u32,
+    shares: u32,
+    key: &[u8],
+    bytes_out: &mut [u8],
+    words_out: &mut [u64],
+) -> u32
     ensures { λ r. ⌜ outcome r (now («bytes_out» .exit)) (now («words_out» .exit)) ≡ expandCall Edition.Printed set shares (now (key .entry)) (now («bytes_out» .entry)) (now («words_out» .entry)) ⌝ }
 {
-    signature::keys::expand_key(set as u64, shares as u64, hash::params::Edition::Printed, key, bytes_out, words_out)
+    signature::keys::expand_key(
+        set as u64,
+        shares as u64,
+        hash::params::Edition::Printed,
+        key,
+        bytes_out,
+        words_out,
+    )
 }
 
 // The same for a key of the response files.
 #[no_mangle]
-pub extern "C" fn raccoon_kat_expand_key(set: u32, shares: u32, key: &[u8], bytes_out: &mut [u8], words_out: &mut [u64]) -> u32
+pub extern "C" fn raccoon_kat_expand_key(
+    set: u32,
+    shares: u32,
+    key: &[u8],
+    bytes_out: &mut [u8],
+    words_out: &mut [u64],
+) -> u32
     ensures { λ r. ⌜ outcome r (now («bytes_out» .exit)) (now («words_out» .exit)) ≡ expandCall Edition.Kat set shares (now (key .entry)) (now («bytes_out» .entry)) (now («words_out» .entry)) ⌝ }
 {
-    signature::keys::expand_key(set as u64, shares as u64, hash::params::Edition::Kat, key, bytes_out, words_out)
+    signature::keys::expand_key(
+        set as u64,
+        shares as u64,
+        hash::params::Edition::Kat,
+        key,
+        bytes_out,
+        words_out,
+    )
 }
 
 // A new sharing of an expanded key (01: refreshing): checks 1 to 5, 7 and 8.
 #[no_mangle]
-pub extern "C" fn raccoon_refresh_key(set: u32, shares: u32, bytes: &[u8], words: &[u64], mask_seed: &[u8], bytes_out: &mut [u8], words_out: &mut [u64]) -> u32
+pub extern "C" fn raccoon_refresh_key(
+    set: u32,
+    shares: u32,
+    bytes: &[u8],
+    words: &[u64],
+    mask_seed: &[u8],
+    bytes_out: &mut [u8],
+    words_out: &mut [u64],
+) -> u32
     ensures { λ r. ⌜ outcome r (now («bytes_out» .exit)) (now («words_out» .exit)) ≡ refreshCall set shares (now (bytes .entry)) (now (words .entry)) (now («mask_seed» .entry)) (now («bytes_out» .entry)) (now («words_out» .entry)) ⌝ }
 {
-    signature::keys::refresh_key(set as u64, shares as u64, bytes, words, mask_seed, bytes_out, words_out)
+    signature::keys::refresh_key(
+        set as u64,
+        shares as u64,
+        bytes,
+        words,
+        mask_seed,
+        bytes_out,
+        words_out,
+    )
 }
 
 // The uniform sampler over lent bytes: checks 8 and 10.
@@ -39,7 +127,11 @@ pub extern "C" fn raccoon_sample_uniform(bytes: &[u8], words_out: &mut [u64]) ->
 
 // The challenge sampler over lent bytes: checks 1, 8 and 11.
 #[no_mangle]
-pub extern "C" fn raccoon_sample_challenge(set: u32, bytes: &[u8], signed_bytes_out: &mut [i8]) -> u32
+pub extern "C" fn raccoon_sample_challenge(
+    set: u32,
+    bytes: &[u8],
+    signed_bytes_out: &mut [i8],
+) -> u32
     ensures { λ r. ⌜ (r, now («signed_bytes_out» .exit)) ≡ sampledChallenge set (now (bytes .entry)) (now («signed_bytes_out» .entry)) ⌝ }
 {
     signature::challenge::sample_challenge(set as u64, bytes, signed_bytes_out)

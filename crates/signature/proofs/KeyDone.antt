@@ -109,15 +109,15 @@ module _ (p : Params) (h : Small p) (seeds work : List ℕ) (w : length work ≡
       let m = exactly a (p .k * 512) in
       let n = exactly (a + p .k * 512) (p .l * 512) in
       ((ap length m ∙ length-sub work a (p .k * 512) (r .1), ap length n ∙ length-sub work (a + p .k * 512) (p .l * 512) (r .2)), (fits, low))
-      where
-        fits : out ≡ length seedPart + p .k * 448 + (length sharesPart + p .l * 3136)
-        fits = rw (from-start, ← seed-long p h seeds s, share-part p h seeds s, share-long p h seeds s) o
+    where
+      fits : out ≡ length seedPart + p .k * 448 + (length sharesPart + p .l * 3136)
+      fits = rw (from-start, ← seed-long p h seeds s, share-part p h seeds s, share-long p h seeds s) o
 
-        low : out < 2 ^ 32
-        low =
-            let x : p .shares - 1 ≤ 64 = omega (arith, h .shares-low) in
-            let y : p .kappa / 8 ≤ 32 = omega (arith, h .kappa-low) in
-            omega (arith, mul-le-mul x y, y, h .rows-low, h .columns-low, o)
+      low : out < 2 ^ 32
+      low =
+          let x : p .shares - 1 ≤ 64 = omega (arith, h .shares-low) in
+          let y : p .kappa / 8 ≤ 32 = omega (arith, h .kappa-low) in
+          omega (arith, mul-le-mul x y, y, h .rows-low, h .columns-low, o)
 
   pub parts-key : (seedPart ++ repack 7 8 (p .k * 448) vectorPart) ++ (sharesPart ++ repack 49 8 (p .l * 3136) fullPart) ≡ keyOf p seeds work
   unfolding keyOf vkSeed

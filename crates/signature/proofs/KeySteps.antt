@@ -133,9 +133,11 @@ module _ (p : Params) (power : p .shares ≡ 2 ^ orderIndex (p .shares)) (tape s
       key-made : (A X : List ℕ) → matrix p seed ≡ some A → compressed p shares (keyShares p tape g) ≡ some X
           → (sub s₃ (atT (p .l) (p .shares)) (p .k * 512) ≡ keyVector p tape g A) × (sub s₃ (atX (p .k) (p .l) (p .shares)) (p .l * 512) ≡ X)
       key-made A X hA hX =
-          let z = w X (full ∙ hX) in
-          (z .front (atT (p .l) (p .shares)) (p .k * 512) (omega arith) (omega arith) ∙ v A hA .new ∙ ap (publicOf p rest x A) (u .new)
-          ∙ ap (λ (t : List ℕ). publicOf p t x A (transformed (p .l * p .shares) (secretOf p tape g))) hr ∙ vector-is seed A x hA hx, z .new)
+          let z = w X (full ∙ hX) in (
+            z .front (atT (p .l) (p .shares)) (p .k * 512) (omega arith) (omega arith) ∙ v A hA .new ∙ ap (publicOf p rest x A) (u .new)
+                ∙ ap (λ (t : List ℕ). publicOf p t x A (transformed (p .l * p .shares) (secretOf p tape g))) hr ∙ vector-is seed A x hA hx,
+            z .new,
+          )
 
       pub made-parts : (g′ : MaskGen) → g ≡ g′ → Said p seed tape shares c s₃ g′
       made-parts g′ e = subst (Said p seed tape shares c s₃) e (key-filled, key-made)

@@ -30,13 +30,7 @@ pub(crate) fn share_header(edition: Edition, i: usize, j: usize) -> [u8; 8]
 }
 
 // Share i, from 1, of polynomial j, expanded from its seed of n bytes.
-pub(crate) fn seeded_share(
-    edition: Edition,
-    seeds: &[u8],
-    n: usize,
-    i: usize,
-    j: usize,
-) -> Sampled
+pub(crate) fn seeded_share(edition: Edition, seeds: &[u8], n: usize, i: usize, j: usize) -> Sampled
     requires { ⌜ (1 ≤ i) × (i < 256) × (j < 256) × (i * n ≤ length (now seeds)) ⌝ }
     ensures { λ r. ⌜ (r ≡ heldOf (seededShareOf edition n (now (seeds .entry)) j i)) × Words 512 (r .poly) ⌝ }
 {

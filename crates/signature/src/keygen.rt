@@ -148,7 +148,15 @@ fn write_made(work: &[u64], p: Params, seeds: &[u8], out: &mut [u8])
     let a = 4 * (d * 512) + 4096 + l * (d * 512) + l * (d * 512);
     let b = a + k * 512;
     let c = b + l * 512;
-    write_key(&seeds[0..n], &work[a..b], k, &seeds[e..], &work[b..c], l, out);
+    write_key(
+        &seeds[0..n],
+        &work[a..b],
+        k,
+        &seeds[e..],
+        &work[b..c],
+        l,
+        out,
+    );
 }
 
 // Key generation behind its checks: the key, or 10. The work buffer is zero afterwards.
