@@ -1,12 +1,16 @@
 -- The checks of paper 01 ("Questions put to a call"), each by its number. The first no decides, and its number is the status.
 use mathlib.Core.Bool.{Bool, true, false}
-use mathlib.Core.List.{List}
+use mathlib.Core.List.{List, [], _∷_}
+use mathlib.Core.Option.{Option, some, none}
 use Prim.Native.Nat.{ℕ, _+_, _*_}
-use lib.Dec.{eqb}
+use lib.Dec.{eqb, leb}
 use lib.ListN.{length, drop}
 use Rattle.hash.specs.Lists.{pick}
 use Rattle.hash.specs.declared.params.Params.{Params}
 use Rattle.ring.specs.Words.{q, allBelow}
+use Rattle.sharing.specs.Noise.{noiseBytes}
+use Rattle.signature.specs.Bounds.{checkBounds}
+use Rattle.signature.specs.Form.{Fields, bitCount, write, read}
 use Rattle.signature.specs.Keys.{vkVector, fullShare, keygenBytes}
 
 -- check n: with a no the status is n, with a yes it is that of the checks that follow
@@ -37,13 +41,24 @@ fullShareGood p key = allBelow q (fullShare p (drop (p .«vk_bytes») key))
 abbrev pub shareWordsGood : List ℕ → Bool
 shareWordsGood words = allBelow q words
 
+-- 6. Are the allowed attempts (01: tries) from 1 to 16?
+abbrev pub attemptsAllowed : ℕ → Bool
+attemptsAllowed n = both (leb 1 n) (leb n 16)
+
 -- 7. Are the seeds exactly as long as the call needs? (Key generation: matrix seed, noise seeds and share seeds, and a mask seed of 32 bytes;
--- refreshing: a mask seed of 32 bytes.)
+-- refreshing: a mask seed of 32 bytes; signing: noise seeds and a mask seed for each attempt, or in place of the noise seeds the words of the
+-- noise, each below q.)
 abbrev pub maskSeedSized : List ℕ → Bool
 maskSeedSized mask = eqb (length mask) 32
 
 abbrev pub keygenSeedsSized : Params → List ℕ → List ℕ → Bool
 keygenSeedsSized p seeds mask = both (eqb (length seeds) (keygenBytes p)) (maskSeedSized mask)
+
+abbrev pub signSeedsSized : Params → ℕ → List ℕ → List ℕ → Bool
+signSeedsSized p n noise masks = both (eqb (length noise) (n * noiseBytes p)) (eqb (length masks) (n * 32))
+
+abbrev pub signNoiseGood : Params → ℕ → List ℕ → List ℕ → Bool
+signNoiseGood p n noise masks = both (eqb (length noise) (n * ((p .l + p .k) * p .shares * 512))) (both (allBelow q noise) (eqb (length masks) (n * 32)))
 
 -- 8. Is each result buffer exactly its size, and the work buffer exactly 512 (2 l d + 4 d + 2 k + 8) words?
 abbrev pub workWords : Params → ℕ
@@ -51,3 +66,44 @@ workWords p = 512 * (2 * p .l * p .shares + 4 * p .shares + 2 * p .k + 8)
 
 abbrev pub keygenBuffersSized : Params → List ℕ → List ℕ → Bool
 keygenBuffersSized p out work = both (eqb (length out) (p .«sk_bytes»)) (eqb (length work) (workWords p))
+
+abbrev pub signBuffersSized : Params → List ℕ → List ℕ → Bool
+signBuffersSized p out work = both (eqb (length out) (p .«sig_bytes»)) (eqb (length work) (workWords p))
+
+-- 9. Is the message at most 4096 bytes?
+abbrev pub messageSized : List ℕ → Bool
+messageSized m = leb (length m) 4096
+
+-- 10. Did every uniform polynomial fill within 777 draws?   11. Did the challenge fill within 1088 draws?
+-- The samplers put these two: they give none where the answer is no.
+
+-- 12. Did some allowed attempt pass the bounds (2.4.4) and fit the signature length? Of one attempt:
+abbrev pub attemptPasses : Params → Fields → Bool
+attemptPasses p f = both (checkBounds p f) (leb (bitCount f) (8 * p .«sig_bytes»))
+
+-- 13. Is the signature exactly as long as the set says?
+abbrev pub signatureSized : Params → List ℕ → Bool
+signatureSized p b = eqb (length b) (p .«sig_bytes»)
+
+-- 14. Is it the very byte string that the writer makes of the fields read from it?
+unfoldable pub sameBytes : List ℕ → List ℕ → Bool
+sameBytes [] [] = true
+sameBytes [] (y ∷ ys) = false
+sameBytes (x ∷ xs) [] = false
+sameBytes (x ∷ xs) (y ∷ ys) = both (eqb x y) (sameBytes xs ys)
+
+abbrev writtenAs : List ℕ → Option (List ℕ) → Bool
+writtenAs b none = false
+writtenAs b (some c) = sameBytes b c
+
+abbrev properFields : Params → List ℕ → Option Fields → Bool
+properFields p b none = false
+properFields p b (some f) = writtenAs b (write p f)
+
+unfoldable pub properForm : Params → List ℕ → Bool
+properForm p b = properFields p b (read p b)
+
+-- 15. Do the fields pass the bounds of 2.4.4?   checkBounds
+-- 16. Is the recomputed challenge hash equal?
+abbrev pub hashEqual : Fields → List ℕ → Bool
+hashEqual f hash = sameBytes (f .hash) hash

@@ -124,8 +124,19 @@ fn ring_rows(permutation: f64) {
     assert_eq!(p, r);
 }
 
-/// Keys: expanding and refreshing at 32 shares.
+/// Keys: generating at 1 and 32 shares, expanding and refreshing at 32 shares.
 fn key_rows(permutation: f64) {
+    for d in [1, 32] {
+        let p = Params::new(128, d, Edition::Printed).unwrap();
+        let (seeds, mut made, mut work, mut other) = (vec![5u8; p.keygen_bytes()], vec![0u8; p.sk_bytes()], vec![0u64; p.work_words()], vec![]);
+        let making = best_of(
+            20,
+            || assert_eq!(unit::keygen(Edition::Printed, 128, d as u32, black_box(&seeds), &[6; 32], &mut made, &mut work), 0),
+            || other = raccoon::keygen(&p, black_box(&seeds), &[6; 32]).unwrap(),
+        );
+        row(&format!("generating a key of 128-{d}"), making);
+        assert_eq!(made, other);
+    }
     let p = Params::new(128, 32, Edition::Printed).unwrap();
     let key = raccoon::keygen(&p, &vec![5u8; p.keygen_bytes()], &[6; 32]).unwrap();
     let n = p.l * p.d * ring::N;
