@@ -1,6 +1,6 @@
 -- A signing key that key generation made is opened (01, "Figures"): no check of expanding says no, and the secret is that of its shares.
-use Prim.Native.Nat.{ℕ}
-use mathlib.Core.Path.{_≡_, refl, ap, _∙_}
+use Prim.Native.Nat.{ℕ, _*_}
+use mathlib.Core.Path.{_≡_, refl, sym, ap, _∙_}
 use mathlib.Core.Bool.{Bool, true}
 use mathlib.Core.List.{List, [], _∷_}
 use mathlib.Core.Option.{some}
@@ -11,11 +11,16 @@ use Rattle.hash.specs.declared.params.Edition.{Edition}
 use Rattle.hash.specs.declared.params.Params.{Params}
 use Rattle.hash.specs.declared.params.Selected.{Selected}
 use Rattle.hash.proofs.Rows.{found}
-use Rattle.ring.specs.Words.{q, Below, allBelow}
-use Rattle.sharing.specs.Masks.{maskStart}
+use Rattle.ring.specs.Words.{q, Words, Below, allBelow}
+use Rattle.sharing.specs.Blocks.{totals}
+use Rattle.sharing.specs.Encoding.{refreshed}
+use Rattle.sharing.specs.Masks.{masks, maskStart}
+use Rattle.sharing.proofs.Carry.{mask-low}
+use Rattle.sharing.proofs.Totals.{refreshed-words, refreshed-totals}
 use Rattle.signature.specs.Keys.{keygenBytes, keygenOf, noisePart, expandOf}
 use Rattle.signature.specs.Checks.{ask, expandedKeySized}
-use Rattle.signature.specs.KeyCalls.{outcome, expandNo, expandCall}
+use Rattle.signature.specs.KeyCalls.{Outcome, outcome, expandNo, expandCall, refreshNo, refreshCall}
+use Rattle.signature.proofs.Asked.{listed, refreshable, refresh-done}
 use Rattle.signature.proofs.KeyRanges.{ranged}
 use Rattle.signature.proofs.KeyMade.{made, expand-made, vector-words}
 use Rattle.signature.proofs.KeySecret.{Opened, opened}
@@ -50,3 +55,24 @@ module _ (e : Edition) (set d : ℕ) (p : Params) (h : lookupOf set d e ≡ Sele
   pub made-opens : (bytes words : List ℕ) → expandedKeySized p bytes words ≡ true
       → expandCall e set d key bytes words ≡ outcome 0 (take (p .«vk_bytes») key) (made-opened .shares-of)
   made-opens bytes words s = expand-goes e set d p key bytes words (made-opened .shares-of) h (made-passes bytes words s) (made-opened .is)
+
+-- refreshing that passes its checks keeps the public key and the secret
+pub record Kept (p : Params) (key shares : List ℕ) (o : Outcome) : Type 0 where
+  pub renewed : List ℕ
+  pub is : o ≡ outcome 0 key renewed
+  pub low : Words (p .l * (p .shares * 512)) renewed
+  pub secrets : totals (p .l) (p .shares) renewed ≡ totals (p .l) (p .shares) shares
+
+pub refresh-keeps : (set d : ℕ) (p : Params) → lookupOf set d Edition.Printed ≡ Selected.Found p
+    → (key shares mask bytes words : List ℕ) → refreshNo p key shares mask bytes words ≡ 0
+    → Kept p key shares (refreshCall set d key shares mask bytes words)
+refresh-keeps set d p h key shares mask bytes words n =
+    let r = refreshable p key shares mask bytes words n in
+    let w : Words (p .l * (p .shares * 512)) shares = record { long = r .shares-long; low = r .shares-low } in
+    let power = listed set d Edition.Printed p h .power in
+    record {
+      renewed = refreshed masks (p .shares) (maskStart mask) (p .l) shares;
+      is = sym (refresh-done set d key shares mask bytes words p (sym h) 0 (sym n) refl key (refreshed masks (p .shares) (maskStart mask) (p .l) shares) refl refl);
+      low = refreshed-words masks mask-low (p .shares) power (p .l) shares w (maskStart mask);
+      secrets = refreshed-totals masks mask-low (p .shares) power (p .l) shares w (maskStart mask);
+    }
