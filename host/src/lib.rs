@@ -2,8 +2,10 @@
 //!
 //! * [`independent`]: written from FIPS 202 and paper 000, and not from the proved code, to compare with.
 //! * [`unit`]: the proved code, called through its C exports.
+//! * [`known`]: the known answers of the data files.
 //! * [`random`]: a small seeded generator for tests.
 
 pub mod independent;
+pub mod known;
 pub mod random;
 pub mod unit;

@@ -1,29 +1,10 @@
 //! The calls of paper 01 against known answers: name, status, and the SHA-256 of the result.
 
-use koivrast_host::independent::keccak::shake256;
 use koivrast_host::independent::raccoon::{challenge, Edition};
 use koivrast_host::independent::ring::{sample_q, Q};
-use koivrast_host::independent::sha256::sha256;
+use koivrast_host::known::{digest, known, word_bytes, xof};
 use koivrast_host::random::Random;
 use koivrast_host::unit;
-
-fn hex(bytes: &[u8]) -> String {
-    bytes.iter().map(|b| format!("{b:02x}")).collect()
-}
-
-/// The first n bytes of SHAKE256 over a label.
-fn xof(label: &str, n: usize) -> Vec<u8> {
-    let mut out = vec![0u8; n];
-    shake256(label.as_bytes(), &mut out);
-    out
-}
-
-/// What the file says of a call.
-fn known(name: &str) -> String {
-    let file = include_str!("data/calls-128-printed.txt");
-    let line = file.lines().find_map(|line| line.strip_prefix(name)?.strip_prefix(": "));
-    line.unwrap_or_else(|| panic!("no known answer for {name}")).to_string()
-}
 
 fn draws(values: &[u64]) -> Vec<u8> {
     values.iter().flat_map(|v| v.to_le_bytes()[..7].to_vec()).collect()
@@ -36,8 +17,7 @@ fn uniform(bytes: &[u8], n: usize) -> String {
     let status = unit::sample_uniform(bytes, &mut words[4..n + 4]);
     assert!(words[..4].iter().chain(&words[n + 4..]).all(|&w| w == GUARD));
     if status == 0 {
-        let result: Vec<u8> = words[4..n + 4].iter().flat_map(|w| w.to_le_bytes()).collect();
-        return format!("0 {}", hex(&sha256(&result)));
+        return format!("0 {}", digest(&word_bytes(&words[4..n + 4])));
     }
     assert!(words.iter().all(|&w| w == GUARD), "a refusal changed the result");
     format!("{status} -")
@@ -45,9 +25,9 @@ fn uniform(bytes: &[u8], n: usize) -> String {
 
 #[test]
 fn sha256_of_known_messages() {
-    assert_eq!(hex(&sha256(b"abc")), "ba7816bf8f01cfea414140de5dae2223b00361a396177a9cb410ff61f20015ad");
-    assert_eq!(hex(&sha256(&[])), "e3b0c44298fc1c149afbf4c8996fb92427ae41e4649b934ca495991b7852b855");
-    assert_eq!(hex(&sha256(&[b'a'; 1_000_000])), "cdc76e5c9914fb9281a1c7e284d73e67f1809a48a497200e046d39ccc7112cd0");
+    assert_eq!(digest(b"abc"), "ba7816bf8f01cfea414140de5dae2223b00361a396177a9cb410ff61f20015ad");
+    assert_eq!(digest(&[]), "e3b0c44298fc1c149afbf4c8996fb92427ae41e4649b934ca495991b7852b855");
+    assert_eq!(digest(&[b'a'; 1_000_000]), "cdc76e5c9914fb9281a1c7e284d73e67f1809a48a497200e046d39ccc7112cd0");
 }
 
 #[test]
@@ -92,7 +72,7 @@ fn uniform_sampler_on_any_bytes_and_lengths() {
         }
         let n = [0, 511, 512, 512, 512, 512, 513, 1024][random.below(8)];
         let expected = match (n, sample_q(&bytes)) {
-            (512, Some(poly)) => format!("0 {}", hex(&sha256(&poly.iter().flat_map(|w| w.to_le_bytes()).collect::<Vec<u8>>()))),
+            (512, Some(poly)) => format!("0 {}", digest(&word_bytes(&poly))),
             (512, None) => "10 -".to_string(),
             _ => "8 -".to_string(),
         };
@@ -108,7 +88,7 @@ fn challenged(set: u32, bytes: &[u8], n: usize) -> String {
     assert!(coefficients[..32].iter().chain(&coefficients[n + 32..]).all(|&c| c == GUARD));
     if status == 0 {
         let result: Vec<u8> = coefficients[32..n + 32].iter().map(|&c| c as u8).collect();
-        return format!("0 {}", hex(&sha256(&result)));
+        return format!("0 {}", digest(&result));
     }
     assert!(coefficients.iter().all(|&c| c == GUARD), "a refusal changed the result");
     format!("{status} -")
@@ -162,7 +142,7 @@ fn challenge_sampler_on_any_bytes_and_lengths() {
         };
         let expected = match (omega, n, challenge(Edition::Printed, omega, &bytes)) {
             (0, _, _) => "1 -".to_string(),
-            (_, 512, Some(c)) => format!("0 {}", hex(&sha256(&c.map(|x| x as u8)))),
+            (_, 512, Some(c)) => format!("0 {}", digest(&c.map(|x| x as u8))),
             (_, 512, None) => "11 -".to_string(),
             _ => "8 -".to_string(),
         };

@@ -1,26 +1,10 @@
 //! The independent implementation against the known answers of paper 01's calls.
 
-use koivrast_host::independent::keccak::shake256;
 use koivrast_host::independent::raccoon::{expand, keygen, refresh, sign, verify, Edition, Noise, Params};
-use koivrast_host::independent::sha256::sha256;
-
-fn hex(bytes: &[u8]) -> String {
-    bytes.iter().map(|b| format!("{b:02x}")).collect()
-}
-
-fn xof(label: &str, n: usize) -> Vec<u8> {
-    let mut out = vec![0u8; n];
-    shake256(label.as_bytes(), &mut out);
-    out
-}
-
-fn known(name: &str) -> String {
-    let file = include_str!("data/calls-128-printed.txt");
-    file.lines().find_map(|line| line.strip_prefix(name)?.strip_prefix(": ")).unwrap().to_string()
-}
+use koivrast_host::known::{digest, known, word_bytes, xof};
 
 fn expanded_digest(vk: &[u8], words: &[u64]) -> String {
-    hex(&sha256(&[vk.to_vec(), words.iter().flat_map(|w| w.to_le_bytes()).collect()].concat()))
+    digest(&[vk.to_vec(), word_bytes(words)].concat())
 }
 
 #[test]
@@ -30,7 +14,7 @@ fn keys_and_signatures_of_the_known_calls() {
         let name = format!("128-{d}");
         let key = keygen(&p, &xof(&format!("tape {name}"), p.keygen_bytes()), &xof("mask", 32)).unwrap();
         assert_eq!(key.len(), p.sk_bytes());
-        assert_eq!(format!("0 {}", hex(&sha256(&key))), known(&format!("{name} keygen")));
+        assert_eq!(format!("0 {}", digest(&key)), known(&format!("{name} keygen")));
         let words = expand(&p, &key).unwrap();
         let vk = &key[..p.vk_bytes()];
         assert_eq!(format!("0 {}", expanded_digest(vk, &words)), known(&format!("{name} open")));
@@ -43,7 +27,7 @@ fn keys_and_signatures_of_the_known_calls() {
         for (call, shares) in [("sign", &words), ("sign refreshed", &fresh)] {
             let (status, tries, signature) = sign(&p, vk, shares, &message, &attempts);
             let signature = signature.unwrap();
-            assert_eq!(format!("{status} {tries} {}", hex(&sha256(&signature))), known(&format!("{name} {call}")));
+            assert_eq!(format!("{status} {tries} {}", digest(&signature)), known(&format!("{name} {call}")));
             assert_eq!(verify(128, Edition::Printed, vk, &message, &signature), 0);
         }
     }

@@ -2,29 +2,13 @@
 //! around the result and the work buffer.
 
 use koivrast_host::independent::drbg::{tests, Drbg};
-use koivrast_host::independent::keccak::shake256;
 use koivrast_host::independent::raccoon::{keygen, Edition, Params};
-use koivrast_host::independent::sha256::sha256;
+use koivrast_host::known::{digest, known, response_tests, xof};
 use koivrast_host::random::Random;
 use koivrast_host::unit;
 
 const SETS: [usize; 3] = [128, 192, 256];
 const SHARES: [usize; 6] = [1, 2, 4, 8, 16, 32];
-
-fn hex(bytes: &[u8]) -> String {
-    bytes.iter().map(|b| format!("{b:02x}")).collect()
-}
-
-fn xof(label: &str, n: usize) -> Vec<u8> {
-    let mut out = vec![0u8; n];
-    shake256(label.as_bytes(), &mut out);
-    out
-}
-
-fn known(name: &str) -> String {
-    let file = include_str!("data/calls-128-printed.txt");
-    file.lines().find_map(|line| line.strip_prefix(name)?.strip_prefix(": ")).unwrap_or_else(|| panic!("{name}")).to_string()
-}
 
 /// A call's inputs, and the sizes of the buffers that it is lent.
 #[derive(Clone)]
@@ -60,7 +44,7 @@ impl Call {
     fn answer(&self) -> String {
         match self.run() {
             (status, None) => format!("{status} -"),
-            (_, Some(key)) => format!("0 {}", hex(&sha256(&key))),
+            (_, Some(key)) => format!("0 {}", digest(&key)),
         }
     }
 }
@@ -95,33 +79,17 @@ fn known_refusals() {
     }
 }
 
-/// The keys of a response file: set, share count, number of the test, and the digest of sk.
-fn response_keys(file: &str) -> Vec<(usize, usize, usize, String)> {
-    let (mut keys, mut name, mut count) = (vec![], (0, 0), 0);
-    for line in file.lines() {
-        if let Some(title) = line.strip_prefix("# Raccoon-") {
-            let (set, d) = title.split_once('-').unwrap_or((title, "1"));
-            name = (set.parse().unwrap(), d.parse().unwrap());
-        } else if let Some(n) = line.strip_prefix("count = ") {
-            count = n.parse().unwrap();
-        } else if let Some(digest) = line.strip_prefix("sk = ") {
-            keys.push((name.0, name.1, count, digest.to_string()));
-        }
-    }
-    keys
-}
-
 fn check(file: &str, edition: Edition) {
     let inputs = tests(3);
-    let keys = response_keys(file);
-    assert_eq!(keys.len(), 18 * 3);
-    for (set, d, count, digest) in keys {
+    let all = response_tests(file);
+    assert_eq!(all.len(), 18 * 3);
+    for ((set, d, count), answers) in all {
         let p = Params::new(set, d, edition).unwrap();
         let mut drbg = Drbg::new(&inputs[count].0);
         let seeds = (0..p.keygen_bytes() / p.seed_bytes()).flat_map(|_| drbg.bytes(p.seed_bytes())).collect();
         // the key does not depend on the masks
         let call = Call::new(&p, set, seeds, xof(&format!("mask {count}"), 32));
-        assert_eq!(call.answer(), format!("0 {digest}"), "{set}-{d}, test {count}");
+        assert_eq!(call.answer(), format!("0 {}", answers["sk"]), "{set}-{d}, test {count}");
     }
 }
 

@@ -1,27 +1,11 @@
 //! Expanding and refreshing of the proved code: known answers, all 18 pairs of set and share count, and damaged or badly sized inputs, each
 //! against the independent implementation, with guards around every result.
 
-use koivrast_host::independent::keccak::shake256;
 use koivrast_host::independent::raccoon::{expand, keygen, refresh, Edition, Params};
 use koivrast_host::independent::ring::Q;
-use koivrast_host::independent::sha256::sha256;
+use koivrast_host::known::{digest, known, word_bytes, xof};
 use koivrast_host::random::Random;
 use koivrast_host::unit;
-
-fn hex(bytes: &[u8]) -> String {
-    bytes.iter().map(|b| format!("{b:02x}")).collect()
-}
-
-fn xof(label: &str, n: usize) -> Vec<u8> {
-    let mut out = vec![0u8; n];
-    shake256(label.as_bytes(), &mut out);
-    out
-}
-
-fn known(name: &str) -> String {
-    let file = include_str!("data/calls-128-printed.txt");
-    file.lines().find_map(|line| line.strip_prefix(name)?.strip_prefix(": ")).unwrap_or_else(|| panic!("{name}")).to_string()
-}
 
 /// The status and, with 0, the results of a call that is lent buffers of these sizes; with a refusal they must be as they were.
 fn results(bytes: usize, words: usize, call: impl FnOnce(&mut [u8], &mut [u64]) -> u32) -> (u32, Option<(Vec<u8>, Vec<u64>)>) {
@@ -40,8 +24,7 @@ fn answer((status, key): (u32, Option<(Vec<u8>, Vec<u64>)>)) -> String {
     match key {
         None => format!("{status} -"),
         Some((bytes, words)) => {
-            let words: Vec<u8> = words.iter().flat_map(|w| w.to_le_bytes()).collect();
-            format!("0 {}", hex(&sha256(&[bytes, words].concat())))
+            format!("0 {}", digest(&[bytes, word_bytes(&words)].concat()))
         }
     }
 }
