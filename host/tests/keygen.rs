@@ -89,7 +89,9 @@ fn check(file: &str, edition: Edition) {
         let seeds = (0..p.keygen_bytes() / p.seed_bytes()).flat_map(|_| drbg.bytes(p.seed_bytes())).collect();
         // the key does not depend on the masks
         let call = Call::new(&p, set, seeds, xof(&format!("mask {count}"), 32));
-        assert_eq!(call.answer(), format!("0 {}", answers["sk"]), "{set}-{d}, test {count}");
+        let key = call.run().1.unwrap();
+        assert_eq!(digest(&key[..p.vk_bytes()]), answers["pk"], "pk of {set}-{d}, test {count}");
+        assert_eq!(digest(&key), answers["sk"], "sk of {set}-{d}, test {count}");
     }
 }
 
