@@ -9,8 +9,7 @@ use Rattle.hash.specs.Lists.{pick}
 use Rattle.hash.specs.declared.params.Params.{Params}
 use Rattle.ring.specs.Words.{q, allBelow}
 use Rattle.sharing.specs.Noise.{noiseBytes}
-use Rattle.signature.specs.Bounds.{checkBounds}
-use Rattle.signature.specs.Form.{Fields, bitCount, write, read}
+use Rattle.signature.specs.Form.{Fields, write, read}
 use Rattle.signature.specs.Keys.{vkVector, fullShare, keygenBytes}
 
 -- check n: with a no the status is n, with a yes it is that of the checks that follow
@@ -27,8 +26,11 @@ both a b = pick a b false
 abbrev pub signingKeySized : Params → List ℕ → Bool
 signingKeySized p key = eqb (length key) (p .«sk_bytes»)
 
+abbrev pub publicKeySized : Params → List ℕ → Bool
+publicKeySized p vk = eqb (length vk) (p .«vk_bytes»)
+
 abbrev pub expandedKeySized : Params → List ℕ → List ℕ → Bool
-expandedKeySized p bytes words = both (eqb (length bytes) (p .«vk_bytes»)) (eqb (length words) (p .l * (p .shares * 512)))
+expandedKeySized p bytes words = both (publicKeySized p bytes) (eqb (length words) (p .l * (p .shares * 512)))
 
 -- 4. Are all public key coefficients below 125?
 abbrev pub publicKeyGood : Params → List ℕ → Bool
@@ -77,9 +79,8 @@ messageSized m = leb (length m) 4096
 -- 10. Did every uniform polynomial fill within 777 draws?   11. Did the challenge fill within 1088 draws?
 -- The samplers put these two: they give none where the answer is no.
 
--- 12. Did some allowed attempt pass the bounds (2.4.4) and fit the signature length? Of one attempt:
-abbrev pub attemptPasses : Params → Fields → Bool
-attemptPasses p f = both (checkBounds p f) (leb (bitCount f) (8 * p .«sig_bytes»))
+-- 12. Did some allowed attempt pass the bounds (2.4.4) and fit the signature length?
+-- `finished` of Sign.antt puts it to each attempt: `checkBounds`, and `write`, which gives none where the bits do not fit.
 
 -- 13. Is the signature exactly as long as the set says?
 abbrev pub signatureSized : Params → List ℕ → Bool

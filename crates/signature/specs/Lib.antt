@@ -13,3 +13,7 @@ pub mod Keys
 pub mod Masked
 pub mod Matrix
 pub mod Opening
+pub mod Recover
+pub mod Sign
+pub mod SignCalls
+pub mod Verify
