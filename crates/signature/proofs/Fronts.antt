@@ -6,6 +6,8 @@ use native.Mathlib.Omega.{arith}
 use lib.ListN.{length, take}
 use lib.Seq.{take-at}
 use borrow.Rule.Slice.PartMut.{midOf, postOf, putMid, same-len-mid, mid-len}
+use Rattle.hash.specs.Shake.{absorbed, stream, shake256}
+use Rattle.hash.proofs.Table.{length-table}
 use Rattle.signature.specs.Bits.{repack}
 use Rattle.signature.proofs.Packing.{length-repack}
 
@@ -34,3 +36,17 @@ module _ (w n : ℕ) (xs ys bs : List ℕ) (h : n ≤ length xs) (e : ys ≡ rep
 
   pub unpacked-is : take (n - 0) (putMid 0 (n - 0) xs ys) ≡ repack 8 w n bs
   unpacked-is = front-is n xs ys h long ∙ unpacked
+
+-- .. by a hash
+module _ (n : ℕ) (xs ys m : List ℕ) (h : n ≤ length xs) (e : ys ≡ shake256 m (length (midOf 0 (n - 0) xs))) where
+  digest : ys ≡ shake256 m n
+  digest = let z : n - 0 ≡ n = omega arith in e ∙ ap (shake256 m) (mid-len 0 n xs h ∙ z)
+
+  digest-long : length ys ≡ n
+  digest-long = ap (λ (l : List ℕ). length l) digest ∙ length-table (stream (absorbed m)) n
+
+  pub digest-in : n ≤ length (putMid 0 (n - 0) xs ys)
+  digest-in = front-in n xs ys h digest-long
+
+  pub digest-is : take (n - 0) (putMid 0 (n - 0) xs ys) ≡ shake256 m n
+  digest-is = front-is n xs ys h digest-long ∙ digest

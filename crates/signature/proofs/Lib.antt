@@ -1,3 +1,4 @@
+pub mod Adjusted
 pub mod Asked
 pub mod Canon
 pub mod Canonical
@@ -28,9 +29,12 @@ pub mod Packing
 pub mod Parsed
 pub mod Product
 pub mod Renewed
+pub mod Recovered
+pub mod Reduced
 pub mod Rounded
 pub mod Rows
 pub mod Signs
+pub mod SameBytes
 pub mod Sizes
 pub mod Strings
 pub mod Trip

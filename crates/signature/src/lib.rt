@@ -12,5 +12,8 @@ pub mod keygen;
 pub mod keys;
 mod masked;
 mod matrix;
+mod recover;
+mod residues;
 mod rounding;
 mod vector;
+pub mod verify;
