@@ -1,11 +1,14 @@
 -- Rounding polynomial by polynomial is rounding of the whole vector (000, 2.2).
 use mathlib.Core.Path.{_≡_, refl, sym, ap, _∙_}
 use mathlib.Core.List.{List, [], _∷_, _++_}
-use Prim.Native.Nat.{ℕ, zero, suc, _+_, _*_, _≤_}
+use Prim.Native.Nat.{ℕ, zero, suc, _+_, _*_, _%_, _^_, _≤_}
+use native.Mathlib.Nat.{mod-lt}
 use native.Mathlib.Omega.{arith}
-use lib.ListN.{length}
-use Rattle.ring.specs.Words.{q, Below}
-use Rattle.ring.specs.Round.{mapN, rounded, roundT}
+use lib.Dec.{lit<}
+use lib.ListN.{length, take, drop}
+use Rattle.ring.specs.Words.{q, Below, Words}
+use Rattle.ring.specs.Round.{mapN, rounded, roundT, scaledT}
+use Rattle.ring.proofs.Pairs.{below-mapN}
 use Rattle.sharing.specs.Blocks.{block, build}
 use Rattle.sharing.specs.Region.{sub, Wrote}
 use Rattle.sharing.proofs.Lists.{blocks-all}
@@ -36,3 +39,26 @@ round-end k at i s₀ s h e u =
 pub below-up : (p : ℕ) (xs : List ℕ) → p ≤ q → Below p xs → Below q xs
 below-up p [] h b = tt
 below-up p (x ∷ xs) h b = (omega (arith, b .0, h), below-up p xs h (b .1))
+
+-- ---- parts and lengths of what is done to each element
+
+pub map-take : (f : ℕ → ℕ) (n : ℕ) (xs : List ℕ) → take n (mapN f xs) ≡ mapN f (take n xs)
+unfolding mapN
+map-take f zero xs = refl
+map-take f (suc n) [] = refl
+map-take f (suc n) (x ∷ xs) = ap (λ (t : List ℕ). f x ∷ t) (map-take f n xs)
+
+pub map-drop : (f : ℕ → ℕ) (n : ℕ) (xs : List ℕ) → drop n (mapN f xs) ≡ mapN f (drop n xs)
+unfolding mapN
+map-drop f zero xs = refl
+map-drop f (suc n) [] = refl
+map-drop f (suc n) (x ∷ xs) = map-drop f n xs
+
+pub length-map : (f : ℕ → ℕ) (xs : List ℕ) → length (mapN f xs) ≡ length xs
+unfolding mapN
+length-map f [] = refl
+length-map f (x ∷ xs) = ap suc (length-map f xs)
+
+pub scaled-words : (f : List ℕ) → length f ≡ 512 → Words 512 (scaledT f)
+scaled-words f e =
+    record { long = length-map (λ (x : ℕ). x * 2 ^ 42 % q) f ∙ e; low = below-mapN q (λ (x : ℕ). x * 2 ^ 42 % q) (λ (x : ℕ). mod-lt (x * 2 ^ 42) (lit< tt)) f }

@@ -13,6 +13,7 @@ ghost use Rattle.signature.specs.Answers.{fieldsOf};
 ghost use Rattle.signature.specs.Checks.{ask, sameBytes, properForm};
 ghost use Rattle.signature.specs.Form.{read, hashBytes};
 ghost use Rattle.signature.specs.Keys.{vkSeed, vkVector};
+ghost use Rattle.signature.specs.Masked.{transformed};
 ghost use Rattle.signature.specs.Matrix.{matrix, matrixOf, filled};
 ghost use Rattle.signature.specs.Recover.{recovered, adjusted, adjustedRows, boundTo};
 ghost use Rattle.signature.specs.Table.{Tabled};
@@ -69,6 +70,39 @@ fn adjust_rows(
         adjust(y, &hint[a..e], &mut w[a..e]);
     }
     true
+}
+
+// z behind the room for a row, transformed.
+fn place(z: &[i64], l: usize, s: &mut [u64])
+    requires { ⌜ (512 + l * 512 ≤ length (now s)) × Below q (now s) × (length (now z) ≡ l * 512) ⌝ }
+    requires { ⌜ ((i : ℕ) → i < length (now z) → natAbs (getD (now z) i (pos 0)) < q) ⌝ }
+    ensures { λ _. ⌜ (sub (now (s .exit)) 512 (l * 512) ≡ transformed l (residues q (now (z .entry)))) × (length (now (s .exit)) ≡ length (now (s .entry))) × Below q (now (s .exit)) ⌝ }
+{
+    let b = 512 + l * 512;
+    residues_into(z, Q, &mut s[512..b]);
+    ntt_vector(s, 512, l);
+}
+
+// Lines 4 to 7: the bytes of w', of the matrix, t, the fields and the challenge polynomial.
+fn recompute(p: Params, vk: &[u8], hint: &[i64], z: &[i64], c: [i8; 512], w: &mut [u8]) -> bool
+    requires { ⌜ Tabled p × (length (now vk) ≡ p .«vk_bytes») × Below 125 (vkVector p (now vk)) ⌝ }
+    requires { ⌜ (length (now hint) ≡ p .k * 512) × (length (now z) ≡ p .l * 512) × (length (now w) ≡ p .k * 512) ⌝ }
+    requires { ⌜ ((i : ℕ) → i < length (now hint) → natAbs (getD (now hint) i (pos 0)) < 31) ⌝ }
+    requires { ⌜ ((i : ℕ) → i < length (now z) → natAbs (getD (now z) i (pos 0)) < q) ⌝ }
+    ensures { λ r. ⌜ r ≡ filled (matrix p (vkSeed p (now (vk .entry)))) ⌝ }
+    ensures { λ r. ⌜ ((A : List ℕ) → matrix p (vkSeed p (now (vk .entry))) ≡ some A → now (w .exit) ≡ adjusted (recovered p A (residues q (now (z .entry))) (residues q c) (vkVector p (now (vk .entry)))) (now (hint .entry))) ⌝ }
+{
+    let k = p.k;
+    let l = p.l;
+    let n = p.kappa / 8;
+    let m = k * 512;
+    let e = n + k * 448;
+    let mut t = [0u64; 4608];
+    let mut s = [0u64; 4096];
+    unpack(&vk[n..e], 7, &mut t[0..m]);
+    place(z, l, &mut s);
+    let x = ntt(from_signed(c));
+    adjust_rows(&mut s, &vk[0..n], k, l, x, &t[0..m], hint, w)
 }
 
 // mu = H(H(vk) || msg) (line 3); out has the bytes of a hash.
