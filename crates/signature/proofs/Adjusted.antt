@@ -80,13 +80,18 @@ length-adjusted : (y : List ℕ) (h : List ℤ) → length (adjusted y h) ≡ le
 unfolding adjusted
 length-adjusted y h = length-zip add31 (roundW y) (residues 31 h) ∙ length-map (rounded 44 31) y
 
-module _ (p : Params) (seed A z c t : List ℕ) (h : List ℤ) (e : matrix p seed ≡ some A) (wz : Words (p .l * 512) z) (wc : Words 512 c) (lt : length t ≡ p .k * 512) where
+module _ (p : Params) (A z c t : List ℕ) where
   row-long : (i : ℕ) → i < p .k → length (recoveredRow (p .l) A z c t i) ≡ 512
   unfolding recoveredRow productRow
   row-long i o =
       words-sub (sumOf 512 (p .l) (λ (m : ℕ). mul (block 512 (i * p .l + m) A) (block 512 m z))) (mul c (scaledT (block 512 i t)))
       (words-sum 512 (p .l) (λ (m : ℕ). mul (block 512 (i * p .l + m) A) (block 512 m z))) .long
 
+  pub adjusted-long : (h : List ℤ) → length (adjusted (recovered p A z c t) h) ≡ p .k * 512
+  unfolding recovered
+  adjusted-long h = length-adjusted (recovered p A z c t) h ∙ length-build 512 (p .k) (recoveredRow (p .l) A z c t) row-long
+
+module _ (p : Params) (seed A z c t : List ℕ) (h : List ℤ) (e : matrix p seed ≡ some A) (wz : Words (p .l * 512) z) (wc : Words 512 c) (lt : length t ≡ p .k * 512) where
   pub adjusted-all : adjustedRows (p .k) (p .l) seed (transformed (p .l) z) (ntt c) t h ≡ adjusted (recovered p A z c t) h
   unfolding adjustedRows recovered
   adjusted-all =
@@ -96,10 +101,10 @@ module _ (p : Params) (seed A z c t : List ℕ) (h : List ℤ) (e : matrix p see
       λ (i : ℕ) (o : i < p .k).
       let g : i * 512 + 512 ≤ p .k * 512 = inside i (p .k) 512 o in
       ap (λ (v : List ℕ). adjusted v (blockZ i h)) (recovered-row (p .k) (p .l) seed A z c t e wz wc i o (scaled-words (block 512 i t) (block-long t i (omega (arith, g, lt))))
-      ∙ sym (block-build 512 (p .k) i R row-long o))
+      ∙ sym (block-build 512 (p .k) i R (row-long p A z c t) o))
       ∙ sym (adjust-block Y h i) in
       build-ext (p .k) (adjustedAt (p .l) seed (transformed (p .l) z) (ntt c) t h) (λ (i : ℕ). block 512 i (adjusted Y h)) f
-      ∙ blocks-all 512 (p .k) (adjusted Y h) (length-adjusted Y h ∙ length-build 512 (p .k) R row-long)
+      ∙ blocks-all 512 (p .k) (adjusted Y h) (adjusted-long p A z c t h)
 
 -- the same of equal parts
 pub adjusted-parts : {v v′ s s′ x x′ t t′ : List ℕ} (k l : ℕ) (h : List ℤ) → v ≡ v′ → s ≡ s′ → x ≡ x′ → t ≡ t′ → adjustedRows k l v s x t h ≡ adjustedRows k l v′ s′ x′ t′ h

@@ -28,6 +28,7 @@ pub mod Packer
 pub mod Packing
 pub mod Parsed
 pub mod Product
+pub mod Proper
 pub mod Renewed
 pub mod Recovered
 pub mod Reduced
@@ -38,6 +39,7 @@ pub mod SameBytes
 pub mod Sizes
 pub mod Strings
 pub mod Trip
+pub mod Verdict
 pub mod Whole
 pub mod Words
 pub mod KeyDone

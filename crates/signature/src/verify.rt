@@ -133,3 +133,40 @@ fn same_bytes(a: &[u8], b: &[u8]) -> bool
     true
 }
 
+// Lines 3 to 9, of the fields: checks 10, 11, 16.
+fn verify_hash(
+    p: Params,
+    vk: &[u8],
+    msg: &[u8],
+    hash: &[u8],
+    hint: &[i64],
+    z: &[i64],
+) -> u32
+    requires { ⌜ Tabled p × (length (now vk) ≡ p .«vk_bytes») × Below 125 (vkVector p (now vk)) × (length (now hash) ≡ hashBytes p) ⌝ }
+    requires { ⌜ (length (now hint) ≡ p .k * 512) × (length (now z) ≡ p .l * 512) ⌝ }
+    requires { ⌜ ((i : ℕ) → i < length (now hint) → natAbs (getD (now hint) i (pos 0)) < 31) ⌝ }
+    requires { ⌜ ((i : ℕ) → i < length (now z) → natAbs (getD (now z) i (pos 0)) < q) ⌝ }
+    ensures { λ r. ⌜ r ≡ verifyMatrix p (now (vk .entry)) (now (msg .entry)) (fieldsOf (now (hash .entry)) (now (hint .entry)) (now (z .entry))) (matrix p (vkSeed p (now (vk .entry)))) ⌝ }
+{
+    let k = p.k;
+    let edition = p.edition;
+    let n = k * 512;
+    let b = p.kappa / 4;
+    let mut w = [0u8; 4608];
+    let mut mu = [0u8; 64];
+    let mut again = [0u8; 64];
+    let c = chal_poly(p.omega, edition, hash);
+    let x = c.poly;
+    if !recompute(p, vk, hint, z, x, &mut w[0..n]) {
+        return 10;
+    }
+    if !c.ok {
+        return 11;
+    }
+    bind(vk, msg, &mut mu[0..b]);
+    chal_hash(k, edition, &w[0..n], &mu[0..b], &mut again[0..b]);
+    if same_bytes(hash, &again[0..b]) {
+        return 0;
+    }
+    16
+}
