@@ -40,6 +40,7 @@ pub mod Sizes
 pub mod Strings
 pub mod Trip
 pub mod Verdict
+pub mod Verified
 pub mod Whole
 pub mod Words
 pub mod KeyDone
