@@ -7,6 +7,7 @@ pub mod ChalResult
 pub mod ChalRun
 pub mod Codes
 pub mod Collected
+pub mod Commits
 pub mod Counts
 pub mod Entries
 pub mod Filled

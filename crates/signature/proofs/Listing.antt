@@ -30,6 +30,8 @@ row-small set d e p r w =
       rep-low = r .rule .rep-low;
       ut-pos = r .rule .ut-pos;
       ut-low = r .rule .ut-low;
+      uw-pos = r .rule .uw-pos;
+      uw-low = r .rule .uw-low;
       kappa-low = r .rule .kappa-low;
     }
 

@@ -28,6 +28,8 @@ pub record Small (p : Params) : Type 0 where
   pub rep-low : p .rep ≤ 8
   pub ut-pos : 1 ≤ p .ut
   pub ut-low : p .ut ≤ 7
+  pub uw-pos : 1 ≤ p .uw
+  pub uw-low : p .uw ≤ 41
   pub kappa-low : p .kappa ≤ 256
 
 -- the signing key of t and x in the work buffer

@@ -12,5 +12,6 @@ pub mod keygen;
 pub mod keys;
 mod masked;
 mod matrix;
+mod noise;
 mod rounding;
 mod vector;
