@@ -2,11 +2,13 @@
 use mathlib.Core.Path.{_≡_, sym, ap, _∙_}
 use mathlib.Core.List.{List}
 use mathlib.Core.Option.{some}
-use Prim.Native.Nat.{ℕ, _+_, _*_, _^_}
+use Prim.Native.Nat.{ℕ, _+_, _-_, _*_, _^_, _≤_}
 use native.Mathlib.Omega.{arith}
+use lib.ListN.{length, take, drop, length-drop}
 use Rattle.hash.specs.Params.{orderIndex}
 use Rattle.hash.specs.declared.params.Params.{Params}
-use Rattle.ring.specs.Words.{Words}
+use Rattle.ring.specs.Words.{q, Below, Words}
+use Rattle.ring.proofs.Sums.{below-take, below-drop}
 use Rattle.sharing.specs.Blocks.{totals}
 use Rattle.sharing.specs.Region.{sub, Wrote}
 use Rattle.sharing.specs.Encoding.{skip, addNoise, zeroVector}
@@ -20,6 +22,7 @@ use Rattle.signature.specs.Masked.{Noise, maskedNoise, maskedImage, befo
 use Rattle.signature.specs.Matrix.{matrix}
 use Rattle.signature.proofs.Images.{image-product}
 use Rattle.signature.proofs.KeySteps.{skip-two}
+use Rattle.signature.proofs.Sizes.{part-all}
 
 -- the masked noise is a vector of words
 pub masked-words : (p : Params) (N : Noise) (g : MaskGen) → p .shares ≡ 2 ^ orderIndex (p .shares) → Words (p .l * (p .shares * 512)) (maskedNoise p N g)
@@ -43,20 +46,39 @@ module _ (p : Params) (N : Noise) (g x : MaskGen) (power : p .shares ≡ 2 ^ ord
       ∙ ap (I (skip masks (p .shares) (beforeProduct p N) g))
       (image-product (p .shares) (p .k) (p .l) seed A (maskedNoise p N g) m (masked-words p N g power))
 
-  pub commit-made : (seed A s₀ s₁ s₂ : List ℕ) (y : MaskGen) → matrix p seed ≡ some A
+  -- f is the noise of the product
+  pub commit-made : (f : ℕ → ℕ → List ℕ) → f ≡ N .second → (seed A s₀ s₁ s₂ : List ℕ) (y : MaskGen) → matrix p seed ≡ some A
       → Wrote (p .shares * 512) (atR (p .l) (p .shares)) (p .l * (p .shares * 512)) (transformed (p .l * p .shares) (maskedNoise p N g)) s₀ s₁
       → Wrote (p .shares * 512 + p .shares * 512) (atT (p .l) (p .shares)) (p .k * 512)
-      (totals (p .k) (p .shares) (addNoise masks (p .shares) x (p .k) (N .reps) (N .second)
+      (totals (p .k) (p .shares) (addNoise masks (p .shares) x (p .k) (N .reps) f
       (rowsOf (p .shares) (p .k) (p .l) A (sub s₁ (atR (p .l) (p .shares)) (p .l * (p .shares * 512)))))) s₁ s₂
       → y ≡ skip masks (p .shares) (p .k * N .reps) x → Committed p N g A y s₀ s₂
-  commit-made seed A s₀ s₁ s₂ y m u v f =
+  commit-made f hf seed A s₀ s₁ s₂ y m u v o =
       let n = p .l * (p .shares * 512) in
+      let I : (ℕ → ℕ → List ℕ) → List ℕ → List ℕ = λ (h : ℕ → ℕ → List ℕ) (Y : List ℕ). totals (p .k) (p .shares) (addNoise masks (p .shares) x (p .k) (N .reps) h (rowsOf (p .shares) (p .k) (p .l) A Y)) in
       record {
         noise = v .front (atR (p .l) (p .shares)) n (omega arith) (omega arith) ∙ u .new;
         image =
-            v .new
-            ∙ ap (λ (Y : List ℕ). totals (p .k) (p .shares) (addNoise masks (p .shares) x (p .k) (N .reps) (N .second) (rowsOf (p .shares) (p .k) (p .l) A Y))) (u .new)
+            v .new ∙ ap (I f) (u .new) ∙ ap (λ (h : ℕ → ℕ → List ℕ). I h (transformed (p .l * p .shares) (maskedNoise p N g))) hf
             ∙ image-is seed A m;
         key = v .front (atS (p .shares)) n (omega arith) (omega arith) ∙ u .front (atS (p .shares)) n (omega arith) (omega arith);
-        next = skip-two (p .shares) (beforeProduct p N) (p .k * N .reps) g x y e f;
+        next = skip-two (p .shares) (beforeProduct p N) (p .k * N .reps) g x y e o;
       }
+
+-- one repetition
+pub skip-once : (d k : ℕ) (x y : MaskGen) → y ≡ skip masks d k x → y ≡ skip masks d (k * 1) x
+skip-once d k x y e = let n : k ≡ k * 1 = omega arith in e ∙ ap (λ (m : ℕ). skip masks d m x) n
+
+-- the parts of one attempt's explicit noise
+module _ (l k d : ℕ) (xs : List ℕ) (e : length xs ≡ (l + k) * d * 512) where
+  pub words-first : l * (d * 512) ≤ length xs
+  words-first = omega arith
+
+  pub words-second : k * (d * 512) ≤ length (take (length xs - l * (d * 512)) (drop (l * (d * 512)) xs))
+  words-second =
+      let b = l * (d * 512) in
+      let m : length (drop b xs) ≡ length xs - b = length-drop b xs in
+      rw (part-all b xs) (omega arith)
+
+pub below-part : (n b : ℕ) (xs : List ℕ) → Below q xs → Below q (take n (drop b xs))
+below-part n b xs h = below-take q n (drop b xs) (below-drop q b xs h)

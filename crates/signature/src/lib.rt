@@ -3,6 +3,7 @@ mod bits;
 mod bounds;
 pub mod challenge;
 mod code;
+mod commit;
 mod compress;
 mod form;
 mod int;
