@@ -34,6 +34,7 @@ pub mod Rows
 pub mod Signs
 pub mod Sizes
 pub mod Strings
+pub mod Tapes
 pub mod Trip
 pub mod Whole
 pub mod Words
