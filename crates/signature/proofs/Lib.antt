@@ -29,6 +29,7 @@ pub mod Packing
 pub mod Parsed
 pub mod Product
 pub mod Renewed
+pub mod Responses
 pub mod Rounded
 pub mod Rows
 pub mod Signs

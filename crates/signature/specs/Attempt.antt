@@ -7,15 +7,16 @@ use Prim.Native.Nat.{ℕ, _+_, _*_, _≤_}
 use lib.ListN.{length}
 use Rattle.hash.specs.Lists.{pick}
 use Rattle.hash.specs.declared.params.Params.{Params}
-use Rattle.ring.specs.Words.{q, Below}
-use Rattle.sharing.specs.Blocks.{totals}
+use Rattle.ring.specs.Words.{q, addW, Below, Words}
+use Rattle.ring.specs.Transform.{intt, pointwise}
+use Rattle.sharing.specs.Blocks.{block, build, totals}
 use Rattle.sharing.specs.Region.{sub}
-use Rattle.sharing.specs.Encoding.{skip}
+use Rattle.sharing.specs.Encoding.{skip, refreshed}
 use Rattle.sharing.specs.Masks.{masks}
 use Rattle.sharing.specs.declared.masks.MaskGen.{MaskGen}
-use Rattle.signature.specs.Keygen.{atS, atT}
-use Rattle.signature.specs.Masked.{Noise, maskedNoise, maskedImage, behindProduct, transformed}
-use Rattle.signature.specs.Sign.{Tapes, noiseSize}
+use Rattle.signature.specs.Keygen.{atS, atT, atX}
+use Rattle.signature.specs.Masked.{Noise, maskedNoise, maskedImage, behindProduct, transformed, untransformed}
+use Rattle.signature.specs.Sign.{Tapes, noiseSize, maskedResponse}
 
 -- what all attempts draw on: of the two forms of noise that which is used, and the mask seeds
 abbrev pub tapesOf : Bool → List ℕ → List ℕ → List ℕ → Tapes
@@ -37,3 +38,32 @@ pub record Committed (p : Params) (N : Noise) (g : MaskGen) (A : List ℕ) (h : 
   pub image : sub ys (atT (p .l) (p .shares)) (p .k * 512) ≡ totals (p .k) (p .shares) (maskedImage p N g A)
   pub key : sub ys (atS (p .shares)) (p .l * (p .shares * 512)) ≡ sub xs (atS (p .shares)) (p .l * (p .shares * 512))
   pub next : h ≡ skip masks (p .shares) (behindProduct p N) g
+
+-- ---- line 14 by the transform: c is the transform of the challenge, X the shares of s in the transform domain, Y those of r
+
+-- share j of one polynomial; the shares of polynomial i
+abbrev pub answered : List ℕ → List ℕ → List ℕ → ℕ → List ℕ
+answered c X Y j = addW (intt (pointwise c (block 512 j X))) (block 512 j Y)
+
+abbrev pub answeredAt : ℕ → List ℕ → List ℕ → List ℕ → ℕ → List ℕ
+answeredAt d c X Y i = build d (answered c (block (d * 512) i X) (block (d * 512) i Y))
+
+-- ---- lines 12 to 16
+
+-- lines 12 and 13, s at a and r at b: s refreshed, r turned back and refreshed; what is behind them as it was
+pub record Renewed (l d a b : ℕ) (g : MaskGen) (xs ys : List ℕ) : Type 0 where
+  pub key : sub ys a (l * (d * 512)) ≡ refreshed masks d g l (sub xs a (l * (d * 512)))
+  pub noise : sub ys b (l * (d * 512)) ≡ refreshed masks d (skip masks d l g) l (untransformed (l * d) (sub xs b (l * (d * 512))))
+  pub behind : (e n : ℕ) → b + l * (d * 512) ≤ e → sub ys e n ≡ sub xs e n
+  pub long : length ys ≡ length xs
+  pub low : Below q ys
+
+-- all of them, of the challenge polynomial c: s refreshed, z, and w as it was; g is the generator behind line 7
+pub record Responded (k l d : ℕ) (c : List ℕ) (g : MaskGen) (xs ys : List ℕ) : Type 0 where
+  pub key : sub ys (atS d) (l * (d * 512)) ≡ refreshed masks d g l (sub xs (atS d) (l * (d * 512)))
+  pub response : (r : List ℕ) → Words (l * (d * 512)) r → sub xs (atR l d) (l * (d * 512)) ≡ transformed (l * d) r
+      → sub ys (atX k l d) (l * 512) ≡ totals l d (refreshed masks d (skip masks d (l + l) g) l
+      (maskedResponse d l c (refreshed masks d g l (sub xs (atS d) (l * (d * 512)))) (refreshed masks d (skip masks d l g) l r)))
+  pub commitment : sub ys (atT l d) (k * 512) ≡ sub xs (atT l d) (k * 512)
+  pub long : length ys ≡ length xs
+  pub low : Below q ys

@@ -14,5 +14,6 @@ pub mod keys;
 mod masked;
 mod matrix;
 mod noise;
+mod respond;
 mod rounding;
 mod vector;
