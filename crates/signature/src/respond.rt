@@ -94,6 +94,6 @@ pub(crate) fn respond(work: &mut [u64], k: usize, l: usize, d: usize, c: [u64; 5
     let e = b + l * (d * 512) + k * 512;
     let x = renew(work, a, b, l, d, g);
     respond_vector(work, a, b, c, l, d);
-    let y = refresh_vector(work, b, l, d, x);
+    refresh_vector(work, b, l, d, x);
     decode_vector(work, b, e, l, d);
 }
