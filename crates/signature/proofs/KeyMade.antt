@@ -27,7 +27,7 @@ use Rattle.signature.proofs.Packing.{length-repack, repack-trip}
 use Rattle.signature.proofs.Entries.{all-some}
 use Rattle.signature.proofs.Rounded.{rounded-residues}
 
-some-same : (a b : List ℕ) → some a ≡ some b → a ≡ b
+pub some-same : (a b : List ℕ) → some a ≡ some b → a ≡ b
 some-same a b e = cc
 
 none-some : (a : List ℕ) → none ≡ some a → ⊥

@@ -22,6 +22,7 @@ pub mod KeySecret
 pub mod KeySteps
 pub mod Listing
 pub mod Lists
+pub mod Loads
 pub mod Norms
 pub mod Opened
 pub mod Packer

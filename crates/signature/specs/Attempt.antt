@@ -1,7 +1,7 @@
 -- The steps of one attempt of signing (000, Algorithm 2) on the work buffer. It is laid out as in key generation: r, and then the shares of
 -- z, lie where Keygen.antt leaves room for r; w lies in the place of t, z in that of x.
 use mathlib.Core.Path.{_≡_}
-use mathlib.Core.Bool.{Bool, true}
+use mathlib.Core.Bool.{Bool, true, false}
 use mathlib.Core.List.{List}
 use Prim.Native.Nat.{ℕ, _+_, _*_, _≤_}
 use lib.ListN.{length}
@@ -17,6 +17,12 @@ use Rattle.sharing.specs.declared.masks.MaskGen.{MaskGen}
 use Rattle.signature.specs.Keygen.{atS, atT, atX}
 use Rattle.signature.specs.Masked.{Noise, maskedNoise, maskedImage, behindProduct, transformed, untransformed}
 use Rattle.signature.specs.Sign.{Tapes, noiseSize, maskedResponse}
+use Rattle.signature.specs.SignCalls.{Key, packed, expanded}
+
+-- the key that a call is lent: a signing key's bytes, or the public key's bytes and the words of all shares
+abbrev pub keyFrom : Bool → List ℕ → List ℕ → Key
+keyFrom true bytes words = packed bytes
+keyFrom false bytes words = expanded bytes words
 
 -- what all attempts draw on: of the two forms of noise that which is used, and the mask seeds
 abbrev pub tapesOf : Bool → List ℕ → List ℕ → List ℕ → Tapes

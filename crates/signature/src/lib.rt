@@ -11,6 +11,7 @@ mod keycheck;
 mod keyform;
 pub mod keygen;
 pub mod keys;
+mod load;
 mod masked;
 mod matrix;
 mod noise;
