@@ -1,4 +1,5 @@
 pub mod Asked
+pub mod Attempts
 pub mod Canon
 pub mod Canonical
 pub mod ChalBytes

@@ -1,0 +1,129 @@
+-- Attempts of signing (000, Algorithm 2): lines 4 to 16 on the work buffer are the definition's, an attempt by its ends, and the attempts in
+-- order. n is how many attempts are left, a how many are behind, s the key's shares.
+use mathlib.Core.Path.{_≡_, sym, ap, _∙_}
+use mathlib.Core.Bool.{true, false}
+use mathlib.Core.List.{List, []}
+use mathlib.Core.Option.{Option, some, none}
+use Prim.Native.Nat.{ℕ, zero, suc, _+_, _*_, _^_}
+use native.Mathlib.Numerals.{add-one}
+use native.Mathlib.Omega.{arith}
+use lib.IntN.{ℤ}
+use Rattle.hash.specs.Params.{orderIndex}
+use Rattle.hash.specs.declared.params.Params.{Params}
+use Rattle.ring.specs.Words.{q}
+use Rattle.ring.specs.Round.{roundW, residues}
+use Rattle.sharing.specs.Blocks.{totals}
+use Rattle.sharing.specs.Region.{sub}
+use Rattle.sharing.specs.Encoding.{skip, refreshed}
+use Rattle.sharing.specs.Masks.{masks}
+use Rattle.sharing.specs.declared.masks.MaskGen.{MaskGen}
+use Rattle.sharing.proofs.Totals.{skip-add}
+use Rattle.signature.specs.Attempt.{atR, Committed, Responded}
+use Rattle.signature.specs.Bounds.{checkBounds}
+use Rattle.signature.specs.Challenge.{chalHash, chalPoly}
+use Rattle.signature.specs.Form.{Fields, write}
+use Rattle.signature.specs.Keygen.{atS, atT, atX}
+use Rattle.signature.specs.Masked.{Noise, maskedNoise, maskedImage, behindProduct}
+use Rattle.signature.specs.Sign.{Public, Attempted, made, over, stuck, Answer, answer, Tapes, signedFields, finished, challenged, concluded, maskedResponse, refreshedKey, refreshedNoise, refreshedResponse, attempted, noiseAt, maskAt, signFrom}
+use Rattle.signature.proofs.Commits.{masked-words}
+
+-- ---- lines 4 to 16 on the work buffer: s₁ behind the commitment, s₂ before the response, where s and r are as they were, s₃ behind it
+
+module _ (p : Params) (N : Noise) (g x : MaskGen) (A c s₀ s₁ s₂ s₃ : List ℕ) (power : p .shares ≡ 2 ^ orderIndex (p .shares))
+    (u : Committed p N g A x s₀ s₁)
+    (hs : sub s₂ (atS (p .shares)) (p .l * (p .shares * 512)) ≡ sub s₁ (atS (p .shares)) (p .l * (p .shares * 512)))
+    (hr : sub s₂ (atR (p .l) (p .shares)) (p .l * (p .shares * 512)) ≡ sub s₁ (atR (p .l) (p .shares)) (p .l * (p .shares * 512)))
+    (v : Responded (p .k) (p .l) (p .shares) c x s₂ s₃) where
+  skip-behind : (n : ℕ) → skip masks (p .shares) n x ≡ skip masks (p .shares) (behindProduct p N + n) g
+  skip-behind n = ap (skip masks (p .shares) n) (u .next) ∙ skip-add masks (p .shares) (behindProduct p N) n g
+
+  -- line 12, the key of the next attempt
+  pub key-left : sub s₃ (atS (p .shares)) (p .l * (p .shares * 512)) ≡ refreshedKey p N g (sub s₀ (atS (p .shares)) (p .l * (p .shares * 512)))
+  unfolding refreshedKey
+  key-left =
+      v .key ∙ ap (refreshed masks (p .shares) x (p .l)) (hs ∙ u .key)
+      ∙ ap (λ (h : MaskGen). refreshed masks (p .shares) h (p .l) (sub s₀ (atS (p .shares)) (p .l * (p .shares * 512)))) (u .next)
+
+  -- line 16
+  pub response-left : sub s₃ (atX (p .k) (p .l) (p .shares)) (p .l * 512)
+      ≡ totals (p .l) (p .shares) (refreshedResponse p N g (sub s₀ (atS (p .shares)) (p .l * (p .shares * 512))) c)
+  unfolding refreshedKey refreshedNoise refreshedResponse
+  response-left =
+      let d = p .shares in
+      let S = sub s₀ (atS (p .shares)) (p .l * (p .shares * 512)) in
+      let R = maskedNoise p N g in
+      let Z : MaskGen → MaskGen → MaskGen → List ℕ → List ℕ = λ (a b h : MaskGen) (X : List ℕ).
+      totals (p .l) (p .shares) (refreshed masks (p .shares) a (p .l) (maskedResponse (p .shares) (p .l) c (refreshed masks (p .shares) b (p .l) X) (refreshed masks (p .shares) h (p .l) R))) in
+      let y = skip masks (p .shares) (p .l) x in
+      let z = skip masks (p .shares) (p .l + p .l) x in
+      let n : behindProduct p N + (p .l + p .l) ≡ behindProduct p N + p .l + p .l = omega arith in
+      v .response R (masked-words p N g power) (hr ∙ u .noise)
+      ∙ ap (Z z x y) (hs ∙ u .key)
+      ∙ ap (λ (h : MaskGen). Z z h y S) (u .next)
+      ∙ ap (λ (h : MaskGen). Z z (skip masks (p .shares) (behindProduct p N) g) h S) (skip-behind (p .l))
+      ∙ ap (λ (h : MaskGen). Z h (skip masks (p .shares) (behindProduct p N) g) (skip masks (p .shares) (behindProduct p N + p .l) g) S)
+      (skip-behind (p .l + p .l) ∙ ap (λ (m : ℕ). skip masks (p .shares) m g) n)
+
+-- ---- the ends of one attempt; W is the commitment, z the response to the challenge polynomial
+
+-- the sum of the commitment's shares, line 8; its hash, line 10
+abbrev pub commitmentOf : Params → Public → Noise → MaskGen → List ℕ
+commitmentOf p P N g = totals (p .k) (p .shares) (maskedImage p N g (P .matrix))
+
+abbrev pub hashOf : Params → Public → Noise → MaskGen → List ℕ
+hashOf p P N g = chalHash p (roundW (commitmentOf p P N g)) (P .mu)
+
+-- line 19, with the challenge polynomial c
+abbrev pub fieldsFor : Params → Public → Noise → MaskGen → List ℕ → List ℤ → Fields
+fieldsFor p P N g s c =
+    signedFields p P (roundW (commitmentOf p P N g)) (hashOf p P N g) (totals (p .l) (p .shares) (refreshedResponse p N g s (residues q c))) c
+
+module _ (p : Params) (P : Public) (N : Noise) (g : MaskGen) (s : List ℕ) where
+  abbrev at-challenge : Option (List ℤ) → Attempted
+  at-challenge o =
+      challenged p P (roundW (commitmentOf p P N g)) (hashOf p P N g) (λ (c : List ℕ). totals (p .l) (p .shares) (refreshedResponse p N g s c)) o
+
+  -- check 11
+  pub attempt-stuck : chalPoly p (hashOf p P N g) ≡ none → attempted p P N g s ≡ stuck
+  unfolding attempted concluded
+  attempt-stuck e = ap at-challenge e
+
+  pub attempt-on : (c : List ℤ) → chalPoly p (hashOf p P N g) ≡ some c → attempted p P N g s ≡ finished p (fieldsFor p P N g s c)
+  unfolding attempted concluded
+  attempt-on c e = ap at-challenge e
+
+module _ (p : Params) (f : Fields) where
+  -- over the bounds, too long, or a signature
+  pub over-bounds : checkBounds p f ≡ false → finished p f ≡ over
+  unfolding finished
+  over-bounds e = simp e
+
+  pub over-length : checkBounds p f ≡ true → write p f ≡ none → finished p f ≡ over
+  unfolding finished
+  over-length e h = simp (e, h)
+
+  pub signature-made : (b : List ℕ) → checkBounds p f ≡ true → write p f ≡ some b → finished p f ≡ made b
+  unfolding finished
+  signature-made b e h = simp (e, h)
+
+-- ---- the attempts in order
+
+module _ (p : Params) (P : Public) (T : Tapes) (n m a : ℕ) (s : List ℕ) (left : n ≡ suc m) where
+  -- attempt number a + 1 made a signature; met a challenge that does not fill; was over, and t is the key that it left
+  pub sign-pass : (b : List ℕ) → attempted p P (noiseAt p T a) (maskAt T a) s ≡ made b → signFrom p P T n a s ≡ answer 0 (a + 1) b
+  unfolding signFrom
+  sign-pass b e = rw (left, signFrom, e, add-one)
+
+  pub sign-stuck : attempted p P (noiseAt p T a) (maskAt T a) s ≡ stuck → signFrom p P T n a s ≡ answer 11 (a + 1) []
+  unfolding signFrom
+  sign-stuck e = rw (left, signFrom, e, add-one)
+
+  pub sign-next : (t : List ℕ) → t ≡ refreshedKey p (noiseAt p T a) (maskAt T a) s → attempted p P (noiseAt p T a) (maskAt T a) s ≡ over
+      → signFrom p P T n a s ≡ signFrom p P T m (a + 1) t
+  unfolding signFrom
+  sign-next t h e = rw (left, signFrom, e, add-one, h)
+
+-- no attempt is left
+pub sign-none : (p : Params) (P : Public) (T : Tapes) (n a : ℕ) (s : List ℕ) → n ≡ 0 → signFrom p P T n a s ≡ answer 12 a []
+unfolding signFrom
+sign-none p P T n a s e = rw (e, signFrom)
