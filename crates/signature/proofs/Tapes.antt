@@ -65,7 +65,7 @@ module _ (p : Params) (seeds words masks : List ℕ) (a : ℕ) where
   explicit-at false e = absurd-bool (sym e)
 
   -- from seeds
-  pub seeds-long : (x : Bool) → x ≡ false → Within p (tapesOf x seeds words masks) a 
+  pub seeds-long : (x : Bool) → x ≡ false → Within p (tapesOf x seeds words masks) a
       → a * ((p .l + p .k) * p .shares * p .rep * (p .kappa / 8)) + (p .l + p .k) * p .shares * p .rep * (p .kappa / 8) ≤ length seeds
   unfolding noiseBytes
   seeds-long false e w = w .noise-long

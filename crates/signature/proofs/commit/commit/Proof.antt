@@ -10,32 +10,6 @@ use Rattle.signature.proofs.Tapes.{part-block, part-long, fits-mid, wor
 use borrow.Author.Needs.{needs}
 use Rattle.signature.proofs.commit.commit.Statement.{statement}
 use Rattle.signature.proofs.commit.commit.Tie as tie
-use Rattle.signature.proofs.commit.commit.Reads as reads
-use Rattle.signature.proofs.commit.commit.Lts as lts
-use Rattle.sharing.proofs.masks.start.Reads as start-reads
-use Rattle.signature.proofs.commit.commit_explicit.Reads as commit-explicit-reads
-use Rattle.signature.proofs.commit.commit_seeds.Reads as commit-seeds-reads
-
-mul-m : tie.Need-mul-m
-mul-m c = search needs
-
-add-o : tie.Need-add-o
-add-o c = search needs
-
-sub-start : tie.Need-sub-start
-sub-start c = search needs
-
-part-start-start : tie.Need-part-start-start
-part-start-start c = search needs
-
-part-start-end : tie.Need-part-start-end
-part-start-end c = search needs
-
-start-requires : tie.Need-start-requires
-start-requires c κs = search needs
-
-add-c : tie.Need-add-c
-add-c c = search needs
 
 mul-c : tie.Need-mul-c
 mul-c c =
@@ -67,12 +41,6 @@ mul-commit-explicit c =
     let s = words-size (a .args .p) (a .pre .0 .0) (a .args .a) (a .pre .1 .few) in
     fits-mid _ (omega (arith, s .0, s .1))
 
-sub-commit-explicit : tie.Need-sub-commit-explicit
-sub-commit-explicit c = search needs
-
-part-commit-explicit-start : tie.Need-part-commit-explicit-start
-part-commit-explicit-start c = search needs
-
 part-commit-explicit-end : tie.Need-part-commit-explicit-end
 part-commit-explicit-end c =
     let a = c .before .before .before .before .before .before .before .before .before .before .before in
@@ -88,9 +56,6 @@ commit-explicit-requires c κs =
     let n = (p .l + p .k) * p .shares * 512 in
     let e = c .before .before .if1 .taken in
     (h .0, h .1, h .2, part-long n (b .a) (b .words .now) (explicit-long p (b .seeds .now) (b .words .now) (b .mask-seeds .now) (b .a) (b .explicit) e (a .pre .1)), below-part (b .a * n + n - b .a * n) (b .a * n) (b .words .now) (explicit-low p (b .seeds .now) (b .words .now) (b .mask-seeds .now) (b .a) (b .explicit) e (a .pre .1)))
-
-same-length : tie.Need-same-length
-same-length c = search needs
 
 returns : tie.Need-returns
 returns c =
@@ -127,12 +92,6 @@ add-e-2 c =
     let s = seeds-size (a .args .p) (a .pre .0 .0) (a .args .a) (a .pre .1 .few) in
     fits-mid _ (omega (arith, s .0, s .1))
 
-sub-commit-seeds : tie.Need-sub-commit-seeds
-sub-commit-seeds c = search needs
-
-part-commit-seeds-start : tie.Need-part-commit-seeds-start
-part-commit-seeds-start c = search needs
-
 part-commit-seeds-end : tie.Need-part-commit-seeds-end
 part-commit-seeds-end c =
     let a = c .before .before .before .before .before .before .before .before .before .before .before .before .before in
@@ -148,9 +107,6 @@ commit-seeds-requires c κs =
     let h = a .pre .0 in
     (h .0, h .1, h .2, part-long ((p .l + p .k) * p .shares * p .rep * (p .kappa / 8)) (b .a) (b .seeds .now) (seeds-long p (b .seeds .now) (b .words .now) (b .mask-seeds .now) (b .a) (b .explicit) (c .before .before .before .before .if1 .left) (a .pre .1)))
 
-same-length-2 : tie.Need-same-length-2
-same-length-2 c = search needs
-
 returns-2 : tie.Need-returns-2
 returns-2 c =
     let a = c .before .before .before .before .before .before .before .before .before .before .before .before .before .before .before .before .before in
@@ -163,33 +119,8 @@ returns-2 c =
 
 pub commit-spec : {M : Type 1} → statement M
 commit-spec =
-    tie.close
-    (tie.spec
-    mul-m
-    add-o
-    sub-start
-    part-start-start
-    part-start-end
-    start-requires
-    add-c
-    mul-c
-    mul-n
-    mul-b
-    add-e
-    mul-commit-explicit
-    sub-commit-explicit
-    part-commit-explicit-start
-    part-commit-explicit-end
-    commit-explicit-requires
-    same-length
-    returns
-    mul-n-2
-    mul-n-3
-    mul-b-2
-    add-e-2
-    sub-commit-seeds
-    part-commit-seeds-start
-    part-commit-seeds-end
-    commit-seeds-requires
-    same-length-2
-    returns-2)
+    tie.close (tie.spec (λ c. search needs) (λ c. search needs) (λ c. search needs) (λ c. search needs)
+    (λ c. search needs) (λ c κs. search needs) (λ c. search needs) mul-c mul-n mul-b add-e mul-commit-explicit
+    (λ c. search needs) (λ c. search needs) part-commit-explicit-end commit-explicit-requires (λ c. search needs)
+    returns mul-n-2 mul-n-3 mul-b-2 add-e-2 (λ c. search needs) (λ c. search needs) part-commit-seeds-end
+    commit-seeds-requires (λ c. search needs) returns-2)

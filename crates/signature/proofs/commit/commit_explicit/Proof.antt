@@ -9,43 +9,6 @@ use Rattle.signature.proofs.Sizes.{part-all, room}
 use borrow.Author.Needs.{needs}
 use Rattle.signature.proofs.commit.commit_explicit.Statement.{statement}
 use Rattle.signature.proofs.commit.commit_explicit.Tie as tie
-use Rattle.signature.proofs.commit.commit_explicit.Reads as reads
-use Rattle.signature.proofs.commit.commit_explicit.Lts as lts
-use Rattle.signature.proofs.masked.image_explicit.Reads as image-explicit-reads
-use Rattle.signature.proofs.noise.noise_explicit.Reads as noise-explicit-reads
-
-mul-at : tie.Need-mul-at
-mul-at c = search needs
-
-mul-at-2 : tie.Need-mul-at-2
-mul-at-2 c = search needs
-
-add-at : tie.Need-add-at
-add-at c = search needs
-
-mul-at-3 : tie.Need-mul-at-3
-mul-at-3 c = search needs
-
-mul-at-4 : tie.Need-mul-at-4
-mul-at-4 c = search needs
-
-add-at-2 : tie.Need-add-at-2
-add-at-2 c = search needs
-
-mul-to : tie.Need-mul-to
-mul-to c = search needs
-
-mul-to-2 : tie.Need-mul-to-2
-mul-to-2 c = search needs
-
-add-to : tie.Need-add-to
-add-to c = search needs
-
-mul-b : tie.Need-mul-b
-mul-b c = search needs
-
-mul-b-2 : tie.Need-mul-b-2
-mul-b-2 c = search needs
 
 noise-explicit-requires : tie.Need-noise-explicit-requires
 noise-explicit-requires c κs =
@@ -55,21 +18,6 @@ noise-explicit-requires c κs =
     let h = a .pre .0 in
     let r = room p h (length (b .work .now)) (a .pre .1) .1 in
     (h .power, (omega arith, omega (arith, r), a .pre .2, words-first (p .l) (p .k) (p .shares) (b .words .now) (a .pre .3), a .pre .4))
-
-mul-image-explicit : tie.Need-mul-image-explicit
-mul-image-explicit c = search needs
-
-mul-image-explicit-2 : tie.Need-mul-image-explicit-2
-mul-image-explicit-2 c = search needs
-
-sub-image-explicit : tie.Need-sub-image-explicit
-sub-image-explicit c = search needs
-
-part-image-explicit-start : tie.Need-part-image-explicit-start
-part-image-explicit-start c = search needs
-
-part-image-explicit-end : tie.Need-part-image-explicit-end
-part-image-explicit-end c = search needs
 
 image-explicit-requires : tie.Need-image-explicit-requires
 image-explicit-requires c κs =
@@ -81,9 +29,6 @@ image-explicit-requires c κs =
     let u = c .before .before .before .before .noise-explicit .ensures .0 in
     let n = u .long in
     (h .power, ((omega arith, omega arith, omega arith, omega (arith, r, n), u .low, omega (arith, h .rows-low), omega (arith, h .columns-low)), (words-second (p .l) (p .k) (p .shares) (b .words .now) (a .pre .3), below-part (length (b .words .now) - p .l * (p .shares * 512)) (p .l * (p .shares * 512)) (b .words .now) (a .pre .4))))
-
-same-length : tie.Need-same-length
-same-length c = search needs
 
 returns : tie.Need-returns
 unfolding maskedNoise explicit
@@ -99,25 +44,7 @@ returns c =
 
 pub commit-explicit-spec : {M : Type 1} → statement M
 commit-explicit-spec =
-    tie.close
-    (tie.spec
-    mul-at
-    mul-at-2
-    add-at
-    mul-at-3
-    mul-at-4
-    add-at-2
-    mul-to
-    mul-to-2
-    add-to
-    mul-b
-    mul-b-2
-    noise-explicit-requires
-    mul-image-explicit
-    mul-image-explicit-2
-    sub-image-explicit
-    part-image-explicit-start
-    part-image-explicit-end
-    image-explicit-requires
-    same-length
-    returns)
+    tie.close (tie.spec (λ c. search needs) (λ c. search needs) (λ c. search needs) (λ c. search needs)
+    (λ c. search needs) (λ c. search needs) (λ c. search needs) (λ c. search needs) (λ c. search needs)
+    (λ c. search needs) (λ c. search needs) noise-explicit-requires (λ c. search needs) (λ c. search needs)
+    (λ c. search needs) (λ c. search needs) (λ c. search needs) image-explicit-requires (λ c. search needs) returns)

@@ -9,37 +9,6 @@ use Rattle.signature.proofs.Sizes.{fits-low, part-all, first-low, room,
 use borrow.Author.Needs.{needs}
 use Rattle.signature.proofs.commit.commit_seeds.Statement.{statement}
 use Rattle.signature.proofs.commit.commit_seeds.Tie as tie
-use Rattle.signature.proofs.commit.commit_seeds.Reads as reads
-use Rattle.signature.proofs.commit.commit_seeds.Lts as lts
-use Rattle.signature.proofs.masked.image_seeds.Reads as image-seeds-reads
-use Rattle.signature.proofs.noise.noise_seeds.Reads as noise-seeds-reads
-
-mul-at : tie.Need-mul-at
-mul-at c = search needs
-
-mul-at-2 : tie.Need-mul-at-2
-mul-at-2 c = search needs
-
-add-at : tie.Need-add-at
-add-at c = search needs
-
-mul-at-3 : tie.Need-mul-at-3
-mul-at-3 c = search needs
-
-mul-at-4 : tie.Need-mul-at-4
-mul-at-4 c = search needs
-
-add-at-2 : tie.Need-add-at-2
-add-at-2 c = search needs
-
-mul-to : tie.Need-mul-to
-mul-to c = search needs
-
-mul-to-2 : tie.Need-mul-to-2
-mul-to-2 c = search needs
-
-add-to : tie.Need-add-to
-add-to c = search needs
 
 mul-b : tie.Need-mul-b
 mul-b c =
@@ -69,9 +38,6 @@ noise-seeds-requires c κs =
     let r = room p h (length (b .work .now)) (a .pre .1) .1 in
     (h .power, ((omega arith, omega (arith, r), a .pre .2, tape-first p h (length (b .tape .now)) (a .pre .3)), (omega (arith, h .rep-low), omega (arith, h .columns-low), omega (arith, h .shares-low), h .uw-pos, omega (arith, h .uw-low))))
 
-mul-image-seeds : tie.Need-mul-image-seeds
-mul-image-seeds c = search needs
-
 sub-image-seeds : tie.Need-sub-image-seeds
 sub-image-seeds c =
     let a = c .before .before .before .before .before .before .before .before .before in
@@ -81,9 +47,6 @@ part-image-seeds-start : tie.Need-part-image-seeds-start
 part-image-seeds-start c =
     let a = c .before .before .before .before .before .before .before .before .before in
     tape-first (a .args .p) (a .pre .0) (length (a .args .tape .now)) (a .pre .3)
-
-part-image-seeds-end : tie.Need-part-image-seeds-end
-part-image-seeds-end c = search needs
 
 image-seeds-requires : tie.Need-image-seeds-requires
 image-seeds-requires c κs =
@@ -95,9 +58,6 @@ image-seeds-requires c κs =
     let u = c .before .before .before .before .noise-seeds .ensures .0 in
     let n = u .long in
     (h .power, ((omega arith, omega arith, omega arith, omega (arith, r, n), u .low, omega (arith, h .rows-low), omega (arith, h .columns-low)), (tape-second p h (b .tape .now) (a .pre .3), omega (arith, h .rep-low), omega (arith, h .shares-low), h .uw-pos, omega (arith, h .uw-low))))
-
-same-length : tie.Need-same-length
-same-length c = search needs
 
 returns : tie.Need-returns
 unfolding maskedNoise seeded
@@ -113,25 +73,7 @@ returns c =
 
 pub commit-seeds-spec : {M : Type 1} → statement M
 commit-seeds-spec =
-    tie.close
-    (tie.spec
-    mul-at
-    mul-at-2
-    add-at
-    mul-at-3
-    mul-at-4
-    add-at-2
-    mul-to
-    mul-to-2
-    add-to
-    mul-b
-    mul-b-2
-    mul-b-3
-    noise-seeds-requires
-    mul-image-seeds
-    sub-image-seeds
-    part-image-seeds-start
-    part-image-seeds-end
-    image-seeds-requires
-    same-length
-    returns)
+    tie.close (tie.spec (λ c. search needs) (λ c. search needs) (λ c. search needs) (λ c. search needs)
+    (λ c. search needs) (λ c. search needs) (λ c. search needs) (λ c. search needs) (λ c. search needs) mul-b mul-b-2
+    mul-b-3 noise-seeds-requires (λ c. search needs) sub-image-seeds part-image-seeds-start (λ c. search needs)
+    image-seeds-requires (λ c. search needs) returns)

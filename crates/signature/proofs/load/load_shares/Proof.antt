@@ -11,23 +11,6 @@ use Rattle.signature.proofs.Sizes.{cleared}
 use borrow.Author.Needs.{needs}
 use Rattle.signature.proofs.load.load_shares.Statement.{statement}
 use Rattle.signature.proofs.load.load_shares.Tie as tie
-use Rattle.signature.proofs.load.load_shares.Reads as reads
-use Rattle.signature.proofs.load.load_shares.Lts as lts
-use Rattle.sharing.proofs.region.clear.Reads as clear-reads
-use Rattle.signature.proofs.load.load_part.Reads as load-part-reads
-use Rattle.signature.proofs.load.load_words.Reads as load-words-reads
-
-mul-at : tie.Need-mul-at
-mul-at c = search needs
-
-mul-at-2 : tie.Need-mul-at-2
-mul-at-2 c = search needs
-
-add-at : tie.Need-add-at
-add-at c = search needs
-
-clear-requires : tie.Need-clear-requires
-clear-requires c κs = search needs
 
 sub-load-part : tie.Need-sub-load-part
 sub-load-part c =
@@ -41,9 +24,6 @@ part-load-part-start c =
     let b = a .args in
     vk-in (b .p) (a .pre .0 .0) (b .key .now) (packed-long (b .p) (b .key .now) (b .words .now) (b .packed) (c .before .if1 .taken) (a .pre .1 .0))
 
-part-load-part-end : tie.Need-part-load-part-end
-part-load-part-end c = search needs
-
 load-part-requires : tie.Need-load-part-requires
 load-part-requires c κs =
     let a = c .before .before .before .before .before .before .before .before .before .before in
@@ -54,9 +34,6 @@ load-part-requires c κs =
     let w = cleared (b .work .now) _ (c .before .before .before .before .before .clear .ensures) in
     let m = w .long ∙ a .pre .0 .1 in
     ((h, part-long (b .p) h (b .key .now) n, part-low (b .p) h (b .key .now) n (packed-low (b .p) (b .key .now) (b .words .now) (b .packed) y (a .pre .1 .1))), (omega (arith, m), w .low))
-
-same-length : tie.Need-same-length
-same-length c = search needs
 
 returns : tie.Need-returns
 returns c =
@@ -77,9 +54,6 @@ load-words-requires c κs =
     let m = w .long ∙ a .pre .0 .1 in
     (omega (arith, m, n), w .low, expanded-low (b .p) (b .key .now) (b .words .now) (b .packed) y (a .pre .1 .1))
 
-same-length-2 : tie.Need-same-length-2
-same-length-2 c = search needs
-
 returns-2 : tie.Need-returns-2
 returns-2 c =
     let a = c .before .before .before .before .before .before .before .before .before .before .before .before in
@@ -93,18 +67,6 @@ returns-2 c =
 
 pub load-shares-spec : {M : Type 1} → statement M
 load-shares-spec =
-    tie.close
-    (tie.spec
-    mul-at
-    mul-at-2
-    add-at
-    clear-requires
-    sub-load-part
-    part-load-part-start
-    part-load-part-end
-    load-part-requires
-    same-length
-    returns
-    load-words-requires
-    same-length-2
-    returns-2)
+    tie.close (tie.spec (λ c. search needs) (λ c. search needs) (λ c. search needs) (λ c κs. search needs) sub-load-part
+    part-load-part-start (λ c. search needs) load-part-requires (λ c. search needs) returns load-words-requires
+    (λ c. search needs) returns-2)

@@ -8,9 +8,6 @@ use Rattle.sharing.proofs.Turns.{decode-turn, decode-end}
 use borrow.Author.Needs.{needs}
 use Rattle.signature.proofs.respond.decode_vector.Statement.{statement}
 use Rattle.signature.proofs.respond.decode_vector.Tie as tie
-use Rattle.signature.proofs.respond.decode_vector.Reads as reads
-use Rattle.signature.proofs.respond.decode_vector.Lts as lts
-use Rattle.sharing.proofs.shares.decode_at.Reads as decode-at-reads
 
 abbrev Inv-loop : tie.InvT-loop
 Inv-loop s₀ at to l d i₀ s i = (i ≤ l) × Wrote 0 to (i * 512) (build i (λ j. total d (block (d * 512) j (sub s₀ at (l * (d * 512)))))) s₀ s
@@ -38,10 +35,10 @@ add-a c =
     omega (arith, inside (c .before .loop .i) (c .before .before .before .args .l) (c .before .before .before .args .d * 512) (omega arith))
 
 mul-b : tie.Need-mul-b Inv-loop μ-loop
-mul-b c =  omega arith
+mul-b c = omega arith
 
 add-b : tie.Need-add-b Inv-loop μ-loop
-add-b c =  omega arith
+add-b c = omega arith
 
 decode-at-requires : tie.Need-decode-at-requires Inv-loop μ-loop
 decode-at-requires c κs =
@@ -50,21 +47,12 @@ decode-at-requires c κs =
     let h = inside (c .before .before .loop .i) (c .before .before .before .before .args .l) (c .before .before .before .before .args .d * 512) (omega arith) in
     (omega arith, omega arith, u .low)
 
-add-i : tie.Need-add-i Inv-loop μ-loop
-add-i c = search needs
-
-loop-less : tie.Need-loop-less Inv-loop μ-loop
-loop-less c = search needs
-
 loop-again : tie.Need-loop-again Inv-loop μ-loop
 loop-again c =
     let l = c .before .before .before .before .before .loop in
     let a = c .before .before .before .before .before .before .before in
     let b = a .args in
     (omega arith, decode-turn 0 (b .d) (b .l) (b .at) (b .to) (l .i) (b .s .now) (l .s) _ (omega arith) (a .pre .0) (c .before .before .before .before .loop-test .taken) (l .inv .1) (c .before .before .decode-at .ensures))
-
-same-length : tie.Need-same-length Inv-loop μ-loop
-same-length c = search needs
 
 returns : tie.Need-returns Inv-loop μ-loop
 returns c =
@@ -74,19 +62,5 @@ returns c =
 
 pub decode-vector-spec : {M : Type 1} → statement M
 decode-vector-spec =
-    tie.close
-    (tie.spec
-    Inv-loop
-    μ-loop
-    loop-holds
-    mul-a
-    mul-a-2
-    add-a
-    mul-b
-    add-b
-    decode-at-requires
-    add-i
-    loop-less
-    loop-again
-    same-length
-    returns)
+    tie.close (tie.spec Inv-loop μ-loop loop-holds mul-a mul-a-2 add-a mul-b add-b decode-at-requires
+    (λ c. search needs) (λ c. search needs) loop-again (λ c. search needs) returns)

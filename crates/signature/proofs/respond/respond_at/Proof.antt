@@ -8,10 +8,6 @@ use Rattle.signature.proofs.Responses.{answer-turn}
 use borrow.Author.Needs.{needs}
 use Rattle.signature.proofs.respond.respond_at.Statement.{statement}
 use Rattle.signature.proofs.respond.respond_at.Tie as tie
-use Rattle.signature.proofs.respond.respond_at.Reads as reads
-use Rattle.signature.proofs.respond.respond_at.Lts as lts
-use Rattle.sharing.proofs.region.store_at.Reads as store-at-reads
-use Rattle.signature.proofs.respond.respond_share.Reads as respond-share-reads
 
 abbrev Inv-loop : tie.InvT-loop
 Inv-loop s₀ a b c d j₀ s j = (j ≤ d) × Wrote 0 b (j * 512) (build j (answered c (sub s₀ a (d * 512)) (sub s₀ b (d * 512)))) s₀ s
@@ -26,18 +22,6 @@ loop-holds c =
     let s = b .s .now in
     (search needs, wrote-start 512 (answered (b .c) (sub s (b .a) (b .d * 512)) (sub s (b .b) (b .d * 512))) 0 (b .b) s (a .pre .2))
 
-mul-e : tie.Need-mul-e Inv-loop μ-loop
-mul-e c = search needs
-
-add-e : tie.Need-add-e Inv-loop μ-loop
-add-e c = search needs
-
-mul-respond-share : tie.Need-mul-respond-share Inv-loop μ-loop
-mul-respond-share c = search needs
-
-add-respond-share : tie.Need-add-respond-share Inv-loop μ-loop
-add-respond-share c = search needs
-
 respond-share-requires : tie.Need-respond-share-requires Inv-loop μ-loop
 respond-share-requires c κs =
     let u = c .before .before .loop .inv .1 in
@@ -50,21 +34,12 @@ store-at-requires c κs =
     let n = u .long in
     (omega arith, u .low, c .before .before .respond-share .ensures .1 .low)
 
-add-j : tie.Need-add-j Inv-loop μ-loop
-add-j c = search needs
-
-loop-less : tie.Need-loop-less Inv-loop μ-loop
-loop-less c = search needs
-
 loop-again : tie.Need-loop-again Inv-loop μ-loop
 loop-again c =
     let l = c .before .before .before .before .before .before .before .before .loop in
     let a = c .before .before .before .before .before .before .before .before .before .before in
     let b = a .args in
     (omega arith, answer-turn (b .c) (b .d) (b .a) (b .b) (b .s .now) (a .pre .0) (l .j) (l .s) _ _ (c .before .before .before .before .before .before .before .loop-test .taken) (l .inv .1) (c .before .before .before .before .before .respond-share .ensures .0) (c .before .before .store-at .ensures))
-
-same-length : tie.Need-same-length Inv-loop μ-loop
-same-length c = search needs
 
 returns : tie.Need-returns Inv-loop μ-loop
 returns c =
@@ -74,19 +49,6 @@ returns c =
 
 pub respond-at-spec : {M : Type 1} → statement M
 respond-at-spec =
-    tie.close
-    (tie.spec
-    Inv-loop
-    μ-loop
-    loop-holds
-    mul-e
-    add-e
-    mul-respond-share
-    add-respond-share
-    respond-share-requires
-    store-at-requires
-    add-j
-    loop-less
-    loop-again
-    same-length
-    returns)
+    tie.close (tie.spec Inv-loop μ-loop loop-holds (λ c. search needs) (λ c. search needs) (λ c. search needs)
+    (λ c. search needs) respond-share-requires store-at-requires (λ c. search needs) (λ c. search needs) loop-again
+    (λ c. search needs) returns)

@@ -10,19 +10,12 @@ use Rattle.signature.proofs.Responses.{answers-turn, response-is}
 use borrow.Author.Needs.{needs}
 use Rattle.signature.proofs.respond.respond_vector.Statement.{statement}
 use Rattle.signature.proofs.respond.respond_vector.Tie as tie
-use Rattle.signature.proofs.respond.respond_vector.Reads as reads
-use Rattle.signature.proofs.respond.respond_vector.Lts as lts
-use Rattle.ring.proofs.poly.ntt.Reads as ntt-reads
-use Rattle.signature.proofs.respond.respond_at.Reads as respond-at-reads
 
 abbrev Inv-loop : tie.InvT-loop
 Inv-loop s₀ a b l d t i₀ s i = (i ≤ l) × Wrote 0 b (i * (d * 512)) (build i (answeredAt d t (sub s₀ a (l * (d * 512))) (sub s₀ b (l * (d * 512))))) s₀ s
 
 abbrev μ-loop : tie.MeasureT-loop
 μ-loop s₀ a b l d t i₀ s i = l - i
-
-ntt-requires : tie.Need-ntt-requires Inv-loop μ-loop
-ntt-requires c κs = search needs
 
 loop-holds : tie.Need-loop-holds Inv-loop μ-loop
 loop-holds c =
@@ -62,21 +55,12 @@ respond-at-requires c κs =
     let h = inside (c .before .before .loop .i) (c .before .before .before .before .before .args .l) (c .before .before .before .before .before .args .d * 512) (omega arith) in
     (omega arith, omega arith, u .low, c .before .before .before .ntt .ensures .1)
 
-add-i : tie.Need-add-i Inv-loop μ-loop
-add-i c = search needs
-
-loop-less : tie.Need-loop-less Inv-loop μ-loop
-loop-less c = search needs
-
 loop-again : tie.Need-loop-again Inv-loop μ-loop
 loop-again c =
     let l = c .before .before .before .before .before .loop in
     let a = c .before .before .before .before .before .before .before .before in
     let b = a .args in
     (omega arith, answers-turn (c .before .before .before .before .before .before .ntt .result) (b .l) (b .d) (b .a) (b .b) (b .s .now) (a .pre .0) (l .i) (l .s) _ (c .before .before .before .before .loop-test .taken) (l .inv .1) (c .before .before .respond-at .ensures))
-
-same-length : tie.Need-same-length Inv-loop μ-loop
-same-length c = search needs
 
 returns : tie.Need-returns Inv-loop μ-loop
 returns c =
@@ -94,21 +78,5 @@ returns c =
 
 pub respond-vector-spec : {M : Type 1} → statement M
 respond-vector-spec =
-    tie.close
-    (tie.spec
-    Inv-loop
-    μ-loop
-    ntt-requires
-    loop-holds
-    mul-u
-    mul-u-2
-    add-u
-    mul-v
-    mul-v-2
-    add-v
-    respond-at-requires
-    add-i
-    loop-less
-    loop-again
-    same-length
-    returns)
+    tie.close (tie.spec Inv-loop μ-loop (λ c κs. search needs) loop-holds mul-u mul-u-2 add-u mul-v mul-v-2 add-v
+    respond-at-requires (λ c. search needs) (λ c. search needs) loop-again (λ c. search needs) returns)

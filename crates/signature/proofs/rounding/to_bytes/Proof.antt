@@ -8,8 +8,6 @@ use Rattle.signature.proofs.Filled.{copy-more}
 use borrow.Author.Needs.{needs}
 use Rattle.signature.proofs.rounding.to_bytes.Statement.{statement}
 use Rattle.signature.proofs.rounding.to_bytes.Tie as tie
-use Rattle.signature.proofs.rounding.to_bytes.Reads as reads
-use Rattle.signature.proofs.rounding.to_bytes.Lts as lts
 
 abbrev Inv-loop : tie.InvT-loop
 Inv-loop words out₀ i₀ out i = (i ≤ length words) × (length out ≡ length out₀) × (take i out ≡ take i words)
@@ -17,28 +15,10 @@ Inv-loop words out₀ i₀ out i = (i ≤ length words) × (length out ≡ lengt
 abbrev μ-loop : tie.MeasureT-loop
 μ-loop words out₀ i₀ out i = length words - i
 
-loop-holds : tie.Need-loop-holds Inv-loop μ-loop
-loop-holds c = search needs
-
-mul-out : tie.Need-mul-out Inv-loop μ-loop
-mul-out c = search needs
-
-shared-slice-read-out : tie.Need-shared-slice-read-out Inv-loop μ-loop
-shared-slice-read-out c = search needs
-
 cast-out : tie.Need-cast-out Inv-loop μ-loop
 cast-out c =
     let h = below-at 256 (omega arith) (c .before .before .before .args .words .now) (c .before .before .before .pre .1) (c .before .before .loop .i) in
     omega (arith, h)
-
-slice-write-out : tie.Need-slice-write-out Inv-loop μ-loop
-slice-write-out c = search needs
-
-add-i : tie.Need-add-i Inv-loop μ-loop
-add-i c = search needs
-
-loop-less : tie.Need-loop-less Inv-loop μ-loop
-loop-less c = search needs
 
 loop-again : tie.Need-loop-again Inv-loop μ-loop
 loop-again c =
@@ -46,9 +26,6 @@ loop-again c =
     let a = c .before .before .before .args .words .now in
     let k : l .i < length (l .out) = omega (arith, c .before .before .before .pre .0) in
     (omega arith, length-set (l .out) (l .i) _ ∙ l .inv .1, copy-more a (l .out) (l .i) k (c .before .loop-test .taken) (l .inv .2))
-
-same-length : tie.Need-same-length Inv-loop μ-loop
-same-length c = search needs
 
 returns : tie.Need-returns Inv-loop μ-loop
 returns c =
@@ -58,17 +35,5 @@ returns c =
 
 pub to-bytes-spec : {M : Type 1} → statement M
 to-bytes-spec =
-    tie.close
-    (tie.spec
-    Inv-loop
-    μ-loop
-    loop-holds
-    mul-out
-    shared-slice-read-out
-    cast-out
-    slice-write-out
-    add-i
-    loop-less
-    loop-again
-    same-length
-    returns)
+    tie.close (tie.spec Inv-loop μ-loop (λ c. search needs) (λ c. search needs) (λ c. search needs) cast-out
+    (λ c. search needs) (λ c. search needs) (λ c. search needs) loop-again (λ c. search needs) returns)
