@@ -1,10 +1,10 @@
 -- Attempts of signing (000, Algorithm 2): lines 4 to 16 on the work buffer are the definition's, an attempt by its ends, and the attempts in
 -- order. n is how many attempts are left, a how many are behind, s the key's shares.
-use mathlib.Core.Path.{_≡_, sym, ap, _∙_}
+use mathlib.Core.Path.{_≡_, ap, _∙_}
 use mathlib.Core.Bool.{true, false}
 use mathlib.Core.List.{List, []}
 use mathlib.Core.Option.{Option, some, none}
-use Prim.Native.Nat.{ℕ, zero, suc, _+_, _*_, _^_}
+use Prim.Native.Nat.{ℕ, suc, _+_, _*_, _^_}
 use native.Mathlib.Numerals.{add-one}
 use native.Mathlib.Omega.{arith}
 use lib.IntN.{ℤ}
@@ -22,10 +22,10 @@ use Rattle.signature.specs.Attempt.{atR, Committed, Responded}
 use Rattle.signature.specs.Bounds.{checkBounds}
 use Rattle.signature.specs.Challenge.{chalHash, chalPoly}
 use Rattle.signature.specs.Form.{Fields, write}
-use Rattle.signature.specs.Keygen.{atS, atT, atX}
+use Rattle.signature.specs.Keygen.{atS, atX}
 use Rattle.signature.specs.Masked.{Noise, maskedNoise, maskedImage, behindProduct}
-use Rattle.signature.specs.Sign.{Public, Attempted, made, over, stuck, Answer, answer, Tapes, signedFields, finished, challenged, concluded, maskedResponse, refreshedKey, refreshedNoise, refreshedResponse, attempted, noiseAt, maskAt, signFrom}
-use Rattle.signature.proofs.Commits.{masked-words}
+use Rattle.signature.specs.Sign.{Public, Attempted, made, over, stuck, answer, Tapes, signedFields, finished, challenged, concluded, maskedResponse, refreshedKey, refreshedNoise, refreshedResponse, attempted, noiseAt, maskAt, signFrom}
+use Rattle.signature.proofs.Masking.{masked-words}
 
 -- ---- lines 4 to 16 on the work buffer: s₁ behind the commitment, s₂ before the response, where s and r are as they were, s₃ behind it
 
@@ -49,7 +49,6 @@ module _ (p : Params) (N : Noise) (g x : MaskGen) (A c s₀ s₁ s₂ s₃ : Lis
       ≡ totals (p .l) (p .shares) (refreshedResponse p N g (sub s₀ (atS (p .shares)) (p .l * (p .shares * 512))) c)
   unfolding refreshedKey refreshedNoise refreshedResponse
   response-left =
-      let d = p .shares in
       let S = sub s₀ (atS (p .shares)) (p .l * (p .shares * 512)) in
       let R = maskedNoise p N g in
       let Z : MaskGen → MaskGen → MaskGen → List ℕ → List ℕ = λ (a b h : MaskGen) (X : List ℕ).

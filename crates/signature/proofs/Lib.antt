@@ -24,6 +24,7 @@ pub mod KeySteps
 pub mod Listing
 pub mod Lists
 pub mod Loads
+pub mod Masking
 pub mod Norms
 pub mod Opened
 pub mod Packer

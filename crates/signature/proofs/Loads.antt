@@ -1,30 +1,28 @@
 -- The shares of a key in the work buffer of signing: those of a signing key are words, and what checks 3 and 5 say of a key.
-use mathlib.Core.Path.{_≡_, refl, sym, ap, subst, _∙_}
+use mathlib.Core.Path.{_≡_, refl, sym, ap, _∙_}
 use mathlib.Core.Bool.{Bool, true, false}
 use mathlib.Core.List.{List}
 use mathlib.Core.Option.{Option, some, none}
 use Prim.Native.Nat.{ℕ, zero, suc, _+_, _-_, _*_, _≤_, _<_}
 use native.Mathlib.Omega.{arith}
 use borrow.Author.Tests.{eqb-true}
-use lib.Dec.{eqb}
 use lib.ListN.{length, take, drop}
 use Rattle.hash.specs.declared.params.Params.{Params}
 use Rattle.ring.specs.Words.{q, Below, Words}
-use Rattle.ring.specs.Uniform.{sampleQ, heldOf}
+use Rattle.ring.specs.Uniform.{heldOf}
 use Rattle.ring.proofs.Draws.{sampleQ-words}
 use Rattle.ring.proofs.Sums.{words-zeros, all-below}
-use Rattle.sharing.specs.Blocks.{block, build}
-use Rattle.sharing.specs.Region.{sub, put, Wrote}
+use Rattle.sharing.specs.Blocks.{build}
+use Rattle.sharing.specs.Region.{put, Wrote}
 use Rattle.sharing.proofs.Lists.{block-words, words-build}
-use Rattle.sharing.proofs.Regions.{put-back, wrote-put, wrote-value}
+use Rattle.sharing.proofs.Regions.{put-back, wrote-put}
 use Rattle.signature.specs.Attempt.{keyFrom}
-use Rattle.signature.specs.Checks.{both}
 use Rattle.signature.specs.Keys.{fullShare, seededShare, shareAt, decompressed, expandOf}
 use Rattle.signature.specs.Matrix.{filled}
 use Rattle.signature.specs.Opening.{openedAt, opened}
 use Rattle.signature.specs.SignCalls.{keySized, sharesGood, sharesOf}
 use Rattle.signature.proofs.Asked.{sizes}
-use Rattle.signature.proofs.Entries.{absurd-bool, some-filled}
+use Rattle.signature.proofs.Entries.{absurd-bool}
 use Rattle.signature.proofs.KeyMade.{some-same}
 use Rattle.signature.proofs.Opened.{full-length, opened-all, tail-is}
 

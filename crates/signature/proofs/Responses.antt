@@ -4,7 +4,6 @@ use mathlib.Core.Path.{_≡_, sym, ap, subst, _∙_}
 use mathlib.Core.List.{List}
 use Prim.Native.Nat.{ℕ, _+_, _*_, _≤_, _<_}
 use native.Mathlib.Omega.{arith}
-use lib.ListN.{length}
 use Rattle.ring.specs.Words.{addW, Words}
 use Rattle.ring.specs.Transform.{ntt, intt, pointwise, mul}
 use Rattle.ring.proofs.Theorems.{ntt-words, intt-words, intt-ntt, mul-words, times-back}
@@ -14,7 +13,7 @@ use Rattle.sharing.specs.Encoding.{skip, refreshed}
 use Rattle.sharing.specs.Masks.{masks}
 use Rattle.sharing.specs.declared.masks.MaskGen.{MaskGen}
 use Rattle.sharing.proofs.Lists.{block-words, block-build, build-ext, build-add, blocks-all}
-use Rattle.sharing.proofs.Regions.{wrote-value, wrote-turn, wrote-end}
+use Rattle.sharing.proofs.Regions.{wrote-value, wrote-turn}
 use Rattle.sharing.proofs.Turns.{rest, source}
 use Rattle.signature.specs.Attempt.{atR, answered, answeredAt, Renewed, Responded}
 use Rattle.signature.specs.Keygen.{atS, atT, atX}

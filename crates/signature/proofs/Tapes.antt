@@ -2,23 +2,30 @@
 use mathlib.Core.Path.{_≡_, refl, sym, ap, subst}
 use mathlib.Core.Bool.{Bool, true, false}
 use mathlib.Core.List.{List}
-use Prim.Native.Nat.{ℕ, _+_, _-_, _*_, _/_, _≤_}
+use Prim.Native.Nat.{ℕ, _+_, _-_, _*_, _/_, _≤_, _<_}
 use native.Mathlib.Nat.{mul-le-mul}
 use native.Mathlib.Omega.{arith}
+use borrow.Author.Tests.{eqb-true}
+use lib.Dec.{eqb}
 use lib.ListN.{length, take, drop}
 use mir.Syntax.{w64}
 use mir.Val.{Fits}
 use Rattle.hash.specs.declared.params.Params.{Params}
-use Rattle.ring.specs.Words.{q, Below}
+use Rattle.ring.specs.Words.{q, Below, allBelow}
+use Rattle.ring.proofs.Sums.{all-below}
 use Rattle.sharing.specs.Blocks.{block}
 use Rattle.sharing.specs.Masks.{maskStart}
 use Rattle.sharing.specs.Noise.{noiseBytes}
 use Rattle.sharing.specs.declared.masks.MaskGen.{MaskGen}
+use Rattle.sharing.proofs.Lists.{inside}
 use Rattle.sharing.proofs.Regions.{length-sub}
 use Rattle.signature.specs.Attempt.{tapesOf, Within, Committed}
+use Rattle.signature.specs.Checks.{both}
 use Rattle.signature.specs.Keygen.{Small}
 use Rattle.signature.specs.Masked.{Noise, seeded, explicit}
-use Rattle.signature.specs.Sign.{noiseAt, maskAt}
+use Rattle.signature.specs.Sign.{Tapes, noiseAt, maskAt}
+use Rattle.signature.specs.SignCalls.{tapesGood}
+use Rattle.signature.proofs.Asked.{both-true}
 use Rattle.signature.proofs.Entries.{absurd-bool}
 use Rattle.signature.proofs.Sizes.{tape-low}
 
@@ -85,3 +92,34 @@ pub committed-at : (p : Params) {N M : Noise} {g h : MaskGen} (A : List ℕ) {y 
     → Committed p N g A y xs ys → Committed p M h A y xs ys
 committed-at p {N} {M} {g} {h} A {y} {xs} {ys} e f c =
     subst (λ (k : MaskGen). Committed p M k A y xs ys) f (subst (λ (K : Noise). Committed p K g A y xs ys) e c)
+
+-- check 7: the tapes hold each of the n attempts allowed
+module _ (p : Params) (n a : ℕ) (l : a < n) (most : n ≤ 16) where
+  held : (x : Bool) (noise masks : List ℕ) → tapesGood p n (record { explicit = x; noise = noise; masks = masks }) ≡ true
+      → Within p (record { explicit = x; noise = noise; masks = masks }) a
+  held true noise masks h =
+      let w = (p .l + p .k) * p .shares * 512 in
+      let b = both-true (eqb (length noise) (n * w)) (both (allBelow q noise) (eqb (length masks) (n * 32))) h in
+      let e : length noise ≡ n * w = eqb-true (length noise) (n * w) (b .0) in
+      let c = both-true (allBelow q noise) (eqb (length masks) (n * 32)) (b .1) in
+      let m : length masks ≡ n * 32 = eqb-true (length masks) (n * 32) (c .1) in
+      record {
+        noise-long = omega (arith, inside a n w l, e);
+        noise-low = λ o. all-below q noise (c .0);
+        few = omega arith;
+        masks-long = omega (arith, inside a n 32 l, m);
+      }
+  held false noise masks h =
+      let w = noiseBytes p in
+      let b = both-true (eqb (length noise) (n * w)) (eqb (length masks) (n * 32)) h in
+      let e : length noise ≡ n * w = eqb-true (length noise) (n * w) (b .0) in
+      let m : length masks ≡ n * 32 = eqb-true (length masks) (n * 32) (b .1) in
+      record {
+        noise-long = omega (arith, inside a n w l, e);
+        noise-low = λ o. absurd-bool (sym o);
+        few = omega arith;
+        masks-long = omega (arith, inside a n 32 l, m);
+      }
+
+  pub tapes-within : (T : Tapes) → tapesGood p n T ≡ true → Within p T a
+  tapes-within T h = held (T .explicit) (T .noise) (T .masks) h

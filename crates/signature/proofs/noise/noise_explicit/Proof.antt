@@ -1,7 +1,7 @@
 use mathlib.Core.Path.{_≡_, _∙_, ap}
 use Prim.Native.Nat.{ℕ, _+_, _*_}
 use native.Mathlib.Omega.{arith}
-use Rattle.signature.proofs.KeySteps.{secret-made, skip-two}
+use Rattle.signature.proofs.Masking.{noise-made, skip-two}
 use Rattle.sharing.specs.Encoding.{skip}
 use Rattle.sharing.specs.Masks.{masks}
 use Rattle.sharing.specs.Noise.{explicitNoise}
@@ -42,7 +42,7 @@ returns c =
     let y = c .before .before .before .before .before .before .explicit-vector .ensures in
     let n = skip-two (b .d) (b .l) (b .l) (b .g) _ _ (x .1) (y .1) in
     let m : b .l + b .l ≡ b .l + b .l * 1 = omega arith in
-    (secret-made (b .l) (b .d) 1 (b .at) (explicitNoise (b .d) (b .words .now)) (b .g) _ (b .s .now) _ _ _ (x .1) (x .0) (y .0) (c .before .before .ntt-vector .ensures), n ∙ ap (λ (k : ℕ). skip masks (b .d) k (b .g)) m)
+    (noise-made (b .l) (b .d) 1 (b .at) (explicitNoise (b .d) (b .words .now)) (b .g) _ (b .s .now) _ _ _ (x .1) (x .0) (y .0) (c .before .before .ntt-vector .ensures), n ∙ ap (λ (k : ℕ). skip masks (b .d) k (b .g)) m)
 
 pub noise-explicit-spec : {M : Type 1} → statement M
 noise-explicit-spec =

@@ -1,6 +1,6 @@
 use mathlib.Core.Path.{_∙_}
 use native.Mathlib.Omega.{arith}
-use Rattle.signature.proofs.KeySteps.{skip-two}
+use Rattle.signature.proofs.Masking.{skip-two}
 use Rattle.signature.proofs.Responses.{renew-made}
 use borrow.Author.Needs.{needs}
 use Rattle.signature.proofs.respond.renew.Statement.{statement}
