@@ -1,30 +1,33 @@
 -- Attempts of signing (000, Algorithm 2): lines 4 to 16 on the work buffer are the definition's, an attempt by its ends, and the attempts in
 -- order. n is how many attempts are left, a how many are behind, s the key's shares.
-use mathlib.Core.Path.{_≡_, ap, _∙_}
+use mathlib.Core.Path.{_≡_, sym, ap, _∙_}
 use mathlib.Core.Bool.{true, false}
-use mathlib.Core.List.{List, []}
+use mathlib.Core.List.{List, [], _++_}
 use mathlib.Core.Option.{Option, some, none}
-use Prim.Native.Nat.{ℕ, suc, _+_, _*_, _^_}
+use Prim.Native.Nat.{ℕ, suc, _+_, _*_, _/_, _^_}
 use native.Mathlib.Numerals.{add-one}
 use native.Mathlib.Omega.{arith}
 use lib.IntN.{ℤ}
 use Rattle.hash.specs.Params.{orderIndex}
+use Rattle.hash.specs.Shake.{shake256}
 use Rattle.hash.specs.declared.params.Params.{Params}
 use Rattle.ring.specs.Words.{q}
 use Rattle.ring.specs.Round.{roundW, residues}
 use Rattle.sharing.specs.Blocks.{totals}
-use Rattle.sharing.specs.Region.{sub}
+use Rattle.sharing.specs.Region.{sub, Wrote}
 use Rattle.sharing.specs.Encoding.{skip, refreshed}
 use Rattle.sharing.specs.Masks.{masks}
 use Rattle.sharing.specs.declared.masks.MaskGen.{MaskGen}
 use Rattle.sharing.proofs.Totals.{skip-add}
-use Rattle.signature.specs.Attempt.{atR, Committed, Responded}
+use Rattle.signature.specs.Attempt.{atR, Committed, Responded, Answered, commitmentOf, hashOf}
 use Rattle.signature.specs.Bounds.{checkBounds}
-use Rattle.signature.specs.Challenge.{chalHash, chalPoly}
+use Rattle.signature.specs.Challenge.{headed, ordered, challenge, chalHash, chalPoly, chalHeld}
 use Rattle.signature.specs.Form.{Fields, write}
-use Rattle.signature.specs.Keygen.{atS, atX}
-use Rattle.signature.specs.Masked.{Noise, maskedNoise, maskedImage, behindProduct}
+use Rattle.signature.specs.Keygen.{atS, atT, atX}
+use Rattle.signature.specs.Masked.{Noise, maskedNoise, behindProduct}
 use Rattle.signature.specs.Sign.{Public, Attempted, made, over, stuck, answer, Tapes, signedFields, finished, challenged, concluded, maskedResponse, refreshedKey, refreshedNoise, refreshedResponse, attempted, noiseAt, maskAt, signFrom}
+use Rattle.signature.specs.declared.challenge.Challenged.{Challenged}
+use Rattle.signature.proofs.Entries.{absurd-bool}
 use Rattle.signature.proofs.Masking.{masked-words}
 
 -- ---- lines 4 to 16 on the work buffer: s₁ behind the commitment, s₂ before the response, where s and r are as they were, s₃ behind it
@@ -44,50 +47,106 @@ module _ (p : Params) (N : Noise) (g x : MaskGen) (A c s₀ s₁ s₂ s₃ : Lis
       v .key ∙ ap (refreshed masks (p .shares) x (p .l)) (hs ∙ u .key)
       ∙ ap (λ (h : MaskGen). refreshed masks (p .shares) h (p .l) (sub s₀ (atS (p .shares)) (p .l * (p .shares * 512)))) (u .next)
 
-  -- line 16
-  pub response-left : sub s₃ (atX (p .k) (p .l) (p .shares)) (p .l * 512)
-      ≡ totals (p .l) (p .shares) (refreshedResponse p N g (sub s₀ (atS (p .shares)) (p .l * (p .shares * 512))) c)
+  -- line 15
+  pub shares-left : sub s₃ (atR (p .l) (p .shares)) (p .l * (p .shares * 512))
+      ≡ refreshedResponse p N g (sub s₀ (atS (p .shares)) (p .l * (p .shares * 512))) c
   unfolding refreshedKey refreshedNoise refreshedResponse
-  response-left =
+  shares-left =
       let S = sub s₀ (atS (p .shares)) (p .l * (p .shares * 512)) in
       let R = maskedNoise p N g in
       let Z : MaskGen → MaskGen → MaskGen → List ℕ → List ℕ = λ (a b h : MaskGen) (X : List ℕ).
-      totals (p .l) (p .shares) (refreshed masks (p .shares) a (p .l) (maskedResponse (p .shares) (p .l) c (refreshed masks (p .shares) b (p .l) X) (refreshed masks (p .shares) h (p .l) R))) in
+      refreshed masks (p .shares) a (p .l) (maskedResponse (p .shares) (p .l) c (refreshed masks (p .shares) b (p .l) X) (refreshed masks (p .shares) h (p .l) R)) in
       let y = skip masks (p .shares) (p .l) x in
       let z = skip masks (p .shares) (p .l + p .l) x in
       let n : behindProduct p N + (p .l + p .l) ≡ behindProduct p N + p .l + p .l = omega arith in
-      v .response R (masked-words p N g power) (hr ∙ u .noise)
+      v .shares R (masked-words p N g power) (hr ∙ u .noise)
       ∙ ap (Z z x y) (hs ∙ u .key)
       ∙ ap (λ (h : MaskGen). Z z h y S) (u .next)
       ∙ ap (λ (h : MaskGen). Z z (skip masks (p .shares) (behindProduct p N) g) h S) (skip-behind (p .l))
       ∙ ap (λ (h : MaskGen). Z h (skip masks (p .shares) (behindProduct p N) g) (skip masks (p .shares) (behindProduct p N + p .l) g) S)
       (skip-behind (p .l + p .l) ∙ ap (λ (m : ℕ). skip masks (p .shares) m g) n)
 
--- ---- the ends of one attempt; W is the commitment, z the response to the challenge polynomial
+  -- line 16
+  pub response-left : sub s₃ (atX (p .k) (p .l) (p .shares)) (p .l * 512)
+      ≡ totals (p .l) (p .shares) (refreshedResponse p N g (sub s₀ (atS (p .shares)) (p .l * (p .shares * 512))) c)
+  response-left = v .response ∙ ap (totals (p .l) (p .shares)) shares-left
 
--- the sum of the commitment's shares, line 8; its hash, line 10
-abbrev pub commitmentOf : Params → Public → Noise → MaskGen → List ℕ
-commitmentOf p P N g = totals (p .k) (p .shares) (maskedImage p N g (P .matrix))
+-- ---- lines 9 to 16 behind the commitment: s₁ before them, s₂ behind the challenge, s₃ behind the response
 
-abbrev pub hashOf : Params → Public → Noise → MaskGen → List ℕ
-hashOf p P N g = chalHash p (roundW (commitmentOf p P N g)) (P .mu)
+filled-yes : (o : Option (List ℤ)) (c : List ℤ) → o ≡ some c → (chalHeld o .ok ≡ true) × (chalHeld o .poly ≡ c)
+unfolding chalHeld
+filled-yes o c e = (ap (λ (x : Option (List ℤ)). chalHeld x .ok) e, ap (λ (x : Option (List ℤ)). chalHeld x .poly) e)
+
+module _ (p : Params) (N : Noise) (h g : MaskGen) (A mu s s₁ s₂ hash : List ℕ) (o : Challenged) (u : Committed p N h A g s s₁)
+    (w : Wrote 0 (atT (p .l) (p .shares)) (p .k * 512) (roundW (sub s₁ (atT (p .l) (p .shares)) (p .k * 512))) s₁ s₂)
+    (eh : hash ≡ shake256 (headed 104 (p .k) ++ ordered (p .edition) (roundW (sub s₁ (atT (p .l) (p .shares)) (p .k * 512))) mu) (p .kappa / 4))
+    (eo : o ≡ chalHeld (challenge (p .edition) (p .omega) (shake256 (headed 99 (p .omega) ++ hash) 2176))) where
+  hash-there : hash ≡ hashOf p N h A mu
+  unfolding chalHash
+  hash-there = eh ∙ ap (λ (W : List ℕ). shake256 (headed 104 (p .k) ++ ordered (p .edition) (roundW W) mu) (p .kappa / 4)) (u .image)
+
+  challenge-there : o ≡ chalHeld (chalPoly p (hashOf p N h A mu))
+  unfolding chalPoly
+  challenge-there = eo ∙ ap (λ (x : List ℕ). chalHeld (challenge (p .edition) (p .omega) (shake256 (headed 99 (p .omega) ++ x) 2176))) hash-there
+
+  commitment-there : sub s₂ (atT (p .l) (p .shares)) (p .k * 512) ≡ roundW (commitmentOf p N h A)
+  commitment-there = w .new ∙ ap roundW (u .image)
+
+  pub answer-none : o .ok ≡ false → Answered p N h A mu (sub s (atS (p .shares)) (p .l * (p .shares * 512))) o hash s₂
+  answer-none e =
+      let no : (c : List ℤ) → chalPoly p (hashOf p N h A mu) ≡ some c → true ≡ false =
+      λ (c : List ℤ) (f : chalPoly p (hashOf p N h A mu) ≡ some c).
+      sym (filled-yes (chalPoly p (hashOf p N h A mu)) c f .0) ∙ sym (ap (λ (x : Challenged). x .ok) challenge-there) ∙ e in
+      record {
+        hash-is = hash-there;
+        challenge-is = challenge-there;
+        commitment = commitment-there;
+        key = λ (c : List ℤ) f. absurd-bool (no c f);
+        shares = λ (c : List ℤ) f. absurd-bool (no c f);
+        response = λ (c : List ℤ) f. absurd-bool (no c f);
+      }
+
+  pub answer-made : (power : p .shares ≡ 2 ^ orderIndex (p .shares)) (r s₃ : List ℕ) → r ≡ residues q (o .poly)
+      → Responded (p .k) (p .l) (p .shares) r g s₂ s₃
+      → Answered p N h A mu (sub s (atS (p .shares)) (p .l * (p .shares * 512))) o hash s₃
+  answer-made power r s₃ er v =
+      let L = p .l * (p .shares * 512) in
+      let poly : (c : List ℤ) → chalPoly p (hashOf p N h A mu) ≡ some c → r ≡ residues q c =
+      λ (c : List ℤ) (f : chalPoly p (hashOf p N h A mu) ≡ some c).
+      er ∙ ap (residues q) (ap (λ (x : Challenged). x .poly) challenge-there ∙ filled-yes (chalPoly p (hashOf p N h A mu)) c f .1) in
+      let hs = w .front (atS (p .shares)) L (omega arith) (omega arith) in
+      let hr = w .front (atR (p .l) (p .shares)) L (omega arith) (omega arith) in
+      record {
+        hash-is = hash-there;
+        challenge-is = challenge-there;
+        commitment = v .commitment ∙ commitment-there;
+        key = λ (c : List ℤ) f. key-left p N h g A r s s₁ s₂ s₃ power u hs hr v;
+        shares = λ (c : List ℤ) f.
+            shares-left p N h g A r s s₁ s₂ s₃ power u hs hr v
+            ∙ ap (refreshedResponse p N h (sub s (atS (p .shares)) (p .l * (p .shares * 512)))) (poly c f);
+        response = λ (c : List ℤ) f.
+            response-left p N h g A r s s₁ s₂ s₃ power u hs hr v
+            ∙ ap (λ (x : List ℕ). totals (p .l) (p .shares) (refreshedResponse p N h (sub s (atS (p .shares)) (p .l * (p .shares * 512))) x)) (poly c f);
+      }
+
+-- ---- the ends of one attempt
 
 -- line 19, with the challenge polynomial c
 abbrev pub fieldsFor : Params → Public → Noise → MaskGen → List ℕ → List ℤ → Fields
 fieldsFor p P N g s c =
-    signedFields p P (roundW (commitmentOf p P N g)) (hashOf p P N g) (totals (p .l) (p .shares) (refreshedResponse p N g s (residues q c))) c
+    signedFields p P (roundW (commitmentOf p N g (P .matrix))) (hashOf p N g (P .matrix) (P .mu)) (totals (p .l) (p .shares) (refreshedResponse p N g s (residues q c))) c
 
 module _ (p : Params) (P : Public) (N : Noise) (g : MaskGen) (s : List ℕ) where
   abbrev at-challenge : Option (List ℤ) → Attempted
   at-challenge o =
-      challenged p P (roundW (commitmentOf p P N g)) (hashOf p P N g) (λ (c : List ℕ). totals (p .l) (p .shares) (refreshedResponse p N g s c)) o
+      challenged p P (roundW (commitmentOf p N g (P .matrix))) (hashOf p N g (P .matrix) (P .mu)) (λ (c : List ℕ). totals (p .l) (p .shares) (refreshedResponse p N g s c)) o
 
   -- check 11
-  pub attempt-stuck : chalPoly p (hashOf p P N g) ≡ none → attempted p P N g s ≡ stuck
+  pub attempt-stuck : chalPoly p (hashOf p N g (P .matrix) (P .mu)) ≡ none → attempted p P N g s ≡ stuck
   unfolding attempted concluded
   attempt-stuck e = ap at-challenge e
 
-  pub attempt-on : (c : List ℤ) → chalPoly p (hashOf p P N g) ≡ some c → attempted p P N g s ≡ finished p (fieldsFor p P N g s c)
+  pub attempt-on : (c : List ℤ) → chalPoly p (hashOf p N g (P .matrix) (P .mu)) ≡ some c → attempted p P N g s ≡ finished p (fieldsFor p P N g s c)
   unfolding attempted concluded
   attempt-on c e = ap at-challenge e
 

@@ -27,6 +27,7 @@ row-small set d e p r w =
       rows-low = r .rule .rows-low;
       columns-low = r .rule .columns-low;
       columns-rows = w;
+      omega-low = r .rule .weight-low;
       rep-low = r .rule .rep-low;
       ut-pos = r .rule .ut-pos;
       ut-low = r .rule .ut-low;

@@ -121,13 +121,15 @@ respond-made k l d c g x s₀ s₁ s₂ s₃ s₄ e n u v w =
       key =
           w .front (atS d) L (omega arith) (omega arith) ∙ v .front (atS d) L (omega arith) (omega arith)
           ∙ u .front (atS d) L (omega arith) (omega arith) ∙ n .key;
-      response = λ (r : List ℕ) (wr : Words (l * (d * 512)) r) (f : sub s₀ (atR l d) (l * (d * 512)) ≡ transformed (l * d) r).
+      shares = λ (r : List ℕ) (wr : Words (l * (d * 512)) r) (f : sub s₀ (atR l d) (l * (d * 512)) ≡ transformed (l * d) r).
           let b : untransformed (l * d) (sub s₀ (atR l d) (l * (d * 512))) ≡ r =
           ap (untransformed (l * d)) f ∙ back-there (l * d) r (subst (λ (o : ℕ). Words o r) (sym m) wr) in
-          w .new ∙ ap (totals l d) (v .new ∙ ap (λ (y : MaskGen). refreshed masks d y l (sub s₂ (atR l d) (l * (d * 512)))) e
+          w .front (atR l d) L (omega arith) (omega arith) ∙ v .new
+          ∙ ap (λ (y : MaskGen). refreshed masks d y l (sub s₂ (atR l d) (l * (d * 512)))) e
           ∙ ap (refreshed masks d (skip masks d (l + l) g) l) (u .new
           ∙ ap (λ (X : List ℕ). maskedResponse d l c X (sub s₁ (atR l d) (l * (d * 512)))) (n .key)
-          ∙ ap (maskedResponse d l c (refreshed masks d g l S)) (n .noise ∙ ap (refreshed masks d (skip masks d l g) l) b)));
+          ∙ ap (maskedResponse d l c (refreshed masks d g l S)) (n .noise ∙ ap (refreshed masks d (skip masks d l g) l) b));
+      response = w .new ∙ ap (totals l d) (sym (w .front (atR l d) L (omega arith) (omega arith)));
       commitment =
           w .front (atT l d) (k * 512) (omega arith) (omega arith) ∙ v .behind (atT l d) (k * 512) (omega arith) (omega arith)
           ∙ u .behind (atT l d) (k * 512) (omega arith) (omega arith) ∙ n .behind (atT l d) (k * 512) (omega arith);

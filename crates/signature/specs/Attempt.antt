@@ -3,20 +3,25 @@
 use mathlib.Core.Path.{_≡_}
 use mathlib.Core.Bool.{Bool, true, false}
 use mathlib.Core.List.{List}
+use mathlib.Core.Option.{some}
 use Prim.Native.Nat.{ℕ, _+_, _*_, _≤_}
+use lib.IntN.{ℤ}
 use lib.ListN.{length}
 use Rattle.hash.specs.Lists.{pick}
 use Rattle.hash.specs.declared.params.Params.{Params}
 use Rattle.ring.specs.Words.{q, addW, Below, Words}
 use Rattle.ring.specs.Transform.{intt, pointwise}
+use Rattle.ring.specs.Round.{roundW, residues}
 use Rattle.sharing.specs.Blocks.{block, build, totals}
 use Rattle.sharing.specs.Region.{sub}
 use Rattle.sharing.specs.Encoding.{skip, refreshed}
 use Rattle.sharing.specs.Masks.{masks}
 use Rattle.sharing.specs.declared.masks.MaskGen.{MaskGen}
+use Rattle.signature.specs.Challenge.{chalHash, chalPoly, chalHeld}
 use Rattle.signature.specs.Keygen.{atS, atT, atX}
 use Rattle.signature.specs.Masked.{Noise, maskedNoise, maskedImage, behindProduct, transformed, untransformed}
-use Rattle.signature.specs.Sign.{Tapes, noiseSize, maskedResponse}
+use Rattle.signature.specs.declared.challenge.Challenged.{Challenged}
+use Rattle.signature.specs.Sign.{Tapes, noiseSize, maskedResponse, refreshedKey, refreshedResponse}
 use Rattle.signature.specs.SignCalls.{Key, packed, expanded}
 
 -- the key that a call is lent: a signing key's bytes, or the public key's bytes and the words of all shares
@@ -64,12 +69,33 @@ pub record Renewed (l d a b : ℕ) (g : MaskGen) (xs ys : List ℕ) : Type 0 whe
   pub long : length ys ≡ length xs
   pub low : Below q ys
 
--- all of them, of the challenge polynomial c: s refreshed, z, and w as it was; g is the generator behind line 7
+-- all of them, of the challenge polynomial c: s refreshed, the shares of z in the place of r, their sum z, and w as it was; g is the generator behind line 7
 pub record Responded (k l d : ℕ) (c : List ℕ) (g : MaskGen) (xs ys : List ℕ) : Type 0 where
   pub key : sub ys (atS d) (l * (d * 512)) ≡ refreshed masks d g l (sub xs (atS d) (l * (d * 512)))
-  pub response : (r : List ℕ) → Words (l * (d * 512)) r → sub xs (atR l d) (l * (d * 512)) ≡ transformed (l * d) r
-      → sub ys (atX k l d) (l * 512) ≡ totals l d (refreshed masks d (skip masks d (l + l) g) l
-      (maskedResponse d l c (refreshed masks d g l (sub xs (atS d) (l * (d * 512)))) (refreshed masks d (skip masks d l g) l r)))
+  pub shares : (r : List ℕ) → Words (l * (d * 512)) r → sub xs (atR l d) (l * (d * 512)) ≡ transformed (l * d) r
+      → sub ys (atR l d) (l * (d * 512)) ≡ refreshed masks d (skip masks d (l + l) g) l
+      (maskedResponse d l c (refreshed masks d g l (sub xs (atS d) (l * (d * 512)))) (refreshed masks d (skip masks d l g) l r))
+  pub response : sub ys (atX k l d) (l * 512) ≡ totals l d (sub ys (atR l d) (l * (d * 512)))
   pub commitment : sub ys (atT l d) (k * 512) ≡ sub xs (atT l d) (k * 512)
   pub long : length ys ≡ length xs
   pub low : Below q ys
+
+-- ---- lines 8 to 16
+
+-- line 8, the sum of the shares of w; line 10, the challenge hash
+abbrev pub commitmentOf : Params → Noise → MaskGen → List ℕ → List ℕ
+commitmentOf p N g A = totals (p .k) (p .shares) (maskedImage p N g A)
+
+abbrev pub hashOf : Params → Noise → MaskGen → List ℕ → List ℕ → List ℕ
+hashOf p N g A mu = chalHash p (roundW (commitmentOf p N g A)) mu
+
+-- what is left of lines 4 to 16: the challenge hash and polynomial, w rounded, and with a challenge s refreshed, the shares of z, and z
+pub record Answered (p : Params) (N : Noise) (g : MaskGen) (A mu s : List ℕ) (o : Challenged) (hash ys : List ℕ) : Type 0 where
+  pub hash-is : hash ≡ hashOf p N g A mu
+  pub challenge-is : o ≡ chalHeld (chalPoly p (hashOf p N g A mu))
+  pub commitment : sub ys (atT (p .l) (p .shares)) (p .k * 512) ≡ roundW (commitmentOf p N g A)
+  pub key : (c : List ℤ) → chalPoly p (hashOf p N g A mu) ≡ some c → sub ys (atS (p .shares)) (p .l * (p .shares * 512)) ≡ refreshedKey p N g s
+  pub shares : (c : List ℤ) → chalPoly p (hashOf p N g A mu) ≡ some c
+      → sub ys (atR (p .l) (p .shares)) (p .l * (p .shares * 512)) ≡ refreshedResponse p N g s (residues q c)
+  pub response : (c : List ℤ) → chalPoly p (hashOf p N g A mu) ≡ some c
+      → sub ys (atX (p .k) (p .l) (p .shares)) (p .l * 512) ≡ totals (p .l) (p .shares) (refreshedResponse p N g s (residues q c))

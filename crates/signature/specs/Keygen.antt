@@ -25,6 +25,7 @@ pub record Small (p : Params) : Type 0 where
   pub rows-low : p .k ≤ 9
   pub columns-low : p .l ≤ 7
   pub columns-rows : p .l ≤ p .k
+  pub omega-low : p .omega ≤ 44
   pub rep-low : p .rep ≤ 8
   pub ut-pos : 1 ≤ p .ut
   pub ut-low : p .ut ≤ 7
