@@ -1,6 +1,6 @@
 -- Attempts of signing (000, Algorithm 2): lines 4 to 16 on the work buffer are the definition's, an attempt by its ends, and the attempts in
 -- order. n is how many attempts are left, a how many are behind, s the key's shares.
-use mathlib.Core.Path.{_≡_, sym, ap, _∙_}
+use mathlib.Core.Path.{_≡_, refl, sym, ap, _∙_}
 use mathlib.Core.Bool.{true, false}
 use mathlib.Core.List.{List, [], _++_}
 use mathlib.Core.Option.{Option, some, none}
@@ -163,6 +163,44 @@ module _ (p : Params) (f : Fields) where
   pub signature-made : (b : List ℕ) → checkBounds p f ≡ true → write p f ≡ some b → finished p f ≡ made b
   unfolding finished
   signature-made b e h = simp (e, h)
+
+-- .. by what lines 4 to 16 left: o is the challenge, ys the work buffer
+chal-none : (o : Option (List ℤ)) → chalHeld o .ok ≡ false → o ≡ none
+unfolding chalHeld
+chal-none none e = refl
+chal-none (some c) e = absurd-bool e
+
+chal-some : (o : Option (List ℤ)) → chalHeld o .ok ≡ true → o ≡ some (chalHeld o .poly)
+unfolding chalHeld
+chal-some none e = absurd-bool (sym e)
+chal-some (some c) e = refl
+
+module _ (p : Params) (P : Public) (N : Noise) (g : MaskGen) (s hash ys : List ℕ) (o : Challenged)
+    (u : Answered p N g (P .matrix) (P .mu) s o hash ys) where
+  pub left-stuck : o .ok ≡ false → attempted p P N g s ≡ stuck
+  left-stuck e =
+      attempt-stuck p P N g s (chal-none (chalPoly p (hashOf p N g (P .matrix) (P .mu))) (sym (ap (λ (x : Challenged). x .ok) (u .challenge-is)) ∙ e))
+
+  module _ (e : o .ok ≡ true) where
+    chal-is : chalPoly p (hashOf p N g (P .matrix) (P .mu)) ≡ some (o .poly)
+    chal-is =
+        chal-some (chalPoly p (hashOf p N g (P .matrix) (P .mu))) (sym (ap (λ (x : Challenged). x .ok) (u .challenge-is)) ∙ e)
+        ∙ ap (λ (x : Challenged). some (x .poly)) (sym (u .challenge-is))
+
+    -- what is left to do is lines 17 to 20
+    pub left-on : attempted p P N g s
+        ≡ finished p (signedFields p P (sub ys (atT (p .l) (p .shares)) (p .k * 512)) hash (sub ys (atX (p .k) (p .l) (p .shares)) (p .l * 512)) (o .poly))
+    left-on =
+        attempt-on p P N g s (o .poly) chal-is
+        ∙ ap (λ (W : List ℕ). finished p (signedFields p P W (hashOf p N g (P .matrix) (P .mu)) (totals (p .l) (p .shares) (refreshedResponse p N g s (residues q (o .poly)))) (o .poly)))
+        (sym (u .commitment))
+        ∙ ap (λ (H : List ℕ). finished p (signedFields p P (sub ys (atT (p .l) (p .shares)) (p .k * 512)) H (totals (p .l) (p .shares) (refreshedResponse p N g s (residues q (o .poly)))) (o .poly)))
+        (sym (u .hash-is))
+        ∙ ap (λ (Z : List ℕ). finished p (signedFields p P (sub ys (atT (p .l) (p .shares)) (p .k * 512)) hash Z (o .poly)))
+        (sym (u .response (o .poly) chal-is))
+
+    pub left-key : sub ys (atS (p .shares)) (p .l * (p .shares * 512)) ≡ refreshedKey p N g s
+    left-key = u .key (o .poly) chal-is
 
 -- ---- the attempts in order
 
