@@ -23,7 +23,7 @@ use Rattle.signature.specs.Matrix.{matrix, rowEntry}
 use Rattle.signature.specs.Recover.{add31, productRow, recoveredRow, recovered, adjusted, recoveredBy, blockZ, adjustedRows}
 use Rattle.signature.proofs.Recovered.{recovered-row}
 use Rattle.signature.proofs.Reduced.{take-residues, drop-residues}
-use Rattle.signature.proofs.Rounded.{map-take, map-drop, length-map, scaled-words}
+use Rattle.signature.proofs.Rounded.{map-take, map-drop, map-long, scaled-words}
 
 -- row i of them
 abbrev pub adjustedAt : ℕ → List ℕ → List ℕ → List ℕ → List ℕ → List ℤ → ℕ → List ℕ
@@ -78,7 +78,7 @@ adjust-block y h i =
 
 length-adjusted : (y : List ℕ) (h : List ℤ) → length (adjusted y h) ≡ length y
 unfolding adjusted
-length-adjusted y h = length-zip add31 (roundW y) (residues 31 h) ∙ length-map (rounded 44 31) y
+length-adjusted y h = length-zip add31 (roundW y) (residues 31 h) ∙ map-long (rounded 44 31) y
 
 module _ (p : Params) (A z c t : List ℕ) where
   row-long : (i : ℕ) → i < p .k → length (recoveredRow (p .l) A z c t i) ≡ 512

@@ -26,7 +26,7 @@ use Rattle.signature.specs.Opening.{Listed, opened, openedKey}
 use Rattle.signature.specs.KeyCalls.{Outcome, outcome, expandNo, expandCall, refreshNo, refreshCall}
 use Rattle.signature.proofs.Opened.{not-filled, opened-all}
 
-both-true : (a b : Bool) → both a b ≡ true → (a ≡ true) × (b ≡ true)
+pub both-true : (a b : Bool) → both a b ≡ true → (a ≡ true) × (b ≡ true)
 both-true true b e = (refl, e)
 both-true false b e = let x : _≡_ {A = ℕ} 0 1 = cc in absurd (omega arith)
 

@@ -1,13 +1,15 @@
 -- The first n words of a local array: written there as a part, and read back.
 use mathlib.Core.Path.{_≡_, sym, ap, _∙_}
 use mathlib.Core.List.{List, _++_}
-use Prim.Native.Nat.{ℕ, _-_, _≤_}
+use Prim.Native.Nat.{ℕ, _+_, _-_, _≤_}
 use native.Mathlib.Omega.{arith}
-use lib.ListN.{length, take}
+use lib.ListN.{length, take, drop}
 use lib.Seq.{take-at}
 use borrow.Rule.Slice.PartMut.{midOf, postOf, putMid, same-len-mid, mid-len}
 use Rattle.hash.specs.Shake.{absorbed, stream, shake256}
 use Rattle.hash.proofs.Table.{length-table}
+use Rattle.sharing.specs.Region.{sub}
+use Rattle.sharing.proofs.Regions.{length-sub}
 use Rattle.signature.specs.Bits.{repack}
 use Rattle.signature.specs.Recover.{keyHash, boundTo}
 use Rattle.signature.proofs.Packing.{length-repack}
@@ -23,6 +25,17 @@ module _ {A : Type 0} (n : ℕ) (xs ys : List A) (h : n ≤ length xs) (e : leng
 
   pub front-is : take (n - 0) (putMid 0 (n - 0) xs ys) ≡ ys
   front-is = take-at ys (postOf 0 (n - 0) xs) (n - 0) (e ∙ sym zero-off)
+
+-- .. by a copy of n words from `at` on
+module _ (n at : ℕ) (xs s : List ℕ) (h : n ≤ length xs) (g : at + n ≤ length s) where
+  pub copied-from : take (at + n - at) (drop at s) ≡ sub s at n
+  copied-from = let k : at + n - at ≡ n = omega arith in ap (λ (m : ℕ). take m (drop at s)) k
+
+  pub copied-long : length (take (at + n - at) (drop at s)) ≡ n
+  copied-long = ap (λ (l : List ℕ). length l) copied-from ∙ length-sub s at n g
+
+  pub copied-room : length (midOf 0 (n - 0) xs) ≡ length (take (at + n - at) (drop at s))
+  copied-room = let z : n - 0 ≡ n = omega arith in mid-len 0 n xs h ∙ z ∙ sym copied-long
 
 -- .. by unpacking
 module _ (w n : ℕ) (xs ys bs : List ℕ) (h : n ≤ length xs) (e : ys ≡ repack 8 w (length (midOf 0 (n - 0) xs)) bs) where

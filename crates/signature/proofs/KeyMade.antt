@@ -1,17 +1,15 @@
 -- Keys that key generation made (000, 2.5.2 and 2.5.3): what is read of them is what was written.
 use Prim.Native.Nat.{ℕ, zero, suc, _+_, _-_, _*_, _/_, _^_, _≤_, _<_}
 use mathlib.Core.Path.{_≡_, refl, sym, ap, _∙_}
-use mathlib.Core.List.{List, [], _∷_, _++_, append-assoc}
+use mathlib.Core.List.{List, _++_, append-assoc}
 use mathlib.Core.Option.{Option, some, none}
 use native.Mathlib.Omega.{arith}
-use native.Mathlib.Nat.{mod-lt}
 use lib.Dec.{lit<}
 use lib.ListN.{length, getD, take, drop, length-append, length-drop}
 use lib.Seq.{take-at, drop-at, length-take-le}
 use Rattle.hash.specs.declared.params.Params.{Params}
 use Rattle.hash.proofs.Rows.{Rule}
 use Rattle.ring.specs.Words.{q, addW, subW, Below, Residues, Words}
-use Rattle.ring.specs.Round.{mapN, rounded}
 use Rattle.ring.specs.Uniform.{heldOf}
 use Rattle.ring.proofs.Sums.{below-at, words-add, words-sub}
 use Rattle.ring.proofs.Theorems.{ntt-words}
@@ -26,8 +24,9 @@ use Rattle.signature.specs.Matrix.{matrix}
 use Rattle.signature.specs.Keys.{vkSeed, vkVector, publicKey, fullShare, seededShare, exchanged, collected, compressed, keygenBytes, noisePart, sharePart, keyShares, keyVector, keygenOf}
 use Rattle.signature.proofs.Packing.{length-repack, repack-trip}
 use Rattle.signature.proofs.Entries.{all-some}
+use Rattle.signature.proofs.Rounded.{rounded-residues}
 
-some-same : (a b : List ℕ) → some a ≡ some b → a ≡ b
+pub some-same : (a b : List ℕ) → some a ≡ some b → a ≡ b
 some-same a b e = cc
 
 none-some : (a : List ℕ) → none ≡ some a → ⊥
@@ -74,24 +73,9 @@ made p seeds mask key e = go (matrix p (vkSeed p seeds)) (fullOf p seeds mask) r
 
 -- ---- t is k polynomials of coefficients below 125
 
-map-long : (f : ℕ → ℕ) (xs : List ℕ) → length (mapN f xs) ≡ length xs
-unfolding mapN
-map-long f [] = refl
-map-long f (x ∷ xs) = ap suc (map-long f xs)
-
-map-low : (f : ℕ → ℕ) (m : ℕ) → ((x : ℕ) → f x < m) → (xs : List ℕ) → Below m (mapN f xs)
-unfolding mapN
-map-low f m h [] = tt
-map-low f m h (x ∷ xs) = (h x, map-low f m h xs)
-
-rounded-lt : (x : ℕ) → rounded 42 125 x < 125
-unfolding rounded
-rounded-lt x = mod-lt ((x + 2 ^ 41) / 2 ^ 42) (lit< tt)
-
 pub vector-words : (p : Params) (tape : List ℕ) (g : MaskGen) (A : List ℕ) → Residues 125 (p .k * 512) (keyVector p tape g A)
 unfolding keyVector
-vector-words p tape g A =
-    record { long = map-long (rounded 42 125) _ ∙ totals-words (p .k) (p .shares) _ .long; low = map-low (rounded 42 125) 125 rounded-lt _ }
+vector-words p tape g A = rounded-residues 42 125 (p .k * 512) (lit< tt) _ (totals-words (p .k) (p .shares) _ .long)
 
 -- ---- the full share is l polynomials of words below q
 

@@ -8,7 +8,7 @@ use native.Mathlib.Omega.{arith}
 use lib.ListN.{length, drop}
 use Rattle.hash.specs.Params.{orderIndex}
 use Rattle.hash.specs.declared.params.Params.{Params}
-use Rattle.ring.specs.Words.{q, Below, Words}
+use Rattle.ring.specs.Words.{q, Below}
 use Rattle.ring.specs.Round.{roundT}
 use Rattle.ring.specs.Uniform.{heldOf}
 use Rattle.sharing.specs.Blocks.{totals}
@@ -17,36 +17,17 @@ use Rattle.sharing.specs.Encoding.{skip, addNoise, zeroVector}
 use Rattle.sharing.specs.Masks.{masks}
 use Rattle.sharing.specs.Noise.{seedNoise}
 use Rattle.sharing.specs.declared.masks.MaskGen.{MaskGen}
-use Rattle.sharing.proofs.Carry.{mask-low}
 use Rattle.sharing.proofs.Regions.{wrote-value, wrote-wide, wrote-over}
-use Rattle.sharing.proofs.Totals.{skip-add, noise-words, zeroVector-words}
 use Rattle.signature.specs.Checks.{both}
 use Rattle.signature.specs.Keygen.{atS, atT, atX}
 use Rattle.signature.specs.Keys.{keyShares, keyVector, compressed}
 use Rattle.signature.specs.Compress.{compressedOf}
-use Rattle.signature.specs.Masked.{seeded, maskedNoise, maskedImage, transformed, rowsOf}
+use Rattle.signature.specs.Masked.{seeded, maskedNoise, transformed, rowsOf}
 use Rattle.signature.specs.Matrix.{matrix, matrixOf, filled}
 use Rattle.signature.proofs.Collected.{compressed-is}
 use Rattle.signature.proofs.Entries.{filled-some}
-use Rattle.signature.proofs.Images.{image-product}
+use Rattle.signature.proofs.Masking.{image-is}
 use Rattle.signature.proofs.Product.{transformed-each}
-
--- lines 3 and 4
-pub secret-made : (l d rep at : ℕ) (N : ℕ → ℕ → List ℕ) (g x : MaskGen) (s₀ s₁ s₂ s₃ : List ℕ) → x ≡ skip masks d l g
-    → Wrote (d * 512) at (l * (d * 512)) (zeroVector masks d g l) s₀ s₁
-    → Wrote (d * 512) at (l * (d * 512)) (addNoise masks d x l rep N (sub s₁ at (l * (d * 512)))) s₁ s₂
-    → Wrote 0 at (l * d * 512) (transformed (l * d) (sub s₂ at (l * d * 512))) s₂ s₃
-    → Wrote (d * 512) at (l * (d * 512)) (transformed (l * d) (addNoise masks d (skip masks d l g) l rep N (zeroVector masks d g l))) s₀ s₃
-secret-made l d rep at N g x s₀ s₁ s₂ s₃ e u v w =
-    let n : l * d * 512 ≡ l * (d * 512) = omega arith in
-    let t : Wrote 0 at (l * (d * 512)) (transformed (l * d) (sub s₂ at (l * (d * 512)))) s₂ s₃ =
-    subst (λ (m : ℕ). Wrote 0 at m (transformed (l * d) (sub s₂ at m)) s₂ s₃) n w in
-    let f : sub s₂ at (l * (d * 512)) ≡ addNoise masks d (skip masks d l g) l rep N (zeroVector masks d g l) =
-    v .new ∙ ap (addNoise masks d x l rep N) (u .new) ∙ ap (λ (h : MaskGen). addNoise masks d h l rep N (zeroVector masks d g l)) e in
-    wrote-over u (wrote-over v (wrote-wide (omega arith) (wrote-value (ap (transformed (l * d)) f) t)))
-
-pub skip-two : (d a b : ℕ) (g x y : MaskGen) → x ≡ skip masks d a g → y ≡ skip masks d b x → y ≡ skip masks d (a + b) g
-skip-two d a b g x y e f = f ∙ ap (skip masks d b) e ∙ skip-add masks d a b g
 
 -- lines 5 to 8: a sum, rounded where it is
 pub rounded-made : (n at k : ℕ) (X s₀ s₁ s₂ : List ℕ) → Wrote n at (k * 512) X s₀ s₁ → Wrote 0 at (k * 512) (roundT (sub s₁ at (k * 512))) s₁ s₂
@@ -85,26 +66,14 @@ publicOf p rest x A S =
     (rowsOf (p .shares) (p .k) (p .l) A S)))
 
 module _ (p : Params) (power : p .shares ≡ 2 ^ orderIndex (p .shares)) (tape shares : List ℕ) (g : MaskGen) where
-  secret-words : Words (p .l * (p .shares * 512)) (secretOf p tape g)
-  secret-words =
-      noise-words masks mask-low (p .shares) power (p .l) (zeroVector masks (p .shares) g (p .l))
-      (zeroVector-words masks mask-low (p .shares) power g (p .l)) (skip masks (p .shares) (p .l) g) (p .rep)
-      (seedNoise (p .shares) (p .rep) (p .ut) (p .kappa / 8) tape)
-
   shares-is : transformed (p .l * p .shares) (secretOf p tape g) ≡ keyShares p tape g
   unfolding keyShares maskedNoise seeded
   shares-is = transformed-each (p .l) (p .shares) (secretOf p tape g)
 
   vector-is : (seed A : List ℕ) (x : MaskGen) → matrix p seed ≡ some A → x ≡ skip masks (p .shares) (p .l + p .l * p .rep) g
       → publicOf p (restOf p tape) x A (transformed (p .l * p .shares) (secretOf p tape g)) ≡ keyVector p tape g A
-  unfolding keyVector maskedImage maskedNoise seeded
-  vector-is seed A x e f =
-      let S = transformed (p .l * p .shares) (secretOf p tape g) in
-      let y = skip masks (p .shares) (p .l + p .l * p .rep) g in
-      let N = seedNoise (p .shares) (p .rep) (p .ut) (p .kappa / 8) (restOf p tape) in
-      ap (λ (h : MaskGen). publicOf p (restOf p tape) h A S) f
-      ∙ ap (λ (Y : List ℕ). roundT (totals (p .k) (p .shares) (addNoise masks (p .shares) y (p .k) (p .rep) N Y)))
-      (image-product (p .shares) (p .k) (p .l) seed A (secretOf p tape g) e secret-words)
+  unfolding keyVector maskedNoise seeded
+  vector-is seed A x e f = ap roundT (image-is p (seeded p (p .ut) tape) g x power f seed A e)
 
   module _ (seed rest s₀ s₁ s₂ s₃ : List ℕ) (x : MaskGen) (b : Bool) (hr : rest ≡ restOf p tape)
       (u : Wrote (p .shares * 512) (atS (p .shares)) (p .l * (p .shares * 512)) (transformed (p .l * p .shares) (secretOf p tape g)) s₀ s₁)

@@ -1,5 +1,6 @@
 pub mod Adjusted
 pub mod Asked
+pub mod Attempts
 pub mod Canon
 pub mod Canonical
 pub mod ChalBytes
@@ -8,6 +9,7 @@ pub mod ChalResult
 pub mod ChalRun
 pub mod Codes
 pub mod Collected
+pub mod Commits
 pub mod Counts
 pub mod Entries
 pub mod Filled
@@ -22,6 +24,8 @@ pub mod KeySecret
 pub mod KeySteps
 pub mod Listing
 pub mod Lists
+pub mod Loads
+pub mod Masking
 pub mod Norms
 pub mod Opened
 pub mod Packer
@@ -32,12 +36,14 @@ pub mod Proper
 pub mod Renewed
 pub mod Recovered
 pub mod Reduced
+pub mod Responses
 pub mod Rounded
 pub mod Rows
 pub mod Signs
 pub mod SameBytes
 pub mod Sizes
 pub mod Strings
+pub mod Tapes
 pub mod Trip
 pub mod Verdict
 pub mod Verified

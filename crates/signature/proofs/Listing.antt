@@ -27,9 +27,12 @@ row-small set d e p r w =
       rows-low = r .rule .rows-low;
       columns-low = r .rule .columns-low;
       columns-rows = w;
+      omega-low = r .rule .weight-low;
       rep-low = r .rule .rep-low;
       ut-pos = r .rule .ut-pos;
       ut-low = r .rule .ut-low;
+      uw-pos = r .rule .uw-pos;
+      uw-low = r .rule .uw-low;
       kappa-low = r .rule .kappa-low;
     }
 

@@ -25,9 +25,12 @@ pub record Small (p : Params) : Type 0 where
   pub rows-low : p .k ≤ 9
   pub columns-low : p .l ≤ 7
   pub columns-rows : p .l ≤ p .k
+  pub omega-low : p .omega ≤ 44
   pub rep-low : p .rep ≤ 8
   pub ut-pos : 1 ≤ p .ut
   pub ut-low : p .ut ≤ 7
+  pub uw-pos : 1 ≤ p .uw
+  pub uw-low : p .uw ≤ 41
   pub kappa-low : p .kappa ≤ 256
 
 -- the signing key of t and x in the work buffer

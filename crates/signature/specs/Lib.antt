@@ -1,4 +1,5 @@
 pub mod Answers
+pub mod Attempt
 pub mod Bits
 pub mod Bounds
 pub mod Challenge

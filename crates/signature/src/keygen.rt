@@ -9,53 +9,28 @@ ghost use Rattle.ring.specs.Words.{q, Below};
 ghost use Rattle.ring.specs.Round.{roundT};
 ghost use Rattle.sharing.specs.Blocks.{totals};
 ghost use Rattle.sharing.specs.Region.{sub, Wrote};
-ghost use Rattle.sharing.specs.Encoding.{skip, addNoise, zeroVector};
+ghost use Rattle.sharing.specs.Encoding.{addNoise};
 ghost use Rattle.sharing.specs.Masks.{masks, maskStart};
 ghost use Rattle.sharing.specs.Noise.{seedNoise, noiseBytes};
 ghost use Rattle.signature.specs.Checks.{both, workWords};
 ghost use Rattle.signature.specs.Keygen.{atT, atX, Small, keyOf};
 ghost use Rattle.signature.specs.KeyCalls.{outcome, keygenMade, keygenCall};
 ghost use Rattle.signature.specs.Keys.{vkSeed, noisePart, sharePart, keygenBytes, keyShares, keyVector, compressed, keygenOf};
-ghost use Rattle.signature.specs.Masked.{transformed, rowsOf};
+ghost use Rattle.signature.specs.Masked.{rowsOf};
 ghost use Rattle.signature.specs.Matrix.{matrix, matrixOf, filled};
 use crate::compress::compress_vector;
 use crate::keycheck::keygen_no;
 use crate::keyform::write_key;
 use crate::masked::image_seeds;
+use crate::noise::noise_seeds;
 use crate::rounding::round_t_vector;
-use crate::vector::ntt_vector;
 use hash::params::Edition;
 use hash::params::Params;
 use hash::params::Selected;
 use hash::params::lookup;
-use sharing::encoding::zero_vector;
 use sharing::masks::MaskGen;
 use sharing::masks::start;
 use sharing::region::clear;
-use sharing::repeat::noise_vector;
-
-// Lines 3 and 4: l sharings of zero at `at` and their noise, transformed.
-fn secret(
-    s: &mut [u64],
-    at: usize,
-    l: usize,
-    d: usize,
-    rep: usize,
-    u: usize,
-    seeds: &[u8],
-    n: usize,
-    g: MaskGen,
-) -> MaskGen
-    requires { ⌜ d ≡ 2 ^ orderIndex d ⌝ }
-    requires { ⌜ (d * 512 ≤ at) × (at + l * (d * 512) ≤ length (now s)) × Below q (now s) × (l * rep * d * n ≤ length (now seeds)) ⌝ }
-    requires { ⌜ (rep < 256) × (l ≤ 256) × (d < 256) × (1 ≤ u) × (u ≤ 48) ⌝ }
-    ensures { λ r. ⌜ Wrote (d * 512) at (l * (d * 512)) (transformed (l * d) (addNoise masks d (skip masks d l g) l rep (seedNoise d rep u n (now (seeds .entry))) (zeroVector masks d g l))) (now (s .entry)) (now (s .exit)) × (r ≡ skip masks d (l + l * rep) g) ⌝ }
-{
-    let x = zero_vector(s, at, l, d, g);
-    let y = noise_vector(s, at, l, d, rep, u, seeds, n, x);
-    ntt_vector(s, at, l * d);
-    y
-}
 
 // Lines 5 to 8: t, rounded, at `to`; s is at `at`, transformed. False where the matrix does not fill.
 fn public_vector(
@@ -111,7 +86,7 @@ fn make_parts(
     let b = l * rep * d * n;
     clear(work);
     let g = start(mask_seed);
-    let x = secret(work, at, l, d, rep, u, tape, n, g);
+    let x = noise_seeds(work, at, l, d, rep, u, tape, n, g);
     if !public_vector(work, at, to, seed, k, l, d, rep, u, &tape[b..], n, x) {
         return false;
     }

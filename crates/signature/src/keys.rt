@@ -203,7 +203,7 @@ fn polynomial_fills(p: Params, part: &[u8], j: usize) -> bool
 }
 
 // Question 10: do all seeded shares fill?
-fn shares_fill(p: Params, part: &[u8]) -> bool
+pub(crate) fn shares_fill(p: Params, part: &[u8]) -> bool
     requires { ⌜ Listed p × (length (now part) ≡ partBytes p) ⌝ }
     ensures { λ r. ⌜ r ≡ filled (decompressed p (now (part .entry))) ⌝ }
 {
@@ -276,7 +276,7 @@ fn open_all(p: Params, part: &[u8], full: &[u64], out: &mut [u64])
 }
 
 // MaskDecompress (000, Algorithm 15), where all seeded shares fill.
-fn open_shares(p: Params, part: &[u8], out: &mut [u64])
+pub(crate) fn open_shares(p: Params, part: &[u8], out: &mut [u64])
     requires { ⌜ Listed p × (length (now part) ≡ partBytes p) ⌝ }
     requires { ⌜ (length (now out) ≡ p .l * (p .shares * 512)) × Below q (fullShare p (now part)) ⌝ }
     ensures { λ _. ⌜ now (out .exit) ≡ opened p (now (part .entry)) ⌝ }

@@ -1,8 +1,10 @@
 // Layer 4, signature: byte forms (000, 2.5), challenges (2.4.6), bounds (2.4.4), the matrix (2.4.3), masked products, and keys (2.3.1).
+mod attempt;
 mod bits;
 mod bounds;
 pub mod challenge;
 mod code;
+mod commit;
 mod compress;
 mod form;
 mod int;
@@ -10,10 +12,13 @@ mod keycheck;
 mod keyform;
 pub mod keygen;
 pub mod keys;
+mod load;
 mod masked;
 mod matrix;
+mod noise;
 mod recover;
 mod residues;
+mod respond;
 mod rounding;
 mod vector;
 pub mod verify;

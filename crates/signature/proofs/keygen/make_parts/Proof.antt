@@ -31,8 +31,8 @@ mul-b-3 c =
     let m = first-low p (a .pre .0) .2 in
     fits-low (p .l * p .rep * p .shares * (p .kappa / 8)) (omega (arith, m))
 
-secret-requires : tie.Need-secret-requires
-secret-requires c κs =
+noise-seeds-requires : tie.Need-noise-seeds-requires
+noise-seeds-requires c κs =
     let a = c .before .before .before .before .before .before .before .before .before .before .before .before in
     let b = a .args in
     let p = b .p in
@@ -67,7 +67,7 @@ public-vector-requires c κs =
     let h = a .pre .0 in
     let w = cleared (b .work .now) _ (c .before .before .before .before .before .before .before .before .before .clear .ensures) in
     let R = room p h (length (b .work .now)) (a .pre .1) in
-    let u = c .before .before .before .before .secret .ensures .0 in
+    let u = c .before .before .before .before .noise-seeds .ensures .0 in
     let n = u .long ∙ w .long in
     let r1 = R .1 in
     (h .power, ((omega arith, omega arith, omega (arith, r1, n), u .low, omega (arith, h .rows-low), omega (arith, h .columns-low)), (tape-second p h (b .tape .now) (a .pre .2), omega (arith, h .rep-low), omega (arith, h .shares-low), h .ut-pos, omega (arith, h .ut-low))))
@@ -80,7 +80,7 @@ returns c =
     let h = a .pre .0 in
     let w = cleared (b .work .now) _ (c .before .before .before .before .before .before .before .before .before .before .before .before .before .clear .ensures) in
     let R = room p h (length (b .work .now)) (a .pre .1) in
-    let s = c .before .before .before .before .before .before .before .before .secret .ensures in
+    let s = c .before .before .before .before .before .before .before .before .noise-seeds .ensures in
     let z = c .before .before .before .public-vector .ensures in
     let e : c .before .before .before .public-vector .result ≡ false = not-true _ (c .if1 .taken) in
     let g = maskStart (b .mask-seed .now) in
@@ -111,7 +111,7 @@ compress-vector-requires c κs =
     let w = cleared (b .work .now) _ (c .before .before .before .before .before .before .before .before .before .before .before .before .before .before .clear .ensures) in
     let R = room p h (length (b .work .now)) (a .pre .1) in
     let z = c .before .before .before .before .public-vector .ensures .0 in
-    let n = z .1 ∙ c .before .before .before .before .before .before .before .before .before .secret .ensures .0 .long ∙ w .long in
+    let n = z .1 ∙ c .before .before .before .before .before .before .before .before .before .noise-seeds .ensures .0 .long ∙ w .long in
     let r2 = R .2 in
     (h .shares-pos, omega (arith, h .shares-low), omega (arith, h .columns-low), omega arith, omega (arith, r2, n), z .2, same-le (a .pre .3))
 
@@ -123,7 +123,7 @@ returns-2 c =
     let h = a .pre .0 in
     let w = cleared (b .work .now) _ (c .before .before .before .before .before .before .before .before .before .before .before .before .before .before .before .before .before .clear .ensures) in
     let R = room p h (length (b .work .now)) (a .pre .1) in
-    let s = c .before .before .before .before .before .before .before .before .before .before .before .before .secret .ensures in
+    let s = c .before .before .before .before .before .before .before .before .before .before .before .before .noise-seeds .ensures in
     let z = c .before .before .before .before .before .before .before .public-vector .ensures in
     let t = c .before .before .compress-vector .ensures in
     let e : c .before .before .before .before .before .before .before .public-vector .result ≡ true = not-false _ (c .before .before .before .before .if1 .left) in
@@ -136,6 +136,6 @@ pub make-parts-spec : {M : Type 1} → statement M
 make-parts-spec =
     tie.close (tie.spec (λ c. search needs) (λ c. search needs) (λ c. search needs) (λ c. search needs)
     (λ c. search needs) (λ c. search needs) (λ c. search needs) (λ c. search needs) (λ c. search needs) mul-b mul-b-2
-    mul-b-3 (λ c κs. search needs) (λ c κs. search needs) secret-requires sub-public-vector part-public-vector-start
+    mul-b-3 (λ c κs. search needs) (λ c κs. search needs) noise-seeds-requires sub-public-vector part-public-vector-start
     (λ c. search needs) public-vector-requires (λ c. search needs) returns mul-compress-vector add-compress-vector
     compress-vector-requires (λ c. search needs) returns-2)

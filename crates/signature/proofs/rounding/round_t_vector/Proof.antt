@@ -5,6 +5,7 @@ use Rattle.sharing.specs.Blocks.{block, build}
 use Rattle.sharing.specs.Region.{sub, Wrote}
 use Rattle.sharing.proofs.Regions.{wrote-value, wrote-start}
 use Rattle.signature.proofs.Rounded.{round-end, below-up}
+use Rattle.ring.specs.Words.{q}
 use Rattle.ring.specs.Round.{roundT}
 use Rattle.sharing.proofs.Turns.{map-turn}
 use borrow.Author.Needs.{needs}
@@ -36,7 +37,7 @@ round-t-requires c κs =
 store-at-requires : tie.Need-store-at-requires Inv-loop μ-loop
 store-at-requires c κs =
     let n = c .before .before .before .before .before .before .loop .inv .1 .long in
-    (omega arith, c .before .before .before .before .before .before .loop .inv .1 .low, below-up 125 (c .before .before .round-t .result) (omega arith) (c .before .before .round-t .ensures .1 .low))
+    (omega arith, c .before .before .before .before .before .before .loop .inv .1 .low, below-up 125 q (c .before .before .round-t .result) (omega arith) (c .before .before .round-t .ensures .1 .low))
 
 loop-again : tie.Need-loop-again Inv-loop μ-loop
 loop-again c =
@@ -47,7 +48,7 @@ loop-again c =
 returns : tie.Need-returns Inv-loop μ-loop
 returns c =
     let a = c .before .before .before in
-    round-end (a .args .k) (a .args .at) (c .before .loop .i) (a .args .s .now) _ (a .pre .0) (omega arith) (c .before .loop .inv .1)
+    round-end 42 125 (a .args .k) (a .args .at) (c .before .loop .i) (a .args .s .now) _ (a .pre .0) (omega arith) (c .before .loop .inv .1)
 
 pub round-t-vector-spec : {M : Type 1} → statement M
 round-t-vector-spec =

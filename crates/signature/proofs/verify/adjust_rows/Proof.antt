@@ -48,7 +48,7 @@ add-e c = search needs
 load-requires : tie.Need-load-requires Inv-loop μ-loop
 load-requires c κs = let a = c .before .before .before .before .before .before .before in
     let t = a .pre .1 .0 in
-    (omega (arith, inside (c .before .before .loop .i) (a .args .k) 512 (c .before .loop-test .taken), t .0), below-up 125 (a .args .t .now) (omega arith) (t .1))
+    (omega (arith, inside (c .before .before .loop .i) (a .args .k) 512 (c .before .loop-test .taken), t .0), below-up 125 q (a .args .t .now) (omega arith) (t .1))
 
 recover-row-requires : tie.Need-recover-row-requires Inv-loop μ-loop
 recover-row-requires c κs = let a = c .before .before .before .before .before .before .before .before in

@@ -1,11 +1,11 @@
 use mathlib.Core.Path.{_∙_}
 use Prim.Native.Nat.{_*_}
 use native.Mathlib.Omega.{arith}
-use Rattle.signature.proofs.KeySteps.{secret-made, skip-two}
+use Rattle.signature.proofs.Masking.{noise-made, skip-two}
 use Rattle.sharing.specs.Noise.{seedNoise}
 use borrow.Author.Needs.{needs}
-use Rattle.signature.proofs.keygen.secret.Statement.{statement}
-use Rattle.signature.proofs.keygen.secret.Tie as tie
+use Rattle.signature.proofs.noise.noise_seeds.Statement.{statement}
+use Rattle.signature.proofs.noise.noise_seeds.Tie as tie
 
 zero-vector-requires : tie.Need-zero-vector-requires
 zero-vector-requires c κs =
@@ -38,9 +38,9 @@ returns c =
     let b = c .before .before .before .before .before .before .before .before .before .before .before .before .before .before .args in
     let x = c .before .before .before .before .before .before .before .before .before .before .zero-vector .ensures in
     let y = c .before .before .before .before .before .before .noise-vector .ensures in
-    (secret-made (b .l) (b .d) (b .rep) (b .at) (seedNoise (b .d) (b .rep) (b .u) (b .n) (b .seeds .now)) (b .g) _ (b .s .now) _ _ _ (x .1) (x .0) (y .0) (c .before .before .ntt-vector .ensures), skip-two (b .d) (b .l) (b .l * b .rep) (b .g) _ _ (x .1) (y .1))
+    (noise-made (b .l) (b .d) (b .rep) (b .at) (seedNoise (b .d) (b .rep) (b .u) (b .n) (b .seeds .now)) (b .g) _ (b .s .now) _ _ _ (x .1) (x .0) (y .0) (c .before .before .ntt-vector .ensures), skip-two (b .d) (b .l) (b .l * b .rep) (b .g) _ _ (x .1) (y .1))
 
-pub secret-spec : {M : Type 1} → statement M
-secret-spec =
+pub noise-seeds-spec : {M : Type 1} → statement M
+noise-seeds-spec =
     tie.close (tie.spec zero-vector-requires noise-vector-requires mul-ntt-vector ntt-vector-requires
     (λ c. search needs) returns)

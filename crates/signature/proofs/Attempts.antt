@@ -1,0 +1,225 @@
+-- Attempts of signing (000, Algorithm 2): lines 4 to 16 on the work buffer are the definition's, an attempt by its ends, and the attempts in
+-- order. n is how many attempts are left, a how many are behind, s the key's shares.
+use mathlib.Core.Path.{_≡_, refl, sym, ap, _∙_}
+use mathlib.Core.Bool.{true, false}
+use mathlib.Core.List.{List, [], _++_}
+use mathlib.Core.Option.{Option, some, none}
+use Prim.Native.Nat.{ℕ, suc, _+_, _*_, _/_, _^_}
+use native.Mathlib.Numerals.{add-one}
+use native.Mathlib.Omega.{arith}
+use lib.IntN.{ℤ}
+use Rattle.hash.specs.Params.{orderIndex}
+use Rattle.hash.specs.Shake.{shake256}
+use Rattle.hash.specs.declared.params.Params.{Params}
+use Rattle.ring.specs.Words.{q}
+use Rattle.ring.specs.Round.{roundW, residues}
+use Rattle.sharing.specs.Blocks.{totals}
+use Rattle.sharing.specs.Region.{sub, Wrote}
+use Rattle.sharing.specs.Encoding.{skip, refreshed}
+use Rattle.sharing.specs.Masks.{masks}
+use Rattle.sharing.specs.declared.masks.MaskGen.{MaskGen}
+use Rattle.sharing.proofs.Totals.{skip-add}
+use Rattle.signature.specs.Attempt.{atR, Committed, Responded, Answered, commitmentOf, hashOf}
+use Rattle.signature.specs.Bounds.{checkBounds}
+use Rattle.signature.specs.Challenge.{headed, ordered, challenge, chalHash, chalPoly, chalHeld}
+use Rattle.signature.specs.Form.{Fields, write}
+use Rattle.signature.specs.Keygen.{atS, atT, atX}
+use Rattle.signature.specs.Masked.{Noise, maskedNoise, behindProduct}
+use Rattle.signature.specs.Sign.{Public, Attempted, made, over, stuck, answer, Tapes, signedFields, finished, challenged, concluded, maskedResponse, refreshedKey, refreshedNoise, refreshedResponse, attempted, noiseAt, maskAt, signFrom}
+use Rattle.signature.specs.declared.challenge.Challenged.{Challenged}
+use Rattle.signature.proofs.Entries.{absurd-bool}
+use Rattle.signature.proofs.Masking.{masked-words}
+
+-- ---- lines 4 to 16 on the work buffer: s₁ behind the commitment, s₂ before the response, where s and r are as they were, s₃ behind it
+
+module _ (p : Params) (N : Noise) (g x : MaskGen) (A c s₀ s₁ s₂ s₃ : List ℕ) (power : p .shares ≡ 2 ^ orderIndex (p .shares))
+    (u : Committed p N g A x s₀ s₁)
+    (hs : sub s₂ (atS (p .shares)) (p .l * (p .shares * 512)) ≡ sub s₁ (atS (p .shares)) (p .l * (p .shares * 512)))
+    (hr : sub s₂ (atR (p .l) (p .shares)) (p .l * (p .shares * 512)) ≡ sub s₁ (atR (p .l) (p .shares)) (p .l * (p .shares * 512)))
+    (v : Responded (p .k) (p .l) (p .shares) c x s₂ s₃) where
+  skip-behind : (n : ℕ) → skip masks (p .shares) n x ≡ skip masks (p .shares) (behindProduct p N + n) g
+  skip-behind n = ap (skip masks (p .shares) n) (u .next) ∙ skip-add masks (p .shares) (behindProduct p N) n g
+
+  -- line 12, the key of the next attempt
+  pub key-left : sub s₃ (atS (p .shares)) (p .l * (p .shares * 512)) ≡ refreshedKey p N g (sub s₀ (atS (p .shares)) (p .l * (p .shares * 512)))
+  unfolding refreshedKey
+  key-left =
+      v .key ∙ ap (refreshed masks (p .shares) x (p .l)) (hs ∙ u .key)
+      ∙ ap (λ (h : MaskGen). refreshed masks (p .shares) h (p .l) (sub s₀ (atS (p .shares)) (p .l * (p .shares * 512)))) (u .next)
+
+  -- line 15
+  pub shares-left : sub s₃ (atR (p .l) (p .shares)) (p .l * (p .shares * 512))
+      ≡ refreshedResponse p N g (sub s₀ (atS (p .shares)) (p .l * (p .shares * 512))) c
+  unfolding refreshedKey refreshedNoise refreshedResponse
+  shares-left =
+      let S = sub s₀ (atS (p .shares)) (p .l * (p .shares * 512)) in
+      let R = maskedNoise p N g in
+      let Z : MaskGen → MaskGen → MaskGen → List ℕ → List ℕ = λ (a b h : MaskGen) (X : List ℕ).
+      refreshed masks (p .shares) a (p .l) (maskedResponse (p .shares) (p .l) c (refreshed masks (p .shares) b (p .l) X) (refreshed masks (p .shares) h (p .l) R)) in
+      let y = skip masks (p .shares) (p .l) x in
+      let z = skip masks (p .shares) (p .l + p .l) x in
+      let n : behindProduct p N + (p .l + p .l) ≡ behindProduct p N + p .l + p .l = omega arith in
+      v .shares R (masked-words p N g power) (hr ∙ u .noise)
+      ∙ ap (Z z x y) (hs ∙ u .key)
+      ∙ ap (λ (h : MaskGen). Z z h y S) (u .next)
+      ∙ ap (λ (h : MaskGen). Z z (skip masks (p .shares) (behindProduct p N) g) h S) (skip-behind (p .l))
+      ∙ ap (λ (h : MaskGen). Z h (skip masks (p .shares) (behindProduct p N) g) (skip masks (p .shares) (behindProduct p N + p .l) g) S)
+      (skip-behind (p .l + p .l) ∙ ap (λ (m : ℕ). skip masks (p .shares) m g) n)
+
+  -- line 16
+  pub response-left : sub s₃ (atX (p .k) (p .l) (p .shares)) (p .l * 512)
+      ≡ totals (p .l) (p .shares) (refreshedResponse p N g (sub s₀ (atS (p .shares)) (p .l * (p .shares * 512))) c)
+  response-left = v .response ∙ ap (totals (p .l) (p .shares)) shares-left
+
+-- ---- lines 9 to 16 behind the commitment: s₁ before them, s₂ behind the challenge, s₃ behind the response
+
+filled-yes : (o : Option (List ℤ)) (c : List ℤ) → o ≡ some c → (chalHeld o .ok ≡ true) × (chalHeld o .poly ≡ c)
+unfolding chalHeld
+filled-yes o c e = (ap (λ (x : Option (List ℤ)). chalHeld x .ok) e, ap (λ (x : Option (List ℤ)). chalHeld x .poly) e)
+
+module _ (p : Params) (N : Noise) (h g : MaskGen) (A mu s s₁ s₂ hash : List ℕ) (o : Challenged) (u : Committed p N h A g s s₁)
+    (w : Wrote 0 (atT (p .l) (p .shares)) (p .k * 512) (roundW (sub s₁ (atT (p .l) (p .shares)) (p .k * 512))) s₁ s₂)
+    (eh : hash ≡ shake256 (headed 104 (p .k) ++ ordered (p .edition) (roundW (sub s₁ (atT (p .l) (p .shares)) (p .k * 512))) mu) (p .kappa / 4))
+    (eo : o ≡ chalHeld (challenge (p .edition) (p .omega) (shake256 (headed 99 (p .omega) ++ hash) 2176))) where
+  hash-there : hash ≡ hashOf p N h A mu
+  unfolding chalHash
+  hash-there = eh ∙ ap (λ (W : List ℕ). shake256 (headed 104 (p .k) ++ ordered (p .edition) (roundW W) mu) (p .kappa / 4)) (u .image)
+
+  challenge-there : o ≡ chalHeld (chalPoly p (hashOf p N h A mu))
+  unfolding chalPoly
+  challenge-there = eo ∙ ap (λ (x : List ℕ). chalHeld (challenge (p .edition) (p .omega) (shake256 (headed 99 (p .omega) ++ x) 2176))) hash-there
+
+  commitment-there : sub s₂ (atT (p .l) (p .shares)) (p .k * 512) ≡ roundW (commitmentOf p N h A)
+  commitment-there = w .new ∙ ap roundW (u .image)
+
+  pub answer-none : o .ok ≡ false → Answered p N h A mu (sub s (atS (p .shares)) (p .l * (p .shares * 512))) o hash s₂
+  answer-none e =
+      let no : (c : List ℤ) → chalPoly p (hashOf p N h A mu) ≡ some c → true ≡ false =
+      λ (c : List ℤ) (f : chalPoly p (hashOf p N h A mu) ≡ some c).
+      sym (filled-yes (chalPoly p (hashOf p N h A mu)) c f .0) ∙ sym (ap (λ (x : Challenged). x .ok) challenge-there) ∙ e in
+      record {
+        hash-is = hash-there;
+        challenge-is = challenge-there;
+        commitment = commitment-there;
+        key = λ (c : List ℤ) f. absurd-bool (no c f);
+        shares = λ (c : List ℤ) f. absurd-bool (no c f);
+        response = λ (c : List ℤ) f. absurd-bool (no c f);
+      }
+
+  pub answer-made : (power : p .shares ≡ 2 ^ orderIndex (p .shares)) (r s₃ : List ℕ) → r ≡ residues q (o .poly)
+      → Responded (p .k) (p .l) (p .shares) r g s₂ s₃
+      → Answered p N h A mu (sub s (atS (p .shares)) (p .l * (p .shares * 512))) o hash s₃
+  answer-made power r s₃ er v =
+      let L = p .l * (p .shares * 512) in
+      let poly : (c : List ℤ) → chalPoly p (hashOf p N h A mu) ≡ some c → r ≡ residues q c =
+      λ (c : List ℤ) (f : chalPoly p (hashOf p N h A mu) ≡ some c).
+      er ∙ ap (residues q) (ap (λ (x : Challenged). x .poly) challenge-there ∙ filled-yes (chalPoly p (hashOf p N h A mu)) c f .1) in
+      let hs = w .front (atS (p .shares)) L (omega arith) (omega arith) in
+      let hr = w .front (atR (p .l) (p .shares)) L (omega arith) (omega arith) in
+      record {
+        hash-is = hash-there;
+        challenge-is = challenge-there;
+        commitment = v .commitment ∙ commitment-there;
+        key = λ (c : List ℤ) f. key-left p N h g A r s s₁ s₂ s₃ power u hs hr v;
+        shares = λ (c : List ℤ) f.
+            shares-left p N h g A r s s₁ s₂ s₃ power u hs hr v
+            ∙ ap (refreshedResponse p N h (sub s (atS (p .shares)) (p .l * (p .shares * 512)))) (poly c f);
+        response = λ (c : List ℤ) f.
+            response-left p N h g A r s s₁ s₂ s₃ power u hs hr v
+            ∙ ap (λ (x : List ℕ). totals (p .l) (p .shares) (refreshedResponse p N h (sub s (atS (p .shares)) (p .l * (p .shares * 512))) x)) (poly c f);
+      }
+
+-- ---- the ends of one attempt
+
+-- line 19, with the challenge polynomial c
+abbrev pub fieldsFor : Params → Public → Noise → MaskGen → List ℕ → List ℤ → Fields
+fieldsFor p P N g s c =
+    signedFields p P (roundW (commitmentOf p N g (P .matrix))) (hashOf p N g (P .matrix) (P .mu)) (totals (p .l) (p .shares) (refreshedResponse p N g s (residues q c))) c
+
+module _ (p : Params) (P : Public) (N : Noise) (g : MaskGen) (s : List ℕ) where
+  abbrev at-challenge : Option (List ℤ) → Attempted
+  at-challenge o =
+      challenged p P (roundW (commitmentOf p N g (P .matrix))) (hashOf p N g (P .matrix) (P .mu)) (λ (c : List ℕ). totals (p .l) (p .shares) (refreshedResponse p N g s c)) o
+
+  -- check 11
+  pub attempt-stuck : chalPoly p (hashOf p N g (P .matrix) (P .mu)) ≡ none → attempted p P N g s ≡ stuck
+  unfolding attempted concluded
+  attempt-stuck e = ap at-challenge e
+
+  pub attempt-on : (c : List ℤ) → chalPoly p (hashOf p N g (P .matrix) (P .mu)) ≡ some c → attempted p P N g s ≡ finished p (fieldsFor p P N g s c)
+  unfolding attempted concluded
+  attempt-on c e = ap at-challenge e
+
+module _ (p : Params) (f : Fields) where
+  -- over the bounds, too long, or a signature
+  pub over-bounds : checkBounds p f ≡ false → finished p f ≡ over
+  unfolding finished
+  over-bounds e = simp e
+
+  pub over-length : checkBounds p f ≡ true → write p f ≡ none → finished p f ≡ over
+  unfolding finished
+  over-length e h = simp (e, h)
+
+  pub signature-made : (b : List ℕ) → checkBounds p f ≡ true → write p f ≡ some b → finished p f ≡ made b
+  unfolding finished
+  signature-made b e h = simp (e, h)
+
+-- .. by what lines 4 to 16 left: o is the challenge, ys the work buffer
+chal-none : (o : Option (List ℤ)) → chalHeld o .ok ≡ false → o ≡ none
+unfolding chalHeld
+chal-none none e = refl
+chal-none (some c) e = absurd-bool e
+
+chal-some : (o : Option (List ℤ)) → chalHeld o .ok ≡ true → o ≡ some (chalHeld o .poly)
+unfolding chalHeld
+chal-some none e = absurd-bool (sym e)
+chal-some (some c) e = refl
+
+module _ (p : Params) (P : Public) (N : Noise) (g : MaskGen) (s hash ys : List ℕ) (o : Challenged)
+    (u : Answered p N g (P .matrix) (P .mu) s o hash ys) where
+  pub left-stuck : o .ok ≡ false → attempted p P N g s ≡ stuck
+  left-stuck e =
+      attempt-stuck p P N g s (chal-none (chalPoly p (hashOf p N g (P .matrix) (P .mu))) (sym (ap (λ (x : Challenged). x .ok) (u .challenge-is)) ∙ e))
+
+  module _ (e : o .ok ≡ true) where
+    chal-is : chalPoly p (hashOf p N g (P .matrix) (P .mu)) ≡ some (o .poly)
+    chal-is =
+        chal-some (chalPoly p (hashOf p N g (P .matrix) (P .mu))) (sym (ap (λ (x : Challenged). x .ok) (u .challenge-is)) ∙ e)
+        ∙ ap (λ (x : Challenged). some (x .poly)) (sym (u .challenge-is))
+
+    -- what is left to do is lines 17 to 20
+    pub left-on : attempted p P N g s
+        ≡ finished p (signedFields p P (sub ys (atT (p .l) (p .shares)) (p .k * 512)) hash (sub ys (atX (p .k) (p .l) (p .shares)) (p .l * 512)) (o .poly))
+    left-on =
+        attempt-on p P N g s (o .poly) chal-is
+        ∙ ap (λ (W : List ℕ). finished p (signedFields p P W (hashOf p N g (P .matrix) (P .mu)) (totals (p .l) (p .shares) (refreshedResponse p N g s (residues q (o .poly)))) (o .poly)))
+        (sym (u .commitment))
+        ∙ ap (λ (H : List ℕ). finished p (signedFields p P (sub ys (atT (p .l) (p .shares)) (p .k * 512)) H (totals (p .l) (p .shares) (refreshedResponse p N g s (residues q (o .poly)))) (o .poly)))
+        (sym (u .hash-is))
+        ∙ ap (λ (Z : List ℕ). finished p (signedFields p P (sub ys (atT (p .l) (p .shares)) (p .k * 512)) hash Z (o .poly)))
+        (sym (u .response (o .poly) chal-is))
+
+    pub left-key : sub ys (atS (p .shares)) (p .l * (p .shares * 512)) ≡ refreshedKey p N g s
+    left-key = u .key (o .poly) chal-is
+
+-- ---- the attempts in order
+
+module _ (p : Params) (P : Public) (T : Tapes) (n m a : ℕ) (s : List ℕ) (left : n ≡ suc m) where
+  -- attempt number a + 1 made a signature; met a challenge that does not fill; was over, and t is the key that it left
+  pub sign-pass : (b : List ℕ) → attempted p P (noiseAt p T a) (maskAt T a) s ≡ made b → signFrom p P T n a s ≡ answer 0 (a + 1) b
+  unfolding signFrom
+  sign-pass b e = rw (left, signFrom, e, add-one)
+
+  pub sign-stuck : attempted p P (noiseAt p T a) (maskAt T a) s ≡ stuck → signFrom p P T n a s ≡ answer 11 (a + 1) []
+  unfolding signFrom
+  sign-stuck e = rw (left, signFrom, e, add-one)
+
+  pub sign-next : (t : List ℕ) → t ≡ refreshedKey p (noiseAt p T a) (maskAt T a) s → attempted p P (noiseAt p T a) (maskAt T a) s ≡ over
+      → signFrom p P T n a s ≡ signFrom p P T m (a + 1) t
+  unfolding signFrom
+  sign-next t h e = rw (left, signFrom, e, add-one, h)
+
+-- no attempt is left
+pub sign-none : (p : Params) (P : Public) (T : Tapes) (n a : ℕ) (s : List ℕ) → n ≡ 0 → signFrom p P T n a s ≡ answer 12 a []
+unfolding signFrom
+sign-none p P T n a s e = rw (e, signFrom)

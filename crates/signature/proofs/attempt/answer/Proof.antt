@@ -1,0 +1,54 @@
+use mathlib.Core.Path.{ap, _∙_}
+use mathlib.Core.List.{_++_}
+use Prim.Native.Nat.{ℕ, _*_}
+use native.Mathlib.Omega.{arith}
+use lib.ListN.{length}
+use borrow.Author.Tests.{not-true}
+use Rattle.hash.specs.Shake.{shake256}
+use Rattle.ring.specs.Round.{roundW}
+use Rattle.sharing.specs.Region.{sub}
+use Rattle.signature.specs.Challenge.{headed, ordered}
+use Rattle.signature.specs.Keygen.{atT}
+use Rattle.signature.proofs.Attempts.{answer-none, answer-made}
+use Rattle.signature.proofs.Sizes.{room}
+use borrow.Author.Needs.{needs}
+use Rattle.signature.proofs.attempt.answer.Statement.{statement}
+use Rattle.signature.proofs.attempt.answer.Tie as tie
+
+returns : tie.Need-returns
+returns c =
+    let a = c .before .before .before .before .before .before .before .before .before .before .before .before in
+    let b = a .args in
+    let p = b .p in
+    let z = c .before .before .before .before .before .before .challenge-at .ensures in
+    let W = sub (b .work .now) (atT (p .l) (p .shares)) (p .k * 512) in
+    let e = z .1 ∙ ap (λ (n : ℕ). shake256 (headed 104 (p .k) ++ ordered (p .edition) (roundW W) (b .mu .now)) n) (a .pre .3) in
+    ((z .0 .long, z .0 .low), λ N h A s u. answer-none p N h (b .g) A (b .mu .now) s (b .work .now) _ _ _ u (z .0) e (z .2) (not-true _ (c .if1 .taken)))
+
+respond-requires : tie.Need-respond-requires
+respond-requires c κs =
+    let a = c .before .before .before .before .before .before .before .before .before .before .before .before .before .before .before in
+    let b = a .args in
+    let h = a .pre .0 in
+    let r = room (b .p) h (length (b .work .now)) (a .pre .1) .2 in
+    let u = c .before .before .before .before .before .before .before .before .before .challenge-at .ensures .0 in
+    let n = u .long in
+    (h .power, (omega (arith, r, n), u .low, c .before .from-signed .ensures .1))
+
+returns-2 : tie.Need-returns-2
+returns-2 c =
+    let a = c .before .before .before .before .before .before .before .before .before .before .before .before .before .before .before .before .before .before in
+    let b = a .args in
+    let p = b .p in
+    let z = c .before .before .before .before .before .before .before .before .before .before .before .before .challenge-at .ensures in
+    let W = sub (b .work .now) (atT (p .l) (p .shares)) (p .k * 512) in
+    let e = z .1 ∙ ap (λ (n : ℕ). shake256 (headed 104 (p .k) ++ ordered (p .edition) (roundW W) (b .mu .now)) n) (a .pre .3) in
+    let v = c .before .before .respond .ensures in
+    ((v .long ∙ z .0 .long, v .low), λ N h A s u. answer-made p N h (b .g) A (b .mu .now) s (b .work .now) _ _ _ u (z .0) e (z .2) (a .pre .0 .power) _ _ (c .before .before .before .before .from-signed .ensures .0) v)
+
+pub answer-spec : {M : Type 1} → statement M
+answer-spec =
+    tie.close (tie.spec (λ c. search needs) (λ c. search needs) (λ c. search needs) (λ c. search needs)
+    (λ c. search needs) (λ c. search needs) (λ c. search needs) (λ c. search needs) (λ c. search needs)
+    (λ c κs. search needs) (λ c. search needs) (λ c. search needs) returns (λ c κs. search needs) respond-requires
+    (λ c. search needs) (λ c. search needs) returns-2)

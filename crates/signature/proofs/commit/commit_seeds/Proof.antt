@@ -1,0 +1,79 @@
+use mathlib.Core.Path.{ap, _∙_}
+use Prim.Native.Nat.{_*_, _/_}
+use native.Mathlib.Omega.{arith}
+use lib.ListN.{length}
+use Rattle.sharing.specs.Noise.{seedNoise}
+use Rattle.signature.specs.Masked.{seeded, maskedNoise}
+use Rattle.signature.proofs.Commits.{commit-made}
+use Rattle.signature.proofs.Sizes.{fits-low, part-all, first-low, room, tape-first, tape-second}
+use borrow.Author.Needs.{needs}
+use Rattle.signature.proofs.commit.commit_seeds.Statement.{statement}
+use Rattle.signature.proofs.commit.commit_seeds.Tie as tie
+
+mul-b : tie.Need-mul-b
+mul-b c =
+    let a = c .before .before .before .before in
+    let m = first-low (a .args .p) (a .pre .0) .0 in
+    fits-low _ (omega (arith, m))
+
+mul-b-2 : tie.Need-mul-b-2
+mul-b-2 c =
+    let a = c .before .before .before .before in
+    let m = first-low (a .args .p) (a .pre .0) .1 in
+    fits-low _ (omega (arith, m))
+
+mul-b-3 : tie.Need-mul-b-3
+mul-b-3 c =
+    let a = c .before .before .before .before in
+    let p = a .args .p in
+    let m = first-low p (a .pre .0) .2 in
+    fits-low (p .l * p .rep * p .shares * (p .kappa / 8)) (omega (arith, m))
+
+noise-seeds-requires : tie.Need-noise-seeds-requires
+noise-seeds-requires c κs =
+    let a = c .before .before .before .before .before in
+    let b = a .args in
+    let p = b .p in
+    let h = a .pre .0 in
+    let r = room p h (length (b .work .now)) (a .pre .1) .1 in
+    (h .power, ((omega arith, omega (arith, r), a .pre .2, tape-first p h (length (b .tape .now)) (a .pre .3)), (omega (arith, h .rep-low), omega (arith, h .columns-low), omega (arith, h .shares-low), h .uw-pos, omega (arith, h .uw-low))))
+
+sub-image-seeds : tie.Need-sub-image-seeds
+sub-image-seeds c =
+    let a = c .before .before .before .before .before .before .before .before .before in
+    tape-first (a .args .p) (a .pre .0) (length (a .args .tape .now)) (a .pre .3)
+
+part-image-seeds-start : tie.Need-part-image-seeds-start
+part-image-seeds-start c =
+    let a = c .before .before .before .before .before .before .before .before .before in
+    tape-first (a .args .p) (a .pre .0) (length (a .args .tape .now)) (a .pre .3)
+
+image-seeds-requires : tie.Need-image-seeds-requires
+image-seeds-requires c κs =
+    let a = c .before .before .before .before .before .before .before .before .before .before in
+    let b = a .args in
+    let p = b .p in
+    let h = a .pre .0 in
+    let r = room p h (length (b .work .now)) (a .pre .1) .1 in
+    let u = c .before .before .before .before .noise-seeds .ensures .0 in
+    let n = u .long in
+    (h .power, ((omega arith, omega arith, omega arith, omega (arith, r, n), u .low, omega (arith, h .rows-low), omega (arith, h .columns-low)), (tape-second p h (b .tape .now) (a .pre .3), omega (arith, h .rep-low), omega (arith, h .shares-low), h .uw-pos, omega (arith, h .uw-low))))
+
+returns : tie.Need-returns
+unfolding maskedNoise seeded
+returns c =
+    let a = c .before .before .before .before .before .before .before .before .before .before .before .before .before in
+    let b = a .args in
+    let p = b .p in
+    let u = c .before .before .before .before .before .before .before .noise-seeds .ensures in
+    let z = c .before .before .image-seeds .ensures in
+    let N = seeded p (p .uw) (b .tape .now) in
+    let f = ap (seedNoise (p .shares) (p .rep) (p .uw) (p .kappa / 8)) (part-all (p .l * p .rep * p .shares * (p .kappa / 8)) (b .tape .now)) in
+    ((z .0 .0, z .0 .1 ∙ u .0 .long, z .0 .2), λ A m. commit-made p N (b .g) _ (a .pre .0 .power) (u .1) _ f (b .seed .now) A (b .work .now) _ _ _ m (u .0) (z .1 A m .0) (z .1 A m .1))
+
+pub commit-seeds-spec : {M : Type 1} → statement M
+commit-seeds-spec =
+    tie.close (tie.spec (λ c. search needs) (λ c. search needs) (λ c. search needs) (λ c. search needs)
+    (λ c. search needs) (λ c. search needs) (λ c. search needs) (λ c. search needs) (λ c. search needs) mul-b mul-b-2
+    mul-b-3 noise-seeds-requires (λ c. search needs) sub-image-seeds part-image-seeds-start (λ c. search needs)
+    image-seeds-requires (λ c. search needs) returns)

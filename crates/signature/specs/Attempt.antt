@@ -1,0 +1,101 @@
+-- The steps of one attempt of signing (000, Algorithm 2) on the work buffer. It is laid out as in key generation: r, and then the shares of
+-- z, lie where Keygen.antt leaves room for r; w lies in the place of t, z in that of x.
+use mathlib.Core.Path.{_≡_}
+use mathlib.Core.Bool.{Bool, true, false}
+use mathlib.Core.List.{List}
+use mathlib.Core.Option.{some}
+use Prim.Native.Nat.{ℕ, _+_, _*_, _≤_}
+use lib.IntN.{ℤ}
+use lib.ListN.{length}
+use Rattle.hash.specs.Lists.{pick}
+use Rattle.hash.specs.declared.params.Params.{Params}
+use Rattle.ring.specs.Words.{q, addW, Below, Words}
+use Rattle.ring.specs.Transform.{intt, pointwise}
+use Rattle.ring.specs.Round.{roundW, residues}
+use Rattle.sharing.specs.Blocks.{block, build, totals}
+use Rattle.sharing.specs.Region.{sub}
+use Rattle.sharing.specs.Encoding.{skip, refreshed}
+use Rattle.sharing.specs.Masks.{masks}
+use Rattle.sharing.specs.declared.masks.MaskGen.{MaskGen}
+use Rattle.signature.specs.Challenge.{chalHash, chalPoly, chalHeld}
+use Rattle.signature.specs.Keygen.{atS, atT, atX}
+use Rattle.signature.specs.Masked.{Noise, maskedNoise, maskedImage, behindProduct, transformed, untransformed}
+use Rattle.signature.specs.declared.challenge.Challenged.{Challenged}
+use Rattle.signature.specs.Sign.{Tapes, noiseSize, maskedResponse, refreshedKey, refreshedResponse}
+use Rattle.signature.specs.SignCalls.{Key, packed, expanded}
+
+-- the key that a call is lent: a signing key's bytes, or the public key's bytes and the words of all shares
+abbrev pub keyFrom : Bool → List ℕ → List ℕ → Key
+keyFrom true bytes words = packed bytes
+keyFrom false bytes words = expanded bytes words
+
+-- what all attempts draw on: of the two forms of noise that which is used, and the mask seeds
+abbrev pub tapesOf : Bool → List ℕ → List ℕ → List ℕ → Tapes
+tapesOf explicit seeds words masks = record { explicit = explicit; noise = pick explicit words seeds; masks = masks }
+
+-- they hold attempt number a + 1, and explicit noise is words below q
+pub record Within (p : Params) (T : Tapes) (a : ℕ) : Type 0 where
+  pub noise-long : a * noiseSize p (T .explicit) + noiseSize p (T .explicit) ≤ length (T .noise)
+  pub noise-low : T .explicit ≡ true → Below q (T .noise)
+  pub few : a ≤ 16
+  pub masks-long : a * 32 + 32 ≤ length (T .masks)
+
+abbrev pub atR : ℕ → ℕ → ℕ
+atR l d = atS d + l * (d * 512)
+
+-- lines 4 to 8 with the noise N, zero encodings from g on: r in the transform domain, the sum w, and s as it was; h is the generator behind
+pub record Committed (p : Params) (N : Noise) (g : MaskGen) (A : List ℕ) (h : MaskGen) (xs ys : List ℕ) : Type 0 where
+  pub noise : sub ys (atR (p .l) (p .shares)) (p .l * (p .shares * 512)) ≡ transformed (p .l * p .shares) (maskedNoise p N g)
+  pub image : sub ys (atT (p .l) (p .shares)) (p .k * 512) ≡ totals (p .k) (p .shares) (maskedImage p N g A)
+  pub key : sub ys (atS (p .shares)) (p .l * (p .shares * 512)) ≡ sub xs (atS (p .shares)) (p .l * (p .shares * 512))
+  pub next : h ≡ skip masks (p .shares) (behindProduct p N) g
+
+-- ---- line 14 by the transform: c is the transform of the challenge, X the shares of s in the transform domain, Y those of r
+
+-- share j of one polynomial; the shares of polynomial i
+abbrev pub answered : List ℕ → List ℕ → List ℕ → ℕ → List ℕ
+answered c X Y j = addW (intt (pointwise c (block 512 j X))) (block 512 j Y)
+
+abbrev pub answeredAt : ℕ → List ℕ → List ℕ → List ℕ → ℕ → List ℕ
+answeredAt d c X Y i = build d (answered c (block (d * 512) i X) (block (d * 512) i Y))
+
+-- ---- lines 12 to 16
+
+-- lines 12 and 13, s at a and r at b: s refreshed, r turned back and refreshed; what is behind them as it was
+pub record Renewed (l d a b : ℕ) (g : MaskGen) (xs ys : List ℕ) : Type 0 where
+  pub key : sub ys a (l * (d * 512)) ≡ refreshed masks d g l (sub xs a (l * (d * 512)))
+  pub noise : sub ys b (l * (d * 512)) ≡ refreshed masks d (skip masks d l g) l (untransformed (l * d) (sub xs b (l * (d * 512))))
+  pub behind : (e n : ℕ) → b + l * (d * 512) ≤ e → sub ys e n ≡ sub xs e n
+  pub long : length ys ≡ length xs
+  pub low : Below q ys
+
+-- all of them, of the challenge polynomial c: s refreshed, the shares of z in the place of r, their sum z, and w as it was; g is the generator behind line 7
+pub record Responded (k l d : ℕ) (c : List ℕ) (g : MaskGen) (xs ys : List ℕ) : Type 0 where
+  pub key : sub ys (atS d) (l * (d * 512)) ≡ refreshed masks d g l (sub xs (atS d) (l * (d * 512)))
+  pub shares : (r : List ℕ) → Words (l * (d * 512)) r → sub xs (atR l d) (l * (d * 512)) ≡ transformed (l * d) r
+      → sub ys (atR l d) (l * (d * 512)) ≡ refreshed masks d (skip masks d (l + l) g) l
+      (maskedResponse d l c (refreshed masks d g l (sub xs (atS d) (l * (d * 512)))) (refreshed masks d (skip masks d l g) l r))
+  pub response : sub ys (atX k l d) (l * 512) ≡ totals l d (sub ys (atR l d) (l * (d * 512)))
+  pub commitment : sub ys (atT l d) (k * 512) ≡ sub xs (atT l d) (k * 512)
+  pub long : length ys ≡ length xs
+  pub low : Below q ys
+
+-- ---- lines 8 to 16
+
+-- line 8, the sum of the shares of w; line 10, the challenge hash
+abbrev pub commitmentOf : Params → Noise → MaskGen → List ℕ → List ℕ
+commitmentOf p N g A = totals (p .k) (p .shares) (maskedImage p N g A)
+
+abbrev pub hashOf : Params → Noise → MaskGen → List ℕ → List ℕ → List ℕ
+hashOf p N g A mu = chalHash p (roundW (commitmentOf p N g A)) mu
+
+-- what is left of lines 4 to 16: the challenge hash and polynomial, w rounded, and with a challenge s refreshed, the shares of z, and z
+pub record Answered (p : Params) (N : Noise) (g : MaskGen) (A mu s : List ℕ) (o : Challenged) (hash ys : List ℕ) : Type 0 where
+  pub hash-is : hash ≡ hashOf p N g A mu
+  pub challenge-is : o ≡ chalHeld (chalPoly p (hashOf p N g A mu))
+  pub commitment : sub ys (atT (p .l) (p .shares)) (p .k * 512) ≡ roundW (commitmentOf p N g A)
+  pub key : (c : List ℤ) → chalPoly p (hashOf p N g A mu) ≡ some c → sub ys (atS (p .shares)) (p .l * (p .shares * 512)) ≡ refreshedKey p N g s
+  pub shares : (c : List ℤ) → chalPoly p (hashOf p N g A mu) ≡ some c
+      → sub ys (atR (p .l) (p .shares)) (p .l * (p .shares * 512)) ≡ refreshedResponse p N g s (residues q c)
+  pub response : (c : List ℤ) → chalPoly p (hashOf p N g A mu) ≡ some c
+      → sub ys (atX (p .k) (p .l) (p .shares)) (p .l * 512) ≡ totals (p .l) (p .shares) (refreshedResponse p N g s (residues q c))
