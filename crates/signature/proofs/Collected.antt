@@ -18,7 +18,8 @@ use Rattle.sharing.proofs.Turns.{source}
 use Rattle.signature.specs.Matrix.{buildAll, filled}
 use Rattle.signature.specs.Keys.{seedBytes, shareHeader, seededShare, exchanged, collected, compressed}
 use Rattle.signature.specs.Compress.{seededShareOf, collectedOf, collectedAt, compressedOf}
-use Rattle.signature.proofs.Entries.{absurd-bool, filled-some, held-ok, all-some}
+use Rattle.signature.proofs.Checks.{absurd-bool, filled-some, held-ok}
+use Rattle.signature.proofs.Entries.{all-some}
 
 -- ---- the headers
 

@@ -27,7 +27,7 @@ use Rattle.signature.specs.Compress.{compressedOf}
 use Rattle.signature.specs.Masked.{seeded, maskedNoise, maskedImage, transformed, rowsOf}
 use Rattle.signature.specs.Matrix.{matrix, matrixOf, filled}
 use Rattle.signature.proofs.Collected.{compressed-is}
-use Rattle.signature.proofs.Entries.{filled-some}
+use Rattle.signature.proofs.Checks.{filled-some}
 use Rattle.signature.proofs.Images.{image-product}
 use Rattle.signature.proofs.Product.{transformed-each}
 

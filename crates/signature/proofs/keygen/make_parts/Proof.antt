@@ -3,7 +3,7 @@ use mathlib.Core.Bool.{true, false}
 use Prim.Native.Nat.{_*_, _/_}
 use native.Mathlib.Omega.{arith}
 use borrow.Author.Tests.{not-true, not-false}
-use Rattle.signature.proofs.Entries.{absurd-bool, some-filled}
+use Rattle.signature.proofs.Checks.{absurd-bool, some-filled}
 use Rattle.signature.proofs.KeySteps.{both-no, made-parts}
 use Rattle.signature.proofs.Sizes.{same-le, cleared, fits-low, part-all, first-low, room, tape-first, tape-second}
 use Rattle.sharing.specs.Masks.{maskStart}

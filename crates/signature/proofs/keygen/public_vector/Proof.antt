@@ -3,7 +3,7 @@ use mathlib.Core.Bool.{true, false}
 use Prim.Native.Nat.{_+_, _*_}
 use native.Mathlib.Omega.{arith}
 use borrow.Author.Tests.{not-true, not-false}
-use Rattle.signature.proofs.Entries.{absurd-bool, some-filled}
+use Rattle.signature.proofs.Checks.{absurd-bool, some-filled}
 use Rattle.signature.proofs.KeySteps.{rounded-made}
 use borrow.Author.Needs.{needs}
 use Rattle.signature.proofs.keygen.public_vector.Statement.{statement}

@@ -5,7 +5,8 @@ use native.Mathlib.Omega.{arith}
 use borrow.Author.Tests.{not-true, not-false}
 use Rattle.signature.specs.Matrix.{buildAll, filled}
 use Rattle.signature.specs.Keys.{shareAt}
-use Rattle.signature.proofs.Opened.{first-fills, fill-turn, fill-stop, share-fills}
+use Rattle.signature.proofs.Entries.{all-more, all-not}
+use Rattle.signature.proofs.Opened.{first-fills, share-fills}
 use borrow.Author.Needs.{needs}
 use Rattle.signature.proofs.keys.polynomial_fills.Statement.{statement}
 use Rattle.signature.proofs.keys.polynomial_fills.Tie as tie
@@ -32,7 +33,7 @@ returns c =
     let a = c .before .before .before .before .before .before .args in
     let l = c .before .before .before .before .loop in
     let r = c .before .before .seeded-share in
-    sym (fill-stop (shareAt (a .p) (a .part .now) (a .j)) (l .i) (a .p .shares) (c .before .before .before .loop-test .taken)
+    sym (all-not (a .p .shares) (l .i) (shareAt (a .p) (a .part .now) (a .j)) (c .before .before .before .loop-test .taken)
     (share-fills (a .p) (a .part .now) (a .j) (l .i) (r .result) (l .inv .0) (r .ensures .0) ∙ not-true _ (c .if1 .taken)))
 
 loop-again : tie.Need-loop-again Inv-loop μ-loop
@@ -43,7 +44,7 @@ loop-again c =
       omega arith,
       omega arith,
       refl,
-      fill-turn (shareAt (a .p) (a .part .now) (a .j)) (l .i) (l .inv .3)
+      all-more (l .i) (shareAt (a .p) (a .part .now) (a .j)) (l .inv .3)
           (share-fills (a .p) (a .part .now) (a .j) (l .i) (r .result) (l .inv .0) (r .ensures .0) ∙ not-false _ (c .if1 .left)),
     )
 

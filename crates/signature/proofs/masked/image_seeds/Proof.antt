@@ -12,7 +12,8 @@ use Rattle.sharing.proofs.Turns.{skip-turn}
 use Rattle.sharing.proofs.Added.{skip-start, seeds-inside}
 use Rattle.signature.specs.Matrix.{buildAll, matrixAt, matrixOf, filled}
 use borrow.Author.Tests.{not-true, not-false}
-use Rattle.signature.proofs.Entries.{absurd-bool, all-none, all-more, all-not, some-filled}
+use Rattle.signature.proofs.Checks.{absurd-bool, some-filled}
+use Rattle.signature.proofs.Entries.{all-none, all-more, all-not}
 use Rattle.signature.proofs.Images.{imaged, image-turn, image-end}
 use borrow.Author.Needs.{needs}
 use Rattle.signature.proofs.masked.image_seeds.Statement.{statement}
