@@ -4,7 +4,7 @@ use mathlib.Core.Bool.{Bool, true, false}
 use mathlib.Core.List.{List}
 use mathlib.Core.Option.{Option, some}
 use Prim.Native.Nat.{ℕ, zero, suc, _+_, _-_, _*_, _≤_, _<_}
-use native.Mathlib.Nat.{mul-le-mul}
+use native.Mathlib.Nat.{mul-le-mul, mul-le-mul-right}
 use native.Mathlib.Omega.{arith}
 use lib.ListN.{length, take, drop, length-drop}
 use lib.Seq.{take-all}
@@ -27,13 +27,10 @@ use Rattle.signature.specs.KeyCalls.{outcome}
 
 -- ---- the seeds of a key, and the words of an expanded one
 
+pub seed-in : (p : Params) (i : ℕ) → i < p .shares → i * seedBytes p ≤ (p .shares - 1) * seedBytes p
+seed-in p i l = let h : i ≤ p .shares - 1 = omega arith in mul-le-mul-right (seedBytes p) h
+
 module _ (p : Params) (h : Listed p) where
-  pub seeds-low : (p .shares - 1) * seedBytes p ≤ 992
-  seeds-low = let a : p .shares - 1 ≤ 31 = omega (arith, h .shares-low) in omega (arith, mul-le-mul a (h .seed-low))
-
-  pub seed-in : (i : ℕ) → 1 ≤ i → i < p .shares → (i - 1) * seedBytes p + seedBytes p ≤ (p .shares - 1) * seedBytes p
-  seed-in i k l = inside (i - 1) (p .shares - 1) (seedBytes p) (omega arith)
-
   pub words-few : p .l * (p .shares * 512) ≤ 114688
   words-few = let a : p .shares * 512 ≤ 16384 = omega (arith, h .shares-low) in omega (arith, mul-le-mul (h .columns-low) a)
 
