@@ -16,6 +16,13 @@ pub asked : (n : ℕ) (b : Bool) (rest : ℕ) → ask (suc n) b rest ≡ 0 → (
 asked n true rest e = (refl, e)
 asked n false rest e = absurd (omega (arith, e))
 
+-- the first no is the status, and a yes leaves it to those that follow
+pub no-here : (n : ℕ) {b : Bool} (rest : ℕ) → b ≡ false → n ≡ ask n b rest
+no-here n rest e = rw e refl
+
+pub yes-here : (n : ℕ) {b : Bool} {rest m : ℕ} → b ≡ true → m ≡ rest → m ≡ ask n b rest
+yes-here n e h = rw e h
+
 pub both-true : (a b : Bool) → both a b ≡ true → (a ≡ true) × (b ≡ true)
 both-true true b e = (refl, e)
 both-true false b e = absurd-bool (sym e)
