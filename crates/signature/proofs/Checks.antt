@@ -1,5 +1,5 @@
 -- Laws of the checks: what a yes gives, two of them at once, and lists that may not be there.
-use mathlib.Core.Path.{_≡_, refl, sym, ap}
+use mathlib.Core.Path.{_≡_, refl, sym, ap, _∙_}
 use mathlib.Core.Bool.{Bool, true, false}
 use mathlib.Core.List.{List}
 use mathlib.Core.Option.{Option, some, none}
@@ -37,6 +37,9 @@ filled-some (some a) e = refl
 pub some-filled : (o : Option (List ℕ)) (a : List ℕ) → o ≡ some a → filled o ≡ true
 unfolding filled
 some-filled o a e = ap filled e
+
+pub not-there : {C : Type 0} (o : Option (List ℕ)) (a : List ℕ) → o ≡ some a → filled o ≡ false → C
+not-there o a e n = absurd-bool (sym (some-filled o a e) ∙ n)
 
 pub none-filled : (o : Option (List ℕ)) → o ≡ none → filled o ≡ false
 unfolding filled
