@@ -50,6 +50,10 @@ unfolding filled
 not-filled none e = refl
 not-filled (some a) e = absurd-bool e
 
+pub held-is : (o : Option (List ℕ)) (a : List ℕ) → o ≡ some a → heldOf o .poly ≡ a
+unfolding heldOf
+held-is o a e = ap (λ (x : Option (List ℕ)). heldOf x .poly) e
+
 -- .. as the sampler says it
 pub held-ok : (o : Option (List ℕ)) → heldOf o .ok ≡ filled o
 unfolding filled heldOf

@@ -16,7 +16,7 @@ use Rattle.sharing.proofs.Regions.{block-sub, wrote-value, wrote-turn, wrote-en
 use Rattle.sharing.proofs.Turns.{source}
 use Rattle.signature.specs.Matrix.{filled}
 use Rattle.signature.specs.Compress.{shareHeader, exchanged, seededShareOf, collectedOf, collectedAt, compressedOf}
-use Rattle.signature.proofs.Checks.{absurd-bool, filled-some, held-ok}
+use Rattle.signature.proofs.Checks.{filled-some, not-filled, held-ok}
 use Rattle.signature.proofs.Entries.{all-some}
 
 -- ---- the headers
@@ -28,11 +28,6 @@ pub header-kat : (e : Edition) (i j : ℕ) → e ≡ Edition.Kat → (75 ∷ j �
 header-kat e i j h = ap (λ (x : Edition). shareHeader x i j) (sym h)
 
 -- ---- one polynomial
-
-held-not : (o : Option (List ℕ)) → heldOf o .ok ≡ false → o ≡ none
-unfolding heldOf
-held-not none e = refl
-held-not (some a) e = absurd-bool e
 
 exchanged-none : (s : List ℕ) (o : Option (List ℕ)) → exchanged s o none ≡ none
 exchanged-none s none = refl
@@ -83,7 +78,7 @@ module _ (e : Edition) (n : ℕ) (seeds : List ℕ) (j : ℕ) where
 
       pub collect-stop : y .ok ≡ false → y ≡ heldOf (collectedOf e n seeds (sub s at (d * 512)) j (d - 1))
       collect-stop t =
-          let g = held-not (seededShareOf e n seeds j i) (ap (λ (w : Sampled). w .ok) (sym h) ∙ t) in
+          let g = not-filled (seededShareOf e n seeds j i) (sym (held-ok (seededShareOf e n seeds j i)) ∙ ap (λ (w : Sampled). w .ok) (sym h) ∙ t) in
           h ∙ ap heldOf (g ∙ sym (lost (d - 1) i (sub s at (d * 512)) a (omega arith) g))
 
     pub collect-end : (i : ℕ) (x : List ℕ) → i ≡ d → collectedOf e n seeds (sub s at (d * 512)) j (i - 1) ≡ some x

@@ -20,6 +20,7 @@ use Rattle.signature.specs.Bits.{repack}
 use Rattle.signature.specs.Matrix.{buildAll}
 use Rattle.signature.specs.Compress.{shareHeader, seededShareOf, compressedOf}
 use Rattle.signature.specs.Keys.{seedBytes, fullShare, seededShare, shareAt, decompressed, collected, compressed, keygenBytes, noisePart, sharePart, keyShares, keygenOf, expandOf}
+use Rattle.signature.proofs.Checks.{held-is}
 use Rattle.signature.proofs.Entries.{All, all-some}
 use Rattle.signature.proofs.KeyMade.{Step, collected-step, collected-first, collected-words, key-words, share-part-long, made, expand-made}
 
@@ -68,10 +69,6 @@ held-words : (o : Option (List ℕ)) → ((f : List ℕ) → o ≡ some f → Wo
 unfolding heldOf
 held-words none h = words-zeros 512
 held-words (some f) h = h f refl
-
-held-is : (o : Option (List ℕ)) (f : List ℕ) → o ≡ some f → heldOf o .poly ≡ f
-unfolding heldOf
-held-is o f e = ap (λ (t : Option (List ℕ)). heldOf t .poly) e
 
 seed-words : (p : Params) (seeds : List ℕ) (j i : ℕ) → Words 512 (fromSeed p seeds j i)
 unfolding seededShareOf

@@ -35,6 +35,7 @@ pub mod Signs
 pub mod Sizes
 pub mod Strings
 pub mod Trip
+pub mod Verdict
 pub mod Whole
 pub mod Words
 pub mod KeyDone

@@ -18,7 +18,7 @@ use Rattle.sharing.proofs.Lists.{zeros-words, inside, build-ext}
 use Rattle.sharing.proofs.Regions.{wrote-start, wrote-turn, wrote-end}
 use Rattle.signature.specs.Matrix.{buildAll, filled}
 use Rattle.signature.specs.Bits.{repack}
-use Rattle.signature.proofs.Checks.{filled-some, some-filled, held-ok}
+use Rattle.signature.proofs.Checks.{filled-some, some-filled, held-is, held-ok}
 use Rattle.signature.proofs.Entries.{All, all-some}
 use Rattle.signature.proofs.Packing.{length-repack}
 use Rattle.signature.specs.Keys.{seedBytes, fullShare, seededShare, shareAt, decompressed, expandOf}
@@ -54,10 +54,6 @@ module _ (f : ℕ → Option (List ℕ)) (n : ℕ) (h : filled (buildAll n f) �
   built : buildAll n f ≡ some (build n (λ (i : ℕ). heldOf (f i) .poly))
   built = filled-some (buildAll n f) h ∙ ap some (all-there .whole)
 
-held-some : (o : Option (List ℕ)) (xs : List ℕ) → o ≡ some xs → heldOf o .poly ≡ xs
-unfolding heldOf
-held-some o xs e = ap (λ (x : Option (List ℕ)). heldOf x .poly) e
-
 module _ (p : Params) (part : List ℕ) where
   pub first-fills : (j : ℕ) → filled (buildAll 1 (shareAt p part j)) ≡ true
   unfolding buildAll filled shareAt
@@ -78,7 +74,7 @@ module _ (p : Params) (part : List ℕ) where
       let F : ℕ → Option (List ℕ) = λ (j : ℕ). buildAll (p .shares) (shareAt p part j) in
       built F (p .l) h
       ∙ ap some (build-ext (p .l) (λ (j : ℕ). heldOf (F j) .poly) (λ (j : ℕ). build (p .shares) (openedAt p part j))
-      (λ (j : ℕ) (l : j < p .l). held-some (F j) (build (p .shares) (openedAt p part j))
+      (λ (j : ℕ) (l : j < p .l). held-is (F j) (build (p .shares) (openedAt p part j))
       (built (shareAt p part j) (p .shares) (fill-each F (p .l) h j l))))
 
   pub share-fills : (j i : ℕ) (r : Sampled) → 1 ≤ i → r ≡ heldOf (seededShare p part j i) → filled (shareAt p part j i) ≡ r .ok
