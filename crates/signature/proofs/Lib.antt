@@ -2,6 +2,7 @@ pub mod Adjusted
 pub mod Asked
 pub mod Canon
 pub mod Canonical
+pub mod Centred
 pub mod ChalBytes
 pub mod ChalMap
 pub mod ChalResult
@@ -11,6 +12,7 @@ pub mod Collected
 pub mod Counts
 pub mod Entries
 pub mod Filled
+pub mod Finished
 pub mod Fronts
 pub mod Images
 pub mod KeyBytes

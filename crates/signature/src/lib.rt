@@ -4,6 +4,7 @@ mod bounds;
 pub mod challenge;
 mod code;
 mod compress;
+mod fields;
 mod form;
 mod int;
 mod keycheck;
