@@ -14,6 +14,7 @@ pub mod Entries
 pub mod Filled
 pub mod Finished
 pub mod Fronts
+pub mod Hints
 pub mod Images
 pub mod KeyBytes
 pub mod KeyEnds
