@@ -8,27 +8,10 @@ use Rattle.signature.specs.Recover.{sub31, centredAll}
 use borrow.Author.Needs.{needs}
 use Rattle.signature.proofs.fields.hint_row.Statement.{statement}
 use Rattle.signature.proofs.fields.hint_row.Tie as tie
-use Rattle.signature.proofs.fields.hint_row.Reads as reads
-use Rattle.signature.proofs.fields.hint_row.Lts as lts
-use Rattle.ring.proofs.poly.round_w.Reads as round-w-reads
-use Rattle.sharing.proofs.region.load.Reads as load-reads
-use Rattle.signature.proofs.residues.hint_into.Reads as hint-into-reads
-
-load-requires : tie.Need-load-requires
-load-requires c κs = search needs
-
-round-w-requires : tie.Need-round-w-requires
-round-w-requires c κs = search needs
-
-load-requires-2 : tie.Need-load-requires-2
-load-requires-2 c κs = search needs
 
 hint-into-requires : tie.Need-hint-into-requires
 hint-into-requires c κs = let p = c .before .before .before .before .before .pre in
     (record { long = c .before .load2 .ensures .1 .long; low = subst (Below 31) (sym (c .before .load2 .ensures .0)) (p .3) }, c .before .before .round-w .ensures .1, p .4)
-
-same-length : tie.Need-same-length
-same-length c = search needs
 
 returns : tie.Need-returns
 returns c = c .before .hint-into .ensures
@@ -37,11 +20,5 @@ returns c = c .before .hint-into .ensures
 
 pub hint-row-spec : {M : Type 1} → statement M
 hint-row-spec =
-    tie.close
-    (tie.spec
-    load-requires
-    round-w-requires
-    load-requires-2
-    hint-into-requires
-    same-length
-    returns)
+    tie.close (tie.spec (λ c κs. search needs) (λ c κs. search needs) (λ c κs. search needs) hint-into-requires
+    (λ c. search needs) returns)

@@ -1,13 +1,12 @@
 use mathlib.Core.Path.{_≡_, refl, sym, ap, subst, _∙_}
 use mathlib.Core.Bool.{true, false}
-use mathlib.Core.List.{List}
 use Prim.Native.Nat.{ℕ, _+_, _-_, _*_, _≤_, _<_}
 use native.Mathlib.Omega.{arith}
-use lib.ListN.{length, take, drop}
+use lib.ListN.{length, take}
 use lib.Seq.{take-all}
 use borrow.Author.Tests.{not-true, not-false}
 use Rattle.ring.proofs.Sums.{length-zip}
-use Rattle.ring.specs.Words.{q, Below, Residues, zipTo}
+use Rattle.ring.specs.Words.{q, Below, Residues}
 use Rattle.sharing.specs.Blocks.{block, build}
 use Rattle.sharing.specs.Region.{sub}
 use Rattle.sharing.proofs.Lists.{inside}
@@ -22,11 +21,6 @@ use Rattle.signature.proofs.Rounded.{below-up}
 use borrow.Author.Needs.{needs}
 use Rattle.signature.proofs.fields.hint_rows.Statement.{statement}
 use Rattle.signature.proofs.fields.hint_rows.Tie as tie
-use Rattle.signature.proofs.fields.hint_rows.Reads as reads
-use Rattle.signature.proofs.fields.hint_rows.Lts as lts
-use Rattle.sharing.proofs.region.load.Reads as load-reads
-use Rattle.signature.proofs.fields.hint_row.Reads as hint-row-reads
-use Rattle.signature.proofs.recover.recover_row.Reads as recover-row-reads
 
 abbrev Inv-loop : tie.InvT-loop
 Inv-loop work₀ row at wat seed k l c t hint₀ i₀ work hint i =
@@ -41,12 +35,6 @@ loop-holds : tie.Need-loop-holds Inv-loop μ-loop
 unfolding build centredAll
 loop-holds c = let a = c .before .before .before in (omega arith, all-none (λ j. buildAll (a .args .l) (matrixAt (a .args .seed .now) j)), refl, a .pre .0 .4, (λ (b j : ℕ) h. refl), a .pre .1 .6, refl)
 
-mul-a : tie.Need-mul-a Inv-loop μ-loop
-mul-a c = search needs
-
-add-e : tie.Need-add-e Inv-loop μ-loop
-add-e c = search needs
-
 load-requires : tie.Need-load-requires Inv-loop μ-loop
 load-requires c κs = let a = c .before .before .before .before .before .before in
     (omega (arith, inside (c .before .before .loop .i) (a .args .k) 512 (c .before .loop-test .taken), a .pre .1 .3), below-up 125 (a .args .t .now) (omega arith) (a .pre .1 .4))
@@ -55,15 +43,10 @@ recover-row-requires : tie.Need-recover-row-requires Inv-loop μ-loop
 recover-row-requires c κs = let a = c .before .before .before .before .before .before .before in
     let l = c .before .before .before .loop in
     let h : l .i < a .args .k = c .before .before .loop-test .taken in
-    let m = inside (l .i) (a .args .k) 512 h in
-    ((a .pre .0 .0, omega (arith, a .pre .0 .2, l .inv .2), l .inv .3, omega (arith, h, a .pre .1 .0), omega (arith, a .pre .1 .1)),
-    (a .pre .1 .2, subst (Residues 125 512) (sym (c .load .ensures .0)) (sub-residues 125 (a .args .t .now) (l .i * 512) 512 (omega (arith, m, a .pre .1 .3)) (a .pre .1 .4))))
-
-same-length : tie.Need-same-length Inv-loop μ-loop
-same-length c = search needs
-
-same-length-2 : tie.Need-same-length-2 Inv-loop μ-loop
-same-length-2 c = search needs
+    let m = inside (l .i) (a .args .k) 512 h in (
+      (a .pre .0 .0, omega (arith, a .pre .0 .2, l .inv .2), l .inv .3, omega (arith, h, a .pre .1 .0), omega (arith, a .pre .1 .1)),
+      (a .pre .1 .2, subst (Residues 125 512) (sym (c .load .ensures .0)) (sub-residues 125 (a .args .t .now) (l .i * 512) 512 (omega (arith, m, a .pre .1 .3)) (a .pre .1 .4))),
+    )
 
 returns : tie.Need-returns Inv-loop μ-loop
 unfolding matrixOf
@@ -73,21 +56,6 @@ returns c = let b = c .before .before .before .before .before .before .before .b
     let e : c .before .before .before .recover-row .result ≡ false = not-true _ (c .if1 .taken) in
     let o : filled (matrixOf (b .k) (b .l) (b .seed .now)) ≡ false = all-not (b .k) (l .i) (λ j. buildAll (b .l) (matrixAt (b .seed .now) j)) (c .before .before .before .before .before .before .loop-test .taken) (sym (z .0) ∙ e) in
     ((sym o, z .1 ∙ l .inv .2, z .2), ((λ m. absurd-bool (sym m)), (λ m. absurd-bool (sym m))))
-
-add-hint-row : tie.Need-add-hint-row Inv-loop μ-loop
-add-hint-row c = search needs
-
-mul-hint-row : tie.Need-mul-hint-row Inv-loop μ-loop
-mul-hint-row c = search needs
-
-sub-hint-row : tie.Need-sub-hint-row Inv-loop μ-loop
-sub-hint-row c = search needs
-
-part-hint-row-start : tie.Need-part-hint-row-start Inv-loop μ-loop
-part-hint-row-start c = search needs
-
-part-hint-row-end : tie.Need-part-hint-row-end Inv-loop μ-loop
-part-hint-row-end c = search needs
 
 hint-row-requires : tie.Need-hint-row-requires Inv-loop μ-loop
 hint-row-requires c κs = let a = c .before .before .before .before .before .before .before .before .before .before .before .before .before in
@@ -101,12 +69,6 @@ hint-row-requires c κs = let a = c .before .before .before .before .before .bef
     let n : l .i * 512 + 512 - l .i * 512 ≡ 512 = omega arith in
     let s = u .behind (b .wat + l .i * 512) 512 (omega arith) (omega (arith, a .pre .0 .1)) ∙ v .4 (b .wat + l .i * 512) 512 (omega (arith, a .pre .0 .1)) in
     rw n (omega (arith, z .0 .1, v .2, a .pre .0 .1, a .pre .0 .3), omega (arith, m, z .0 .1, v .2, a .pre .0 .3), z .0 .2, subst (Below 31) (sym s) (part-below 31 (b .work .now) (b .wat) (b .k) (l .i) h (a .pre .1 .5)), length-subZ (l .hint) (l .i * 512) 512 (omega (arith, m, v .5)))
-
-add-i : tie.Need-add-i Inv-loop μ-loop
-add-i c = search needs
-
-loop-less : tie.Need-loop-less Inv-loop μ-loop
-loop-less c = search needs
 
 loop-again : tie.Need-loop-again Inv-loop μ-loop
 unfolding block
@@ -127,51 +89,34 @@ loop-again c = let a = c .before .before .before .before .before .before .before
     let f = u .behind (b .wat + l .i * 512) 512 (omega arith) (omega (arith, a .pre .0 .1)) ∙ v .4 (b .wat + l .i * 512) 512 (omega (arith, a .pre .0 .1)) ∙ sym (block-sub 512 (b .k) (l .i) (b .work .now) (b .wat) h) in
     let g = u .new ∙ ap (λ y. recoveredBy (b .l) (rowEntry (b .seed .now) (l .i)) y (b .c) (c .before .before .before .before .before .before .before .before .load .result)) (v .4 (b .at) (b .l * 512) (a .pre .0 .0))
     ∙ ap (recoveredBy (b .l) (rowEntry (b .seed .now) (l .i)) Z (b .c)) (c .before .before .before .before .before .before .before .before .load .ensures .0) in
-    let o : length X ≡ 512 = ap (λ y. length y) x ∙ length-centred 31 _ ∙ length-zip sub31 _ _ ∙ length-sub (c .before .before .before .before .before .before .before .recover-row .last .0) (b .wat + l .i * 512) 512 (omega (arith, m, z .0 .1, v .2, a .pre .0 .3)) in
-    (omega (arith, h), all-more (l .i) (λ j. buildAll (b .l) (matrixAt (b .seed .now) j)) (v .1) (sym (z .0 .0) ∙ e), z .0 .1 ∙ v .2, z .0 .2,
-    (λ (y j : ℕ) (n : b .row + 512 ≤ y). u .behind y j (omega arith) n ∙ v .4 y j n),
-    hint-long (l .i) (l .hint) X k o ∙ v .5,
-    hint-turn (l .i) (l .hint) X k o (b .l) (b .seed .now) Z (b .c) (b .t .now) W _ _ (v .6) x f g)
-
-same-length-3 : tie.Need-same-length-3 Inv-loop μ-loop
-same-length-3 c = search needs
-
-same-length-4 : tie.Need-same-length-4 Inv-loop μ-loop
-same-length-4 c = search needs
+    let o : length X ≡ 512 = ap (λ y. length y) x ∙ length-centred 31 _ ∙ length-zip sub31 _ _ ∙ length-sub (c .before .before .before .before .before .before .before .recover-row .last .0) (b .wat + l .i * 512) 512 (omega (arith, m, z .0 .1, v .2, a .pre .0 .3)) in (
+      omega (arith, h),
+      all-more (l .i) (λ j. buildAll (b .l) (matrixAt (b .seed .now) j)) (v .1) (sym (z .0 .0) ∙ e),
+      z .0 .1 ∙ v .2,
+      z .0 .2,
+      (λ (y j : ℕ) (n : b .row + 512 ≤ y). u .behind y j (omega arith) n ∙ v .4 y j n),
+      hint-long (l .i) (l .hint) X k o ∙ v .5,
+      hint-turn (l .i) (l .hint) X k o (b .l) (b .seed .now) Z (b .c) (b .t .now) W _ _ (v .6) x f g,
+    )
 
 returns-2 : tie.Need-returns-2 Inv-loop μ-loop
 unfolding matrixOf hintRows
 returns-2 c = let b = c .before .before .before .before .before .args in
     let l = c .before .loop in
     let v = l .inv in
-    let e : l .i ≡ b .k = omega (arith, v .0, c .loop-test .left) in
-    ((sym (v .1) ∙ ap (λ n. filled (buildAll n (λ j. buildAll (b .l) (matrixAt (b .seed .now) j)))) e, v .2, v .3), ((λ _. v .4), (λ _.
-    sym (take-all (b .k * 512) (l .hint) (omega (arith, v .5))) ∙ ap (λ n. take (n * 512) (l .hint)) (sym e) ∙ v .6
-    ∙ ap (λ n. centredAll 31 (build n (hintRow (b .l) (b .seed .now) (sub (b .work .now) (b .at) (b .l * 512)) (b .c) (b .t .now) (sub (b .work .now) (b .wat) (b .k * 512))))) e)))
+    let e : l .i ≡ b .k = omega (arith, v .0, c .loop-test .left) in (
+      (sym (v .1) ∙ ap (λ n. filled (buildAll n (λ j. buildAll (b .l) (matrixAt (b .seed .now) j)))) e, v .2, v .3),
+      (
+        (λ _. v .4),
+        (λ _.
+            sym (take-all (b .k * 512) (l .hint) (omega (arith, v .5))) ∙ ap (λ n. take (n * 512) (l .hint)) (sym e) ∙ v .6
+            ∙ ap (λ n. centredAll 31 (build n (hintRow (b .l) (b .seed .now) (sub (b .work .now) (b .at) (b .l * 512)) (b .c) (b .t .now) (sub (b .work .now) (b .wat) (b .k * 512))))) e),
+      ),
+    )
 
 pub hint-rows-spec : {M : Type 1} → statement M
 hint-rows-spec =
-    tie.close
-    (tie.spec
-    Inv-loop
-    μ-loop
-    loop-holds
-    mul-a
-    add-e
-    load-requires
-    recover-row-requires
-    same-length
-    same-length-2
-    returns
-    add-hint-row
-    mul-hint-row
-    sub-hint-row
-    part-hint-row-start
-    part-hint-row-end
-    hint-row-requires
-    add-i
-    loop-less
-    loop-again
-    same-length-3
-    same-length-4
-    returns-2)
+    tie.close (tie.spec Inv-loop μ-loop loop-holds (λ c. search needs) (λ c. search needs) load-requires
+    recover-row-requires (λ c. search needs) (λ c. search needs) returns (λ c. search needs) (λ c. search needs)
+    (λ c. search needs) (λ c. search needs) (λ c. search needs) hint-row-requires (λ c. search needs)
+    (λ c. search needs) loop-again (λ c. search needs) (λ c. search needs) returns-2)

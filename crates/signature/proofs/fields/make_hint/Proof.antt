@@ -1,7 +1,7 @@
 use mathlib.Core.Path.{_≡_, sym, ap, subst, _∙_}
 use mathlib.Core.List.{List}
 use mathlib.Core.Option.{some}
-use Prim.Native.Nat.{ℕ, _+_, _-_, _*_, _/_, _≤_}
+use Prim.Native.Nat.{ℕ, _+_, _-_, _*_, _/_}
 use native.Mathlib.Omega.{arith}
 use lib.ListN.{length, take, drop, replicate}
 use Rattle.ring.specs.Words.{q, Below, Words}
@@ -21,102 +21,11 @@ use Rattle.signature.proofs.Sizes.{room, share-room}
 use borrow.Author.Needs.{needs}
 use Rattle.signature.proofs.fields.make_hint.Statement.{statement}
 use Rattle.signature.proofs.fields.make_hint.Tie as tie
-use Rattle.signature.proofs.fields.make_hint.Reads as reads
-use Rattle.signature.proofs.fields.make_hint.Lts as lts
-use Rattle.ring.proofs.poly.from_signed.Reads as from-signed-reads
-use Rattle.ring.proofs.poly.ntt.Reads as ntt-reads
-use Rattle.signature.proofs.bits.unpack.Reads as unpack-reads
-use Rattle.signature.proofs.fields.hint_rows.Reads as hint-rows-reads
-use Rattle.signature.proofs.vector.ntt_to.Reads as ntt-to-reads
-
-mul-m : tie.Need-mul-m
-mul-m c = search needs
-
-mul-e : tie.Need-mul-e
-mul-e c = search needs
-
-add-e : tie.Need-add-e
-add-e c = search needs
-
-mul-at : tie.Need-mul-at
-mul-at c = search needs
-
-mul-at-2 : tie.Need-mul-at-2
-mul-at-2 c = search needs
-
-add-at : tie.Need-add-at
-add-at c = search needs
-
-mul-at-3 : tie.Need-mul-at-3
-mul-at-3 c = search needs
-
-mul-at-4 : tie.Need-mul-at-4
-mul-at-4 c = search needs
-
-add-at-2 : tie.Need-add-at-2
-add-at-2 c = search needs
-
-mul-wat : tie.Need-mul-wat
-mul-wat c = search needs
-
-mul-wat-2 : tie.Need-mul-wat-2
-mul-wat-2 c = search needs
-
-add-wat : tie.Need-add-wat
-add-wat c = search needs
-
-sub-unpack : tie.Need-sub-unpack
-sub-unpack c = search needs
-
-part-unpack-start : tie.Need-part-unpack-start
-part-unpack-start c = search needs
-
-part-unpack-end : tie.Need-part-unpack-end
-part-unpack-end c = search needs
-
-sub-unpack-2 : tie.Need-sub-unpack-2
-sub-unpack-2 c = search needs
-
-part-t-start : tie.Need-part-t-start
-part-t-start c = search needs
-
-part-t-end : tie.Need-part-t-end
-part-t-end c = search needs
-
-unpack-requires : tie.Need-unpack-requires
-unpack-requires c κs = search needs
-
-add-ntt-to : tie.Need-add-ntt-to
-add-ntt-to c = search needs
 
 ntt-to-requires : tie.Need-ntt-to-requires
 ntt-to-requires c κs = let a = c .before .before .before .before .before .before .before .before in
     let R = room (a .args .p) (a .pre .0 .1) (length (a .args .work .now)) (a .pre .0 .2) .2 in
     (omega (arith, share-room (a .args .p) (a .pre .0 .1)), R, a .pre .0 .3)
-
-from-signed-requires : tie.Need-from-signed-requires
-from-signed-requires c κs = search needs
-
-ntt-requires : tie.Need-ntt-requires
-ntt-requires c κs = search needs
-
-mul-hint-rows : tie.Need-mul-hint-rows
-mul-hint-rows c = search needs
-
-sub-hint-rows : tie.Need-sub-hint-rows
-sub-hint-rows c = search needs
-
-part-hint-rows-start : tie.Need-part-hint-rows-start
-part-hint-rows-start c = search needs
-
-part-hint-rows-end : tie.Need-part-hint-rows-end
-part-hint-rows-end c = search needs
-
-sub-hint-rows-2 : tie.Need-sub-hint-rows-2
-sub-hint-rows-2 c = search needs
-
-part-hint-rows-start-2 : tie.Need-part-hint-rows-start-2
-part-hint-rows-start-2 c = search needs
 
 part-hint-rows-end-2 : tie.Need-part-hint-rows-end-2
 part-hint-rows-end-2 c = let a = c .before .before .before .before .before .before .before .before .before .before .before .before .before .before .before .before in
@@ -135,15 +44,10 @@ hint-rows-requires c κs = let a = c .before .before .before .before .before .be
     ∙ ap (λ (j : ℕ). repack 8 7 (p .k * 512) (take j (drop (p .kappa / 8) (a .args .vk .now)))) m in
     let u = c .before .before .before .before .before .before .before .before .before .ntt-to .ensures in
     let n = u .long in
-    let w = u .behind (atT (p .l) (p .shares)) (p .k * 512) (omega arith) (omega (arith, r)) in
-    ((omega arith, omega arith, omega (arith, n, r, R .1), omega (arith, n, R .1), u .low),
-    (T .rows-low, T .columns-low, c .before .before .before .before .before .ntt .ensures .1, ap (λ (l : List ℕ). length l) t ∙ length-repack 8 7 (p .k * 512) _, subst (Below 125) (sym t) (a .pre .1 .1), subst (Below 31) (sym w) (a .pre .0 .4), a .pre .1 .2))
-
-same-length : tie.Need-same-length
-same-length c = search needs
-
-same-length-2 : tie.Need-same-length-2
-same-length-2 c = search needs
+    let w = u .behind (atT (p .l) (p .shares)) (p .k * 512) (omega arith) (omega (arith, r)) in (
+      (omega arith, omega arith, omega (arith, n, r, R .1), omega (arith, n, R .1), u .low),
+      (T .rows-low, T .columns-low, c .before .before .before .before .before .ntt .ensures .1, ap (λ (l : List ℕ). length l) t ∙ length-repack 8 7 (p .k * 512) _, subst (Below 125) (sym t) (a .pre .1 .1), subst (Below 31) (sym w) (a .pre .0 .4), a .pre .1 .2),
+    )
 
 returns : tie.Need-returns
 unfolding vkVector vkSeed
@@ -169,50 +73,24 @@ returns c = let a = c .before .before .before .before .before .before .before .b
     let u = c .before .before .before .before .before .before .before .before .before .before .before .before .before .ntt-to .ensures in
     let y : c .before .before .before .before .before .before .before .before .before .ntt .result ≡ ntt x = c .before .before .before .before .before .before .before .before .before .ntt .ensures .0 ∙ ap ntt (c .before .before .before .before .before .before .before .before .before .before .from-signed .ensures .0) in
     let r = c .before .before .before .hint-rows .ensures in
-    let f = r .0 .0 ∙ ap (λ (v : List ℕ). filled (matrixOf k l v)) e in
-    ((f, r .0 .1 ∙ u .long, r .0 .2),
-    ((λ g. r .1 .0 g (atS d) (l * (d * 512)) (omega arith) ∙ u .front (atS d) (l * (d * 512)) (omega arith) (omega arith)),
-    (λ (A : List ℕ) (g : matrix p seed ≡ some A).
-    r .1 .1 (f ∙ some-filled (matrix p seed) A g)
-    ∙ hint-parts k l e (u .new) y t (u .behind (atT l d) (k * 512) (omega arith) (omega (arith, o)))
-    ∙ hint-all p seed A z x (vkVector p (b .vk .now)) w g (sub-words (b .work .now) (atX k l d) (l * 512) (R .2) (a .pre .0 .3))
-    (subst (Words 512) (c .before .before .before .before .before .before .before .before .before .before .from-signed .ensures .0) (c .before .before .before .before .before .before .before .before .before .before .from-signed .ensures .1)) (length-repack 8 7 (p .k * 512) _) (length-sub (b .work .now) (atT l d) (k * 512) (R .1)))))
+    let f = r .0 .0 ∙ ap (λ (v : List ℕ). filled (matrixOf k l v)) e in (
+      (f, r .0 .1 ∙ u .long, r .0 .2),
+      (
+        (λ g. r .1 .0 g (atS d) (l * (d * 512)) (omega arith) ∙ u .front (atS d) (l * (d * 512)) (omega arith) (omega arith)),
+        (λ (A : List ℕ) (g : matrix p seed ≡ some A).
+            r .1 .1 (f ∙ some-filled (matrix p seed) A g)
+            ∙ hint-parts k l e (u .new) y t (u .behind (atT l d) (k * 512) (omega arith) (omega (arith, o)))
+            ∙ hint-all p seed A z x (vkVector p (b .vk .now)) w g (sub-words (b .work .now) (atX k l d) (l * 512) (R .2) (a .pre .0 .3))
+            (subst (Words 512) (c .before .before .before .before .before .before .before .before .before .before .from-signed .ensures .0) (c .before .before .before .before .before .before .before .before .before .before .from-signed .ensures .1)) (length-repack 8 7 (p .k * 512) _) (length-sub (b .work .now) (atT l d) (k * 512) (R .1))),
+      ),
+    )
 
 pub make-hint-spec : {M : Type 1} → statement M
 make-hint-spec =
-    tie.close
-    (tie.spec
-    mul-m
-    mul-e
-    add-e
-    mul-at
-    mul-at-2
-    add-at
-    mul-at-3
-    mul-at-4
-    add-at-2
-    mul-wat
-    mul-wat-2
-    add-wat
-    sub-unpack
-    part-unpack-start
-    part-unpack-end
-    sub-unpack-2
-    part-t-start
-    part-t-end
-    unpack-requires
-    add-ntt-to
-    ntt-to-requires
-    from-signed-requires
-    ntt-requires
-    mul-hint-rows
-    sub-hint-rows
-    part-hint-rows-start
-    part-hint-rows-end
-    sub-hint-rows-2
-    part-hint-rows-start-2
-    part-hint-rows-end-2
-    hint-rows-requires
-    same-length
-    same-length-2
-    returns)
+    tie.close (tie.spec (λ c. search needs) (λ c. search needs) (λ c. search needs) (λ c. search needs)
+    (λ c. search needs) (λ c. search needs) (λ c. search needs) (λ c. search needs) (λ c. search needs)
+    (λ c. search needs) (λ c. search needs) (λ c. search needs) (λ c. search needs) (λ c. search needs)
+    (λ c. search needs) (λ c. search needs) (λ c. search needs) (λ c. search needs) (λ c κs. search needs)
+    (λ c. search needs) ntt-to-requires (λ c κs. search needs) (λ c κs. search needs) (λ c. search needs)
+    (λ c. search needs) (λ c. search needs) (λ c. search needs) (λ c. search needs) (λ c. search needs)
+    part-hint-rows-end-2 hint-rows-requires (λ c. search needs) (λ c. search needs) returns)
