@@ -1,1 +1,2 @@
 pub mod ShareCount
+pub mod Steps

@@ -8,9 +8,10 @@ use Prim.Native.Nat.{ℕ, zero, suc}
 use Rattle.hash.specs.declared.params.Params.{Params}
 use Rattle.ring.specs.Words.{addW}
 use Rattle.ring.specs.Transform.{intt, mul}
-use Rattle.sharing.specs.Blocks.{block, build}
+use Rattle.sharing.specs.Blocks.{block, build, sumOf, total}
 use Rattle.signature.specs.Checks.{ask, publicKeySized, publicKeyGood, attemptsAllowed, messageSized}
 use Rattle.signature.specs.Keys.{vkSeed}
+use Rattle.signature.specs.Masked.{Noise}
 use Rattle.signature.specs.Matrix.{matrix}
 use Rattle.signature.specs.Recover.{productRow}
 use Rattle.signature.specs.Sign.{Public, Attempted, Answer, answer, concluded, ended}
@@ -20,6 +21,17 @@ use Rattle.signature.specs.SignCalls.{publicFor}
 pub record Totals : Type 0 where
   pub first : List ℕ
   pub second : List ℕ
+
+-- .. of a sharing's noise: the sum modulo q over repetitions and shares, polynomial by polynomial
+abbrev pub noiseTotal : ℕ → ℕ → (ℕ → ℕ → List ℕ) → ℕ → List ℕ
+noiseTotal d r f i = sumOf 512 r (λ (t : ℕ). total d (f i t))
+
+unfoldable pub totalsOf : Params → Noise → Totals
+totalsOf p N =
+    record {
+      first = build (p .l) (noiseTotal (p .shares) (N .reps) (N .first));
+      second = build (p .k) (noiseTotal (p .shares) (N .reps) (N .second));
+    }
 
 -- lines 4 to 8: w = A r + its noise
 unfoldable pub plainCommitment : Params → List ℕ → Totals → List ℕ
