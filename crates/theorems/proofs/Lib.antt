@@ -1,2 +1,3 @@
 pub mod ShareCount
 pub mod Steps
+pub mod Collapse
