@@ -1,3 +1,4 @@
 pub mod ShareCount
 pub mod Steps
 pub mod Collapse
+pub mod Agree
