@@ -2,3 +2,4 @@ pub mod ShareCount
 pub mod Steps
 pub mod Collapse
 pub mod Agree
+pub mod Hint
