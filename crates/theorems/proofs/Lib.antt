@@ -3,3 +3,4 @@ pub mod Steps
 pub mod Collapse
 pub mod Agree
 pub mod Hint
+pub mod Accept
