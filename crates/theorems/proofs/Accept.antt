@@ -50,13 +50,9 @@ same-bytes [] = refl
 same-bytes (x ∷ xs) = rw (eq-eqb x x refl) (same-bytes xs)
 
 -- a check that was passed
-passed : (b : Bool) (x k : ℕ) → ask (suc k) b x ≡ 0 → (b ≡ true) × (x ≡ 0)
+pub passed : (b : Bool) (x k : ℕ) → ask (suc k) b x ≡ 0 → (b ≡ true) × (x ≡ 0)
 passed true x k e = (refl, e)
 passed false x k e = absurd (omega arith)
-
-both-left : (a b : Bool) → both a b ≡ true → a ≡ true
-both-left true b e = refl
-both-left false b e = e
 
 -- k rows of 512 words
 recovered-long : (p : Params) (A z c t : List ℕ) → length (recovered p A z c t) ≡ p .k * 512
@@ -147,7 +143,7 @@ module _ (p : Params) (vk msg A : List ℕ) (eA : matrix p (vkSeed p vk) ≡ som
     concluded-good r = challenged-good (chalPoly p (chalHash p (roundW w) (P .mu))) refl r
 
   -- the verifier's first checks are among those that signing passed
-  verify-good : (n : ℕ) (sig : List ℕ) → plainNo p vk n msg ≡ 0 → Good sig → verifyOf p vk msg sig ≡ 0
+  pub verify-good : (n : ℕ) (sig : List ℕ) → plainNo p vk n msg ≡ 0 → Good sig → verifyOf p vk msg sig ≡ 0
   unfolding verifyOf plainNo
   verify-good n sig h g =
       let q9 : ℕ = ask 9 (messageSized msg) 0 in
@@ -182,7 +178,7 @@ module _ (p r : Params) (h : setOf p ≡ setOf r) (vk msg A : List ℕ) (eA : ma
   ended-good a over later f g e = g e
   ended-good a stuck later f g e = absurd (omega arith)
 
-  from-good : (T : Tapes) (left a : ℕ) (s : List ℕ) → signFrom p (publicFor p vk msg A) T left a s .status ≡ 0
+  pub from-good : (T : Tapes) (left a : ℕ) (s : List ℕ) → signFrom p (publicFor p vk msg A) T left a s .status ≡ 0
       → Good r vk msg A eA (signFrom p (publicFor p vk msg A) T left a s .signature)
   unfolding signFrom
   from-good T zero a s e = absurd (omega arith)

@@ -4,3 +4,4 @@ pub mod Collapse
 pub mod Agree
 pub mod Hint
 pub mod Accept
+pub mod AcceptCall
