@@ -41,18 +41,9 @@ use Rattle.signature.specs.SignCalls.Key.{packed, expanded}
 use Rattle.signature.specs.Verify.{recomputed, verifyChallenge, verifyMatrix, verifyFields, verifyOf, verifyCall}
 use Rattle.signature.proofs.Canonical.{Sized, write-read, write-length}
 use Rattle.theorems.specs.Plain.{plainNo}
+use Rattle.theorems.proofs.Checks.{passed, same-bytes}
 use Rattle.theorems.proofs.ShareCount.{setOf, single, k-same, l-same, concluded-same, public-same, matrix-same, no-same}
 use Rattle.theorems.proofs.Hint.{residues-centred, length-rounded, length-centred, length-hint, hint-back}
-
-same-bytes : (xs : List ℕ) → sameBytes xs xs ≡ true
-unfolding sameBytes
-same-bytes [] = refl
-same-bytes (x ∷ xs) = rw (eq-eqb x x refl) (same-bytes xs)
-
--- a check that was passed
-pub passed : (b : Bool) (x k : ℕ) → ask (suc k) b x ≡ 0 → (b ≡ true) × (x ≡ 0)
-passed true x k e = (refl, e)
-passed false x k e = absurd (omega arith)
 
 -- k rows of 512 words
 recovered-long : (p : Params) (A z c t : List ℕ) → length (recovered p A z c t) ≡ p .k * 512

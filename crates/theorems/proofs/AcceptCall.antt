@@ -23,14 +23,11 @@ use Rattle.signature.specs.SignCalls.{Key, keySized, keyGood, sharesGood, publi
 use Rattle.signature.specs.SignCalls.Key.{packed, expanded}
 use Rattle.signature.specs.Verify.{verifyOf, verifyCall}
 use Rattle.theorems.specs.Plain.{plainNo}
+use Rattle.theorems.proofs.Checks.{passed, both-true}
 use Rattle.theorems.proofs.ShareCount.{Single, single, matrix-same, no-same}
-use Rattle.theorems.proofs.Accept.{passed, Good, verify-good, from-good}
+use Rattle.theorems.proofs.Accept.{Good, verify-good, from-good}
 
 -- ---- the public key of a key that passed checks 3 and 4 passes them
-
-both-left : (a b : Bool) → both a b ≡ true → a ≡ true
-both-left true b e = refl
-both-left false b e = e
 
 front : (n m : ℕ) (xs : List ℕ) → n ≤ length xs → take m (drop n (take (n + m) xs)) ≡ take m (drop n xs)
 front n m xs h =
@@ -43,7 +40,7 @@ module _ (p : Params) (r : Rule p) where
   sized-public (packed key) e =
       let l : length key ≡ p .«sk_bytes» = eqb-true (length key) (p .«sk_bytes») e in
       eq-eqb (length (take (p .«vk_bytes») key)) (p .«vk_bytes») (length-take-le (p .«vk_bytes») key (omega (arith, r .sk)))
-  sized-public (expanded vk words) e = both-left (publicKeySized p vk) _ e
+  sized-public (expanded vk words) e = both-true (publicKeySized p vk) _ e .0
 
   good-public : (key : Key) → keySized p key ≡ true → keyGood p key ≡ true → publicKeyGood p (publicOf p key) ≡ true
   unfolding vkVector

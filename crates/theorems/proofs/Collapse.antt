@@ -2,19 +2,19 @@
 -- tapes and buffers are passed.
 use mathlib.Core.Path.{_≡_, refl, sym, ap, _∙_, subst}
 use mathlib.Core.Bool.{Bool, true, false}
-use mathlib.Core.List.{List, [], _∷_}
+use mathlib.Core.List.{List, []}
 use mathlib.Core.Option.{Option, some, none}
 use Prim.Native.Nat.{ℕ, zero, suc, _+_, _*_, _^_, _≤_, _<_}
 use native.Mathlib.Omega.{arith}
-use borrow.Author.Tests.{eqb-true, eq-eqb, lt-ltb}
-use lib.Dec.{eqb, ltb}
+use borrow.Author.Tests.{eqb-true, eq-eqb}
+use lib.Dec.{eqb}
 use lib.ListN.{length, drop}
 use Rattle.hash.specs.Lists.{pick}
 use Rattle.hash.specs.Params.{orderIndex, lookupOf}
 use Rattle.hash.specs.declared.params.Params.{Params}
 use Rattle.hash.specs.declared.params.Selected.{Selected}
 use Rattle.hash.proofs.Rows.{Row, found}
-use Rattle.ring.specs.Words.{q, Below, allBelow, Words}
+use Rattle.ring.specs.Words.{q, allBelow, Words}
 use Rattle.ring.proofs.Sums.{all-below, residues-drop}
 use Rattle.sharing.specs.Blocks.{block, totals}
 use Rattle.sharing.proofs.Lists.{block-words}
@@ -27,22 +27,8 @@ use Rattle.signature.specs.Sign.{Answer, answer, Tapes, noiseSize, noiseFrom, n
 use Rattle.signature.specs.SignCalls.{Key, tapesGood, signNo, publicFor, signMade, signGo, signFor, signOf}
 use Rattle.theorems.specs.Plain.{Totals, totalsOf, plainNo, plainMade, plainGo, signPlain}
 use Rattle.theorems.specs.Unit.{Unit, keyOf, tapesOf, signUnit, recordOf, noiseOf, Fits, Sound}
+use Rattle.theorems.proofs.Checks.{both-true, both-yes, below-all}
 use Rattle.theorems.proofs.Steps.{GoodNoise, collapse}
-
--- ---- tests
-
-pub both-true : (a b : Bool) → both a b ≡ true → (a ≡ true) × (b ≡ true)
-both-true true b e = (refl, e)
-both-true false b e = let z : _≡_ {A = ℕ} 0 1 = cc in absurd (omega arith)
-
-both-yes : (a : Bool) → both a true ≡ a
-both-yes true = refl
-both-yes false = refl
-
-below-all : (xs : List ℕ) → Below q xs → allBelow q xs ≡ true
-unfolding allBelow
-below-all [] h = refl
-below-all (x ∷ xs) h = rw (lt-ltb x q (h .0)) (below-all xs (h .1))
 
 -- ---- noise that check 7 passed is words below q
 
@@ -106,7 +92,7 @@ module _ (u : Unit) (p : Params) (is : recordOf u ≡ Selected.Found p) (h : Fit
   unfolding signNo plainNo
   no-plain =
       let e3 : eqb (length (u .words)) (p .l * (p .shares * 512)) ≡ true = eq-eqb _ _ (h .shareWords .long) in
-      let e5 : allBelow q (u .words) ≡ true = below-all (u .words) (h .shareWords .low) in
+      let e5 : allBelow q (u .words) ≡ true = below-all q (u .words) (h .shareWords .low) in
       let e7 : tapesGood p (u .attempts) (tapesOf u) ≡ true = h .tapes in
       let e8 : signBuffersSized p (u .result) (u .work) ≡ true = h .buffers in
       rw (e3, e5, e7, e8, both-yes) refl

@@ -1,7 +1,9 @@
-pub mod ShareCount
-pub mod Steps
-pub mod Collapse
-pub mod Agree
-pub mod Hint
 pub mod Accept
 pub mod AcceptCall
+pub mod Agree
+pub mod Checks
+pub mod Collapse
+pub mod Demand3
+pub mod Hint
+pub mod ShareCount
+pub mod Steps
