@@ -34,6 +34,11 @@ unfolding allBelow
 below-all p [] h = refl
 below-all p (x ∷ xs) h = rw (lt-ltb x p (h .0)) (below-all p xs (h .1))
 
+pub all-low : (p : ℕ) (xs : List ℕ) → ((i : ℕ) → getD xs i 0 < p) → allBelow p xs ≡ true
+unfolding allBelow
+all-low p [] h = refl
+all-low p (x ∷ xs) h = rw (lt-ltb x p (h 0)) (all-low p xs (λ (i : ℕ). h (suc i)))
+
 pub not-below : (p : ℕ) (xs : List ℕ) (i : ℕ) → 0 < p → getD xs i 0 ≡ p → allBelow p xs ≡ false
 not-below p xs i z e = go (allBelow p xs) refl
   where

@@ -7,3 +7,4 @@ pub mod Demand3
 pub mod Hint
 pub mod ShareCount
 pub mod Steps
+pub mod Instances
