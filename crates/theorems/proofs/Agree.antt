@@ -5,8 +5,7 @@ use mathlib.Core.List.{List, []}
 use mathlib.Core.Option.{Option, some, none}
 use Prim.Native.Nat.{ℕ, zero, suc, _+_, _-_, _*_, _%_, _≤_, _<_}
 use native.Mathlib.Omega.{arith}
-use borrow.Author.Tests.{lt-ltb, le-ltb}
-use lib.Dec.{eqb, ltb}
+use lib.Dec.{eqb}
 use lib.ListN.{getD}
 use Rattle.hash.specs.Lists.{pick}
 use Rattle.hash.specs.Params.{setIndex, orderIndex, rowAt, paramsOf, lookupOf}
@@ -15,21 +14,21 @@ use Rattle.hash.specs.declared.params.Selected.{Selected}
 use Rattle.ring.specs.Words.{q, Words}
 use Rattle.ring.proofs.Sums.{same-residues}
 use Rattle.sharing.specs.Blocks.{block, build, sumN, sumOf, total, totals}
-use Rattle.sharing.proofs.Decode.{words-sum, total-words, total-at, sumN-ext, reps-at}
+use Rattle.sharing.proofs.Decode.{words-sum, total-words, total-at, sumN-ext}
 use Rattle.sharing.proofs.Lists.{block-words, block-at, build-ext}
 use Rattle.signature.specs.Keys.{vkSeed}
 use Rattle.signature.specs.Matrix.{matrix}
 use Rattle.signature.specs.Sign.{Public, Answer, ended}
 use Rattle.signature.specs.SignCalls.{publicFor}
 use Rattle.theorems.specs.Plain.{Totals, noiseTotal, totalsOf, plainAttempt, plainFrom, plainNo, plainMade, plainGo, signPlain}
-use Rattle.theorems.specs.Unit.{Unit, signUnit, recordOf, noiseOf, noiseWords, wordAt, secretAt, noiseTotalAt, Fits, Sound, Alike, SameSecret, EqualTotals}
+use Rattle.theorems.specs.Unit.{Unit, signUnit, recordOf, wordAt, secretAt, noiseTotalAt, Fits, Sound, Alike, SameSecret, EqualTotals}
 use Rattle.theorems.proofs.ShareCount.{setOf, found-set, look-up, k-same, l-same, plain-same}
-use Rattle.theorems.proofs.Steps.{GoodNoise}
-use Rattle.theorems.proofs.Collapse.{secretOf, noiseTotals, shares-are, good, sign-plain, sign-unknown}
+use Rattle.theorems.proofs.Collapse.{secretOf, noiseOf, noiseTotals, shares-are, sign-plain, sign-unknown}
+use Rattle.theorems.proofs.NoiseTotals.{first-at, second-at}
 
--- ---- sums, place by place
+-- ---- the secret, place by place
 
--- of d shares of polynomial i of n
+-- the sum of the d shares of polynomial i of n, at coefficient x
 total-words-at : (d n i : ℕ) (xs : List ℕ) → Words (n * (d * 512)) xs → i < n → (x : ℕ) → x < 512
     → getD (total d (block (d * 512) i xs)) x 0 ≡ sumN d (λ (j : ℕ). getD xs (i * (d * 512) + (j * 512 + x)) 0) % q
 total-words-at d n i xs w h x lx =
@@ -38,39 +37,12 @@ total-words-at d n i xs w h x lx =
     (sumN-ext d (λ (j : ℕ). getD (block 512 j (block (d * 512) i xs)) x 0) (λ (j : ℕ). getD xs (i * (d * 512) + (j * 512 + x)) 0)
     (λ (j : ℕ) (lj : j < d). block-at 512 j (block (d * 512) i xs) x lx ∙ block-at (d * 512) i xs (j * 512 + x) (omega arith)))
 
--- of r repetitions and d shares of noise
-noise-total-at : (d r : ℕ) (f : ℕ → ℕ → List ℕ) (i : ℕ) → ((t : ℕ) → t < r → Words (d * 512) (f i t)) → (x : ℕ) → x < 512
-    → getD (noiseTotal d r f i) x 0 ≡ sumN r (λ (t : ℕ). sumN d (λ (j : ℕ). getD (f i t) (j * 512 + x) 0)) % q
-noise-total-at d r f i w x lx =
-    reps-at d r (f i) w x lx
-    ∙ ap (λ (m : ℕ). m % q)
-    (sumN-ext r (λ (t : ℕ). sumN d (λ (j : ℕ). getD (block 512 j (f i t)) x 0)) (λ (t : ℕ). sumN d (λ (j : ℕ). getD (f i t) (j * 512 + x) 0))
-    (λ (t : ℕ) (lt : t < r).
-    sumN-ext d (λ (j : ℕ). getD (block 512 j (f i t)) x 0) (λ (j : ℕ). getD (f i t) (j * 512 + x) 0)
-    (λ (j : ℕ) (lj : j < d). block-at 512 j (f i t) x lx)))
-
 module _ (u : Unit) (p : Params) (is : recordOf u ≡ Selected.Found p) (h : Fits p u) where
   secret-at : (i x : ℕ) → i < p .l → x < 512 → getD (total (p .shares) (block (p .shares * 512) i (u .words))) x 0 ≡ secretAt u i x
   unfolding secretAt wordAt
   secret-at i x li lx =
       total-words-at (p .shares) (p .l) i (u .words) (h .shareWords) li x lx
       ∙ ap (λ (d : ℕ). sumN d (λ (j : ℕ). getD (u .words) (i * (d * 512) + (j * 512 + x)) 0) % q) (shares-are u p is h)
-
-  first-at : (a i x : ℕ) → a < u .attempts → i < p .l → x < 512
-      → getD (noiseTotal (p .shares) (noiseOf p u a .reps) (noiseOf p u a .first) i) x 0 ≡ noiseTotalAt p u a i x
-  unfolding noiseTotalAt noiseWords
-  first-at a i x la li lx =
-      let e : ltb i (p .l) ≡ true = lt-ltb i (p .l) li in
-      noise-total-at (p .shares) (noiseOf p u a .reps) (noiseOf p u a .first) i (λ (t : ℕ) lt. good u p is h a la .first i t li lt) x lx ∙ rw e refl
-
-  second-at : (a i x : ℕ) → a < u .attempts → i < p .k → x < 512
-      → getD (noiseTotal (p .shares) (noiseOf p u a .reps) (noiseOf p u a .second) i) x 0 ≡ noiseTotalAt p u a (p .l + i) x
-  unfolding noiseTotalAt noiseWords
-  second-at a i x la li lx =
-      let m : p .l ≤ p .l + i = omega arith in
-      let e : ltb (p .l + i) (p .l) ≡ false = le-ltb (p .l + i) (p .l) m in
-      let s : p .l + i - p .l ≡ i = omega arith in
-      noise-total-at (p .shares) (noiseOf p u a .reps) (noiseOf p u a .second) i (λ (t : ℕ) lt. good u p is h a la .second i t li lt) x lx ∙ rw (e, s) refl
 
 -- ---- plain signing looks only at the totals of the allowed attempts
 
@@ -133,15 +105,15 @@ module _ (u v : Unit) (p r : Params) (iu : recordOf u ≡ Selected.Found p) (iv 
       (λ (i : ℕ). words-sum 512 (noiseOf p u a .reps) (λ (t : ℕ). total (p .shares) (noiseOf p u a .first i t)))
       (λ (i : ℕ). words-sum 512 (noiseOf r v a .reps) (λ (t : ℕ). total (r .shares) (noiseOf r v a .first i t)))
       (λ (i x : ℕ) (l : i < p .l) (lx : x < 512).
-      first-at u p iu hu a i x la l lx ∙ t .equal p r iu iv a i x la (omega arith) lx ∙ sym (first-at v r iv hv a i x lb (omega (arith, el)) lx)) in
+      first-at u p iu hu a x lx la i l ∙ t .equal p r iu iv a i x la (omega arith) lx ∙ sym (first-at v r iv hv a x lx lb i (omega (arith, el)))) in
       let second : build (p .k) (noiseTotal (p .shares) (noiseOf p u a .reps) (noiseOf p u a .second))
       ≡ build (r .k) (noiseTotal (r .shares) (noiseOf r v a .reps) (noiseOf r v a .second)) =
       build-same (p .k) (r .k) (noiseTotal (p .shares) (noiseOf p u a .reps) (noiseOf p u a .second)) (noiseTotal (r .shares) (noiseOf r v a .reps) (noiseOf r v a .second)) ek
       (λ (i : ℕ). words-sum 512 (noiseOf p u a .reps) (λ (t : ℕ). total (p .shares) (noiseOf p u a .second i t)))
       (λ (i : ℕ). words-sum 512 (noiseOf r v a .reps) (λ (t : ℕ). total (r .shares) (noiseOf r v a .second i t)))
       (λ (i x : ℕ) (l : i < p .k) (lx : x < 512).
-      second-at u p iu hu a i x la l lx ∙ t .equal p r iu iv a (p .l + i) x la (omega arith) lx
-      ∙ ap (λ (m : ℕ). noiseTotalAt r v a (m + i) x) el ∙ sym (second-at v r iv hv a i x lb (omega (arith, ek)) lx)) in
+      second-at u p iu hu a x lx la i l ∙ t .equal p r iu iv a (p .l + i) x la (omega arith) lx
+      ∙ ap (λ (m : ℕ). noiseTotalAt r v a (m + i) x) el ∙ sym (second-at v r iv hv a x lx lb i (omega (arith, ek)))) in
       cc (first, second)
 
   -- of a known set

@@ -26,7 +26,7 @@ use Rattle.signature.specs.Matrix.{matrix}
 use Rattle.signature.specs.Sign.{Answer, answer, Tapes, noiseSize, noiseFrom, noiseAt}
 use Rattle.signature.specs.SignCalls.{Key, tapesGood, signNo, publicFor, signMade, signGo, signFor, signOf}
 use Rattle.theorems.specs.Plain.{Totals, totalsOf, plainNo, plainMade, plainGo, signPlain}
-use Rattle.theorems.specs.Unit.{Unit, keyOf, tapesOf, signUnit, recordOf, noiseOf, Fits, Sound}
+use Rattle.theorems.specs.Unit.{Unit, keyOf, tapesOf, signUnit, recordOf, Fits}
 use Rattle.theorems.proofs.Checks.{both-true, both-yes, below-all}
 use Rattle.theorems.proofs.Steps.{GoodNoise, collapse}
 
@@ -68,9 +68,12 @@ module _ (p : Params) where
 
 -- ---- the answer
 
--- the unit's secret, and its noise totals in attempt a + 1
+-- the unit's secret; its noise in attempt a + 1, and the totals of it
 abbrev pub secretOf : Params → Unit → List ℕ
 secretOf p u = totals (p .l) (p .shares) (u .words)
+
+abbrev pub noiseOf : Params → Unit → ℕ → Noise
+noiseOf p u a = noiseAt p (tapesOf u) a
 
 abbrev pub noiseTotals : Params → Unit → ℕ → Totals
 noiseTotals p u a = totalsOf p (noiseOf p u a)
@@ -82,10 +85,13 @@ module _ (u : Unit) (p : Params) (is : recordOf u ≡ Selected.Found p) (h : Fit
   pub shares-are : p .shares ≡ u .shares
   shares-are = row .shares-are
 
+  pub uw-low : p .uw ≤ 49
+  uw-low = omega (arith, row .rule .uw-low)
+
   pub good : (a : ℕ) → a < u .attempts → GoodNoise p (noiseOf p u a)
   unfolding noiseAt
   good a l =
-      noise-good p (let z : p .uw ≤ 49 = omega (arith, row .rule .uw-low) in z) (u .attempts) (u .noise) (u .masks) a l (u .explicit) (h .tapes)
+      noise-good p uw-low (u .attempts) (u .noise) (u .masks) a l (u .explicit) (h .tapes)
 
   -- the checks that it passes fall away
   no-plain : signNo p (keyOf u) (u .attempts) (u .message) (tapesOf u) (u .result) (u .work) ≡ plainNo p (u .vk) (u .attempts) (u .message)

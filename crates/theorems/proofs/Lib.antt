@@ -5,6 +5,8 @@ pub mod Checks
 pub mod Collapse
 pub mod Demand3
 pub mod Hint
+pub mod Instances
+pub mod NoiseTotals
 pub mod ShareCount
 pub mod Steps
-pub mod Instances
+pub mod Tape

@@ -1,3 +1,3 @@
+pub mod Instances
 pub mod Plain
 pub mod Unit
-pub mod Instances

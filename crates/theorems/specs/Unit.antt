@@ -2,7 +2,7 @@
 use mathlib.Core.Path.{_≡_}
 use mathlib.Core.Bool.{Bool, true}
 use mathlib.Core.List.{List}
-use Prim.Native.Nat.{ℕ, _+_, _-_, _*_, _%_, _<_}
+use Prim.Native.Nat.{ℕ, _+_, _-_, _*_, _/_, _%_, _<_}
 use lib.Dec.{ltb}
 use lib.ListN.{getD}
 use Rattle.hash.specs.Lists.{pick}
@@ -11,10 +11,10 @@ use Rattle.hash.specs.declared.params.Edition.{Edition}
 use Rattle.hash.specs.declared.params.Params.{Params}
 use Rattle.hash.specs.declared.params.Selected.{Selected}
 use Rattle.ring.specs.Words.{q, Words}
-use Rattle.sharing.specs.Blocks.{sumN}
+use Rattle.sharing.specs.Blocks.{block, sumN}
+use Rattle.sharing.specs.Noise.{sampleU, noiseHeader}
 use Rattle.signature.specs.Checks.{signBuffersSized}
-use Rattle.signature.specs.Masked.{Noise}
-use Rattle.signature.specs.Sign.{Answer, Tapes, noiseAt}
+use Rattle.signature.specs.Sign.{Answer, Tapes}
 use Rattle.signature.specs.SignCalls.{Key, Signing, tapesGood, signOf, signCall}
 
 pub record Unit : Type 0 where
@@ -61,16 +61,26 @@ wordAt u i j x = getD (u .words) (i * (u .shares * 512) + (j * 512 + x)) 0
 unfoldable pub secretAt : Unit → ℕ → ℕ → ℕ
 secretAt u i x = sumN (u .shares) (λ (j : ℕ). wordAt u i j x) % q
 
--- the noise of attempt a + 1, as signing has it; of its l + k polynomials number i, repetition t, all shares
-abbrev pub noiseOf : Params → Unit → ℕ → Noise
-noiseOf p u a = noiseAt p (tapesOf u) a
+-- the noise at coefficient x of share j, repetition t, polynomial i of l + k, in attempt a + 1: a lent word, or a sample of u_w bits from a seed
+-- of kappa bits. Words and seeds stand by attempt, polynomial, repetition, share; the index in a header begins anew behind the first l.
+unfoldable pub lentAt : Params → Unit → ℕ → ℕ → ℕ → ℕ → ℕ
+lentAt p u a i j x = getD (u .noise) (((a * (p .l + p .k) + i) * u .shares + j) * 512 + x) 0
 
-unfoldable pub noiseWords : Params → Unit → ℕ → ℕ → ℕ → List ℕ
-noiseWords p u a i t = pick (ltb i (p .l)) (noiseOf p u a .first i t) (noiseOf p u a .second (i - p .l) t)
+unfoldable pub sampledAt : Params → Unit → ℕ → ℕ → ℕ → ℕ → ℕ → ℕ
+sampledAt p u a i t j x =
+    getD
+    (sampleU (noiseHeader t (pick (ltb i (p .l)) i (i - p .l)) j)
+    (block (p .kappa / 8) (((a * (p .l + p .k) + i) * p .rep + t) * u .shares + j) (u .noise))
+    (p .uw))
+    x
+    0
 
--- the noise total there: the sum modulo q, over repetitions and shares, of the samples, or of the lent words (one repetition)
+-- the noise total there: the sum of the samples over repetitions and shares, or of the lent words over the shares, modulo q
 unfoldable pub noiseTotalAt : Params → Unit → ℕ → ℕ → ℕ → ℕ
-noiseTotalAt p u a i x = sumN (noiseOf p u a .reps) (λ (t : ℕ). sumN (p .shares) (λ (j : ℕ). getD (noiseWords p u a i t) (j * 512 + x) 0)) % q
+noiseTotalAt p u a i x =
+    pick (u .explicit)
+    (sumN (u .shares) (λ (j : ℕ). lentAt p u a i j x) % q)
+    (sumN (p .rep) (λ (t : ℕ). sumN (u .shares) (λ (j : ℕ). sampledAt p u a i t j x)) % q)
 
 -- ---- what demand 3 supposes
 
