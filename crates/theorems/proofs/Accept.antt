@@ -2,47 +2,41 @@
 -- they were written, the response is the one that was added up, and y + h is the rounded commitment, so the challenge hash comes out again.
 use mathlib.Core.Path.{_≡_, refl, sym, ap, _∙_, subst}
 use mathlib.Core.Bool.{Bool, true, false}
-use mathlib.Core.List.{List, [], _∷_}
+use mathlib.Core.List.{List}
 use mathlib.Core.Option.{Option, some, none}
-use Prim.Native.Nat.{ℕ, zero, suc, _+_, _-_, _*_, _/_, _≤_, _<_}
+use Prim.Native.Nat.{ℕ, zero, suc, _+_, _*_, _/_, _<_}
 use native.Mathlib.Omega.{arith}
-use borrow.Author.Tests.{eqb-true, eq-eqb}
+use borrow.Author.Tests.{eq-eqb}
 use lib.Dec.{eqb}
 use lib.IntN.{ℤ}
-use lib.ListN.{length, take, drop}
-use lib.Seq.{length-take-le}
-use Rattle.hash.specs.Lists.{pick, Bytes}
-use Rattle.hash.specs.Params.{lookupOf}
-use Rattle.hash.specs.declared.params.Edition.{Edition}
+use lib.ListN.{length}
+use Rattle.hash.specs.Lists.{pick}
 use Rattle.hash.specs.declared.params.Params.{Params}
-use Rattle.hash.specs.declared.params.Selected.{Selected}
 use Rattle.hash.proofs.Output.{output-length, output-bytes}
-use Rattle.hash.proofs.Rows.{found}
 use Rattle.ring.specs.Words.{q, subq, Words}
 use Rattle.ring.specs.Transform.{mul}
 use Rattle.ring.specs.Round.{roundW, scaledT, residues}
 use Rattle.ring.proofs.Sums.{length-zip}
-use Rattle.sharing.specs.Blocks.{block, build, sumOf, totals}
+use Rattle.sharing.specs.Blocks.{block, totals}
 use Rattle.sharing.specs.declared.masks.MaskGen.{MaskGen}
 use Rattle.sharing.proofs.Decode.{words-sum, totals-words}
 use Rattle.sharing.proofs.Lists.{length-build}
 use Rattle.signature.specs.Bounds.{checkBounds}
 use Rattle.signature.specs.Challenge.{chalHash, chalPoly}
-use Rattle.signature.specs.Checks.{ask, both, publicKeySized, publicKeyGood, attemptsAllowed, messageSized, signBuffersSized, sameBytes, properForm}
-use Rattle.signature.specs.Form.{Fields, hashBytes, write, read}
-use Rattle.signature.specs.Keys.{seedBytes, vkSeed, vkVector}
+use Rattle.signature.specs.Checks.{ask, publicKeySized, publicKeyGood, attemptsAllowed, messageSized, properForm}
+use Rattle.signature.specs.Form.{Fields, write, read}
+use Rattle.signature.specs.Keys.{vkSeed}
 use Rattle.signature.specs.Masked.{Noise, maskedImage}
 use Rattle.signature.specs.Matrix.{matrix}
-use Rattle.signature.specs.Recover.{productRow, recoveredRow, recovered, centredAll, hintOf, adjusted, muOf}
+use Rattle.signature.specs.Recover.{productRow, recoveredRow, recovered, hintOf, adjusted}
 use Rattle.signature.specs.Sign.{Public, Attempted, Answer, Tapes, signedFields, wrote, finished, challenged, concluded, refreshedKey, refreshedResponse, attempted, noiseAt, maskAt, ended, signFrom}
 use Rattle.signature.specs.Sign.Attempted.{made, over, stuck}
-use Rattle.signature.specs.SignCalls.{Key, keySized, keyGood, sharesGood, publicOf, sharesOf, tapesGood, signNo, publicFor, signMade, signGo, signFor, signOf}
-use Rattle.signature.specs.SignCalls.Key.{packed, expanded}
-use Rattle.signature.specs.Verify.{recomputed, verifyChallenge, verifyMatrix, verifyFields, verifyOf, verifyCall}
+use Rattle.signature.specs.SignCalls.{publicFor}
+use Rattle.signature.specs.Verify.{recomputed, verifyChallenge, verifyFields, verifyOf}
 use Rattle.signature.proofs.Canonical.{Sized, write-read, write-length}
 use Rattle.theorems.specs.Plain.{plainNo}
 use Rattle.theorems.proofs.Checks.{passed, same-bytes}
-use Rattle.theorems.proofs.ShareCount.{setOf, single, k-same, l-same, concluded-same, public-same, matrix-same, no-same}
+use Rattle.theorems.proofs.ShareCount.{setOf, k-same, l-same, concluded-same, public-same}
 use Rattle.theorems.proofs.Hint.{residues-centred, length-rounded, length-centred, length-hint, hint-back}
 
 -- k rows of 512 words

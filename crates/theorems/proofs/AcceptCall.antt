@@ -1,9 +1,9 @@
 -- The verifier accepts what a signing call answers with 0, of a signing key as of an expanded key. Nothing is supposed but the 0.
 use mathlib.Core.Path.{_≡_, refl, sym, ap, _∙_}
-use mathlib.Core.Bool.{Bool, true, false}
-use mathlib.Core.List.{List, [], _++_}
+use mathlib.Core.Bool.{true}
+use mathlib.Core.List.{List}
 use mathlib.Core.Option.{Option, some, none}
-use Prim.Native.Nat.{ℕ, zero, suc, _+_, _-_, _*_, _/_, _≤_}
+use Prim.Native.Nat.{ℕ, zero, suc, _+_, _*_, _≤_}
 use native.Mathlib.Omega.{arith}
 use borrow.Author.Tests.{eqb-true, eq-eqb}
 use lib.ListN.{length, take, drop}
@@ -15,17 +15,17 @@ use Rattle.hash.specs.declared.params.Selected.{Selected}
 use Rattle.hash.proofs.Rows.{Rule, found}
 use Rattle.ring.specs.Words.{allBelow}
 use Rattle.signature.specs.Bits.{repack}
-use Rattle.signature.specs.Checks.{ask, both, publicKeySized, publicKeyGood, attemptsAllowed, messageSized, signBuffersSized}
+use Rattle.signature.specs.Checks.{publicKeySized, publicKeyGood}
 use Rattle.signature.specs.Keys.{seedBytes, vkSeed, vkVector}
 use Rattle.signature.specs.Matrix.{matrix}
 use Rattle.signature.specs.Sign.{Answer, Tapes, signFrom}
-use Rattle.signature.specs.SignCalls.{Key, keySized, keyGood, sharesGood, publicOf, sharesOf, tapesGood, signNo, publicFor, signMade, signGo, signFor, signOf}
+use Rattle.signature.specs.SignCalls.{Key, keySized, keyGood, publicOf, sharesOf, signNo, publicFor, signMade, signGo, signFor, signOf}
 use Rattle.signature.specs.SignCalls.Key.{packed, expanded}
 use Rattle.signature.specs.Verify.{verifyOf, verifyCall}
 use Rattle.theorems.specs.Plain.{plainNo}
-use Rattle.theorems.proofs.Checks.{passed, both-true}
+use Rattle.theorems.proofs.Checks.{both-true, AllPassed, all-passed}
 use Rattle.theorems.proofs.ShareCount.{Single, single, matrix-same, no-same}
-use Rattle.theorems.proofs.Accept.{Good, verify-good, from-good}
+use Rattle.theorems.proofs.Accept.{verify-good, from-good}
 
 -- ---- the public key of a key that passed checks 3 and 4 passes them
 
@@ -51,24 +51,12 @@ module _ (p : Params) (r : Rule p) where
   good-public (expanded vk words) s e = e
 
   no-public : (key : Key) (n : ℕ) (msg : List ℕ) (T : Tapes) (out work : List ℕ) → signNo p key n msg T out work ≡ 0 → plainNo p (publicOf p key) n msg ≡ 0
-  unfolding signNo plainNo
+  unfolding plainNo
   no-public key n msg T out work e =
-      let n9 : ℕ = ask 9 (messageSized msg) 0 in
-      let n8 : ℕ = ask 8 (signBuffersSized p out work) n9 in
-      let n7 : ℕ = ask 7 (tapesGood p n T) n8 in
-      let n6 : ℕ = ask 6 (attemptsAllowed n) n7 in
-      let n5 : ℕ = ask 5 (sharesGood p key) n6 in
-      let n4 : ℕ = ask 4 (keyGood p key) n5 in
-      let a3 : (keySized p key ≡ true) × (n4 ≡ 0) = passed (keySized p key) n4 2 e in
-      let a4 : (keyGood p key ≡ true) × (n5 ≡ 0) = passed (keyGood p key) n5 3 (a3 .1) in
-      let a5 : (sharesGood p key ≡ true) × (n6 ≡ 0) = passed (sharesGood p key) n6 4 (a4 .1) in
-      let a6 : (attemptsAllowed n ≡ true) × (n7 ≡ 0) = passed (attemptsAllowed n) n7 5 (a5 .1) in
-      let a7 : (tapesGood p n T ≡ true) × (n8 ≡ 0) = passed (tapesGood p n T) n8 6 (a6 .1) in
-      let a8 : (signBuffersSized p out work ≡ true) × (n9 ≡ 0) = passed (signBuffersSized p out work) n9 7 (a7 .1) in
-      let a9 : (messageSized msg ≡ true) × (_≡_ {A = ℕ} 0 0) = passed (messageSized msg) 0 8 (a8 .1) in
-      let s : publicKeySized p (publicOf p key) ≡ true = sized-public key (a3 .0) in
-      let g : publicKeyGood p (publicOf p key) ≡ true = good-public key (a3 .0) (a4 .0) in
-      rw (s, g, a6 .0, a9 .0) refl
+      let a : AllPassed p key n msg T out work = all-passed p key n msg T out work e in
+      let s : publicKeySized p (publicOf p key) ≡ true = sized-public key (a .sized) in
+      let g : publicKeyGood p (publicOf p key) ≡ true = good-public key (a .sized) (a .good) in
+      rw (s, g, a .attempts, a .message) refl
 
 -- ---- the call
 

@@ -1,26 +1,26 @@
 -- Agreement: two units with equal sums at every coefficient have the same secret and the same noise totals, so that they answer alike.
-use mathlib.Core.Path.{_≡_, refl, sym, ap, _∙_, subst}
+use mathlib.Core.Path.{_≡_, refl, sym, ap, _∙_}
 use mathlib.Core.Bool.{Bool, true, false}
-use mathlib.Core.List.{List, []}
+use mathlib.Core.List.{List}
 use mathlib.Core.Option.{Option, some, none}
-use Prim.Native.Nat.{ℕ, zero, suc, _+_, _-_, _*_, _%_, _≤_, _<_}
+use Prim.Native.Nat.{ℕ, zero, suc, _+_, _*_, _%_, _<_}
 use native.Mathlib.Omega.{arith}
 use lib.Dec.{eqb}
 use lib.ListN.{getD}
 use Rattle.hash.specs.Lists.{pick}
-use Rattle.hash.specs.Params.{setIndex, orderIndex, rowAt, paramsOf, lookupOf}
+use Rattle.hash.specs.Params.{setIndex, orderIndex, rowAt, paramsOf}
 use Rattle.hash.specs.declared.params.Params.{Params}
 use Rattle.hash.specs.declared.params.Selected.{Selected}
 use Rattle.ring.specs.Words.{q, Words}
 use Rattle.ring.proofs.Sums.{same-residues}
-use Rattle.sharing.specs.Blocks.{block, build, sumN, sumOf, total, totals}
+use Rattle.sharing.specs.Blocks.{block, build, sumN, total, totals}
 use Rattle.sharing.proofs.Decode.{words-sum, total-words, total-at, sumN-ext}
 use Rattle.sharing.proofs.Lists.{block-words, block-at, build-ext}
 use Rattle.signature.specs.Keys.{vkSeed}
 use Rattle.signature.specs.Matrix.{matrix}
-use Rattle.signature.specs.Sign.{Public, Answer, ended}
+use Rattle.signature.specs.Sign.{Public}
 use Rattle.signature.specs.SignCalls.{publicFor}
-use Rattle.theorems.specs.Plain.{Totals, noiseTotal, totalsOf, plainAttempt, plainFrom, plainNo, plainMade, plainGo, signPlain}
+use Rattle.theorems.specs.Plain.{Totals, noiseTotal, totalsOf, plainFrom, plainNo, plainMade, plainGo, signPlain}
 use Rattle.theorems.specs.Unit.{Unit, signUnit, recordOf, wordAt, secretAt, noiseTotalAt, Fits, Sound, Alike, SameSecret, EqualTotals}
 use Rattle.theorems.proofs.ShareCount.{setOf, found-set, look-up, k-same, l-same, plain-same}
 use Rattle.theorems.proofs.Collapse.{secretOf, noiseOf, noiseTotals, shares-are, sign-plain, sign-unknown}
@@ -41,7 +41,7 @@ module _ (u : Unit) (p : Params) (is : recordOf u ≡ Selected.Found p) (h : Fit
   secret-at : (i x : ℕ) → i < p .l → x < 512 → getD (total (p .shares) (block (p .shares * 512) i (u .words))) x 0 ≡ secretAt u i x
   unfolding secretAt wordAt
   secret-at i x li lx =
-      total-words-at (p .shares) (p .l) i (u .words) (h .shareWords) li x lx
+      total-words-at (p .shares) (p .l) i (u .words) (h .share-words) li x lx
       ∙ ap (λ (d : ℕ). sumN d (λ (j : ℕ). getD (u .words) (i * (d * 512) + (j * 512 + x)) 0) % q) (shares-are u p is h)
 
 -- ---- plain signing looks only at the totals of the allowed attempts
@@ -79,9 +79,9 @@ module _ (u v : Unit) (p r : Params) (iu : recordOf u ≡ Selected.Found p) (iv 
     (hu : Fits p u) (hv : Fits r v) (al : Alike u v) where
   one-set : setOf p ≡ setOf r
   one-set =
-      found-set (u .set) (u .shares) (u .edition) p iu .1
+      found-set (u .set) (u .shares) (u .edition) p iu .first-row
       ∙ cc (al .sets, al .editions)
-      ∙ sym (found-set (v .set) (v .shares) (v .edition) r iv .1)
+      ∙ sym (found-set (v .set) (v .shares) (v .edition) r iv .first-row)
 
   secret-same : SameSecret u v → secretOf p u ≡ secretOf r v
   unfolding totals

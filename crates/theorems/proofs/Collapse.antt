@@ -10,7 +10,7 @@ use borrow.Author.Tests.{eqb-true, eq-eqb}
 use lib.Dec.{eqb}
 use lib.ListN.{length, drop}
 use Rattle.hash.specs.Lists.{pick}
-use Rattle.hash.specs.Params.{orderIndex, lookupOf}
+use Rattle.hash.specs.Params.{orderIndex}
 use Rattle.hash.specs.declared.params.Params.{Params}
 use Rattle.hash.specs.declared.params.Selected.{Selected}
 use Rattle.hash.proofs.Rows.{Row, found}
@@ -19,12 +19,12 @@ use Rattle.ring.proofs.Sums.{all-below, residues-drop}
 use Rattle.sharing.specs.Blocks.{block, totals}
 use Rattle.sharing.proofs.Lists.{block-words}
 use Rattle.sharing.proofs.Samples.{seedNoise-words, explicitNoise-words}
-use Rattle.signature.specs.Checks.{both, publicKeySized, shareWordsGood, signSeedsSized, signNoiseGood, signBuffersSized}
+use Rattle.signature.specs.Checks.{both, signSeedsSized, signNoiseGood, signBuffersSized}
 use Rattle.signature.specs.Keys.{vkSeed}
 use Rattle.signature.specs.Masked.{Noise, seeded, explicit}
 use Rattle.signature.specs.Matrix.{matrix}
-use Rattle.signature.specs.Sign.{Answer, answer, Tapes, noiseSize, noiseFrom, noiseAt}
-use Rattle.signature.specs.SignCalls.{Key, tapesGood, signNo, publicFor, signMade, signGo, signFor, signOf}
+use Rattle.signature.specs.Sign.{answer, noiseSize, noiseFrom, noiseAt}
+use Rattle.signature.specs.SignCalls.{tapesGood, signNo, publicFor, signMade, signGo, signFor, signOf}
 use Rattle.theorems.specs.Plain.{Totals, totalsOf, plainNo, plainMade, plainGo, signPlain}
 use Rattle.theorems.specs.Unit.{Unit, keyOf, tapesOf, signUnit, recordOf, Fits}
 use Rattle.theorems.proofs.Checks.{both-true, both-yes, below-all}
@@ -97,8 +97,8 @@ module _ (u : Unit) (p : Params) (is : recordOf u ≡ Selected.Found p) (h : Fit
   no-plain : signNo p (keyOf u) (u .attempts) (u .message) (tapesOf u) (u .result) (u .work) ≡ plainNo p (u .vk) (u .attempts) (u .message)
   unfolding signNo plainNo
   no-plain =
-      let e3 : eqb (length (u .words)) (p .l * (p .shares * 512)) ≡ true = eq-eqb _ _ (h .shareWords .long) in
-      let e5 : allBelow q (u .words) ≡ true = below-all q (u .words) (h .shareWords .low) in
+      let e3 : eqb (length (u .words)) (p .l * (p .shares * 512)) ≡ true = eq-eqb _ _ (h .share-words .long) in
+      let e5 : allBelow q (u .words) ≡ true = below-all q (u .words) (h .share-words .low) in
       let e7 : tapesGood p (u .attempts) (tapesOf u) ≡ true = h .tapes in
       let e8 : signBuffersSized p (u .result) (u .work) ≡ true = h .buffers in
       rw (e3, e5, e7, e8, both-yes) refl
@@ -108,7 +108,7 @@ module _ (u : Unit) (p : Params) (is : recordOf u ≡ Selected.Found p) (h : Fit
   made-plain none = refl
   made-plain (some A) =
       collapse p (subst (λ (x : ℕ). x ≡ 2 ^ orderIndex x) (sym shares-are) (row .power)) (publicFor p (u .vk) (u .message) A) (tapesOf u) (u .attempts) 0
-      (λ (b : ℕ) (l : b < 0 + u .attempts). good b (omega arith)) (u .words) (h .shareWords)
+      (λ (b : ℕ) (l : b < 0 + u .attempts). good b (omega arith)) (u .words) (h .share-words)
 
   go-plain : (m : ℕ) → signGo m p (keyOf u) (u .attempts) (u .message) (tapesOf u)
       ≡ plainGo m p (u .vk) (u .attempts) (u .message) (secretOf p u) (noiseTotals p u)

@@ -1,10 +1,8 @@
 -- Demand 3 of paper 01, over the definitions that the contracts of the calls cite.
 use mathlib.Core.Path.{_≡_, refl, sym, ap, _∙_}
-use mathlib.Core.Bool.{true}
 use mathlib.Core.List.{List}
 use Prim.Native.Nat.{ℕ}
 use borrow.Author.Tests.{eq-eqb}
-use lib.Dec.{eqb}
 use lib.ListN.{take}
 use Rattle.hash.specs.Lists.{pick}
 use Rattle.hash.specs.Params.{lookupOf}
@@ -14,7 +12,7 @@ use Rattle.hash.specs.declared.params.Selected.{Selected}
 use Rattle.signature.specs.Sign.{Answer, Tapes}
 use Rattle.signature.specs.SignCalls.{Key, Signing, leftBy, signOf, signCall}
 use Rattle.signature.specs.Verify.{verifyCall}
-use Rattle.theorems.specs.Unit.{Unit, keyOf, tapesOf, signUnit, callUnit, Sound, Alike, SameSecret, EqualTotals}
+use Rattle.theorems.specs.Unit.{Unit, tapesOf, signUnit, callUnit, Sound, Alike, SameSecret, EqualTotals}
 use Rattle.theorems.proofs.Agree.{answers-agree}
 use Rattle.theorems.proofs.AcceptCall.{known-accepted, found-with}
 

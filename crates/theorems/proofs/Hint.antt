@@ -1,13 +1,13 @@
 -- The hint (000, Algorithm 2 line 18, Algorithm 3 line 7): residues undo centred values, so that the verifier's y + h is the signer's rounded w.
-use mathlib.Core.Path.{_≡_, refl, sym, ap, _∙_}
+use mathlib.Core.Path.{_≡_, refl, ap, _∙_}
 use mathlib.Core.Bool.{Bool, true, false}
 use mathlib.Core.List.{List, [], _∷_}
-use Prim.Native.Nat.{ℕ, zero, suc, _+_, _-_, _*_, _/_, _%_, _^_, _<_}
+use Prim.Native.Nat.{ℕ, zero, suc, _+_, _-_, _/_, _%_, _^_, _<_}
 use native.Mathlib.Nat.{mod-lt, mod-eq-of-lt}
 use native.Mathlib.Omega.{arith}
 use borrow.Author.Tests.{leb-false}
 use lib.Dec.{leb, lit<}
-use lib.IntN.{ℤ, pos, negsuc, negℤ}
+use lib.IntN.{pos, negℤ}
 use lib.ListN.{length}
 use Rattle.ring.specs.Words.{q, Below, zipTo}
 use Rattle.ring.specs.Round.{mapN, rounded, roundW, centred, residue, residues}

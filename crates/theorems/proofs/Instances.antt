@@ -1,11 +1,11 @@
 -- The worked instances P1 to P12 of paper 01 as one theorem, and its limits as another.
-use mathlib.Core.Path.{_≡_, refl, ap, _∙_}
-use mathlib.Core.Bool.{Bool, true, false}
+use mathlib.Core.Path.{_≡_, refl, ap}
+use mathlib.Core.Bool.{Bool}
 use mathlib.Core.List.{List}
 use Prim.Native.Nat.{ℕ, _-_, _≤_, _<_}
 use native.Mathlib.Omega.{arith}
 use borrow.Author.Tests.{le-leb, lt-leb}
-use lib.Dec.{leb, lit<}
+use lib.Dec.{lit<}
 use lib.ListN.{length, getD, drop}
 use Rattle.hash.specs.declared.params.Params.{Params}
 use Rattle.hash.proofs.Worked.{p11-small, p11-large}

@@ -8,5 +8,6 @@ pub mod Hint
 pub mod Instances
 pub mod NoiseTotals
 pub mod ShareCount
+pub mod Sound
 pub mod Steps
 pub mod Tape

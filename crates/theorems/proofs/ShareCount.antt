@@ -4,7 +4,7 @@ use mathlib.Core.Path.{_≡_, refl, sym, ap, _∙_, subst}
 use mathlib.Core.Bool.{Bool, true, false}
 use mathlib.Core.List.{List, [], _∷_}
 use mathlib.Core.Option.{Option, some, none}
-use Prim.Native.Nat.{ℕ, zero, suc, _+_, _*_, _/_, _%_, _<_}
+use Prim.Native.Nat.{ℕ, zero, suc, _+_, _*_, _/_, _<_}
 use native.Mathlib.Omega.{arith}
 use borrow.Author.Tests.{eqb-false, eqb-true}
 use lib.Dec.{T, eqb, eqb→eq}
@@ -24,7 +24,7 @@ use Rattle.signature.specs.Form.{write}
 use Rattle.signature.specs.Keys.{vkSeed, vkVector}
 use Rattle.signature.specs.Matrix.{matrix}
 use Rattle.signature.specs.Recover.{recovered, keyHash, muOf}
-use Rattle.signature.specs.Sign.{Public, Attempted, Answer, ended, signedFields, finished, challenged, concluded}
+use Rattle.signature.specs.Sign.{Public, signedFields, finished, challenged, concluded}
 use Rattle.signature.specs.SignCalls.{publicFor}
 use Rattle.theorems.specs.Plain.{Totals, plainCommitment, plainResponse, plainAttempt, plainFrom, plainNo, plainMade, plainGo, signPlain}
 
@@ -92,22 +92,28 @@ row-set s o e hs ho =
 
 -- ---- the look-up, by cases of the set and of the share count
 
--- of the first row of its set
-pub found-set : (set d : ℕ) (e : Edition) (p : Params) → lookupOf set d e ≡ Selected.Found p
-    → (eqb (setIndex set) 3 ≡ false) × (setOf p ≡ setOf (paramsOf (rowAt (6 * setIndex set)) e))
+-- a record that was found: the set is known, the share count is one of the six, and the rest is that of the first row of its set
+pub record OfSet (set d : ℕ) (e : Edition) (p : Params) : Type 0 where
+  pub known : eqb (setIndex set) 3 ≡ false
+  pub six : orderIndex d < 6
+  pub first-row : setOf p ≡ setOf (paramsOf (rowAt (6 * setIndex set)) e)
+
+pub found-set : (set d : ℕ) (e : Edition) (p : Params) → lookupOf set d e ≡ Selected.Found p → OfSet set d e p
 unfolding lookupOf
-found-set set d e p h = go (eqb (setIndex set) 3) (eqb (orderIndex d) 6) (eqb-false (setIndex set) 3) (eqb-false (orderIndex d) 6) h
+found-set set d e p h =
+    let g = go (eqb (setIndex set) 3) (eqb (orderIndex d) 6) (eqb-false (setIndex set) 3) (eqb-false (orderIndex d) 6) h in
+    record { known = g .0; six = g .1 .0; first-row = g .1 .1 }
   where
     go : (a b : Bool) → (a ≡ false → setIndex set ≡ 3 → ⊥) → (b ≡ false → orderIndex d ≡ 6 → ⊥)
         → pick a Selected.NoSet (pick b Selected.NoShares (Selected.Found (paramsOf (rowAt (6 * setIndex set + orderIndex d)) e))) ≡ Selected.Found p
-        → (a ≡ false) × (setOf p ≡ setOf (paramsOf (rowAt (6 * setIndex set)) e))
+        → (a ≡ false) × ((orderIndex d < 6) × (setOf p ≡ setOf (paramsOf (rowAt (6 * setIndex set)) e)))
     go true b f g x = let z : _≡_ {A = ℕ} 0 1 = cc in absurd (omega arith)
     go false true f g x = let z : _≡_ {A = ℕ} 0 1 = cc in absurd (omega arith)
     go false false f g x =
         let y : paramsOf (rowAt (6 * setIndex set + orderIndex d)) e ≡ p = cc in
         let ls : setIndex set < 3 = omega (arith, set-le set, f refl) in
         let lo : orderIndex d < 6 = omega (arith, order-le d, g refl) in
-        (refl, ap setOf (sym y) ∙ row-set (setIndex set) (orderIndex d) e ls lo)
+        (refl, (lo, ap setOf (sym y) ∙ row-set (setIndex set) (orderIndex d) e ls lo))
 
 -- what a look-up with one of the six share counts gives: 1 where the set is unknown, whatever the count
 pub look-up : (set d : ℕ) (e : Edition) → orderIndex d < 6
@@ -132,8 +138,8 @@ single set d e p h =
     let a = found-set set d e p h in
     let r : Params = paramsOf (rowAt (6 * setIndex set + 0)) e in
     let i : lookupOf set 1 e ≡ Selected.Found (paramsOf (rowAt (6 * setIndex set + 0)) e) =
-    look-up set 1 e (omega arith) ∙ ap (λ (b : Bool). pick b Selected.NoSet (Selected.Found (paramsOf (rowAt (6 * setIndex set + 0)) e))) (a .0) in
-    record { one = r; is = i; same = a .1 ∙ sym (found-set set 1 e r i .1) }
+    look-up set 1 e (omega arith) ∙ ap (λ (b : Bool). pick b Selected.NoSet (Selected.Found (paramsOf (rowAt (6 * setIndex set + 0)) e))) (a .known) in
+    record { one = r; is = i; same = a .first-row ∙ sym (found-set set 1 e r i .first-row) }
 
 -- ---- what looks at the rest of the record only
 

@@ -10,18 +10,18 @@ use Rattle.ring.specs.Words.{addW, Words, Linear}
 use Rattle.ring.specs.Transform.{intt, mul}
 use Rattle.ring.proofs.Sums.{words-add}
 use Rattle.ring.proofs.Theorems.{intt-linear, mul-linear}
-use Rattle.sharing.specs.Blocks.{zeros, block, build, sumOf, total, totals, each}
+use Rattle.sharing.specs.Blocks.{block, build, total, totals, each}
 use Rattle.sharing.specs.Encoding.{skip, zeroVector}
 use Rattle.sharing.specs.Masks.{masks}
 use Rattle.sharing.specs.declared.masks.MaskGen.{MaskGen}
 use Rattle.sharing.proofs.Carry.{mask-low}
-use Rattle.sharing.proofs.Decode.{words-sum, sum-ext, linear-sum, linear-then, total-words, total-linear, totals-build, block-totals}
+use Rattle.sharing.proofs.Decode.{words-sum, sum-ext, linear-sum, linear-then, total-linear, totals-build, block-totals}
 use Rattle.sharing.proofs.Lists.{add-zeros-left, block-words, block-build, build-ext, words-build}
 use Rattle.sharing.proofs.Totals.{each-words, each-total, zeroNo-total, refreshed-words, refreshed-totals, noise-words, noise-totals, zeroVector-words, zeroVector-block}
 use Rattle.signature.specs.Masked.{Noise, maskedRow, maskedProduct, maskedNoise, beforeProduct, behindProduct, maskedImage}
 use Rattle.signature.specs.Recover.{productRow}
-use Rattle.signature.specs.Sign.{Public, Attempted, Answer, Tapes, concluded, maskedResponse, refreshedKey, refreshedNoise, refreshedResponse, attempted, noiseAt, maskAt, ended, signFrom}
-use Rattle.theorems.specs.Plain.{Totals, noiseTotal, totalsOf, plainCommitment, plainResponse, plainAttempt, plainFrom}
+use Rattle.signature.specs.Sign.{Public, Tapes, concluded, maskedResponse, refreshedKey, refreshedNoise, refreshedResponse, attempted, noiseAt, maskAt, signFrom}
+use Rattle.theorems.specs.Plain.{noiseTotal, totalsOf, plainCommitment, plainResponse, plainAttempt, plainFrom}
 
 -- noise of words below q
 pub record GoodNoise (p : Params) (N : Noise) : Type 0 where

@@ -1,10 +1,10 @@
 -- The noise that an attempt has (Masked: seeded, explicit) at its places in the unit's tape: word by word and seed by seed.
-use mathlib.Core.Path.{_≡_, refl, sym, ap, _∙_}
+use mathlib.Core.Path.{_≡_, sym, ap, _∙_}
 use mathlib.Core.List.{List}
-use Prim.Native.Nat.{ℕ, _+_, _-_, _*_, _/_, _≤_, _<_}
+use Prim.Native.Nat.{ℕ, _+_, _*_, _/_, _≤_, _<_}
 use native.Mathlib.Omega.{arith}
 use lib.ListN.{getD, take, drop}
-use lib.Seq.{drop-drop, getD-drop}
+use lib.Seq.{drop-drop}
 use Rattle.hash.specs.declared.params.Params.{Params}
 use Rattle.sharing.specs.Blocks.{block, build}
 use Rattle.sharing.specs.Noise.{sampleU, noiseHeader, seedNoise, explicitNoise, noiseBytes}
@@ -12,7 +12,7 @@ use Rattle.sharing.specs.Region.{sub}
 use Rattle.sharing.proofs.Lists.{inside, block-at, block-build}
 use Rattle.sharing.proofs.Regions.{block-sub}
 use Rattle.sharing.proofs.Samples.{sampleU-words}
-use Rattle.signature.specs.Masked.{Noise, seeded, explicit}
+use Rattle.signature.specs.Masked.{seeded, explicit}
 
 -- block i of the m that block a is
 block-block : (w m a i : ℕ) (xs : List ℕ) → i < m → block w i (block (m * w) a xs) ≡ block w (a * m + i) xs

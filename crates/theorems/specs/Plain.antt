@@ -1,7 +1,6 @@
 -- Plain signing: Algorithm 2 of paper 000 on sums. One secret instead of d shares, the totals of the noise instead of its shares, no masking.
 -- From line 9 on it is the text of signing itself (`concluded`). Of the record of the parameter table it looks at nothing that depends on the
 -- share count.
-use mathlib.Core.Bool.{Bool}
 use mathlib.Core.List.{List, []}
 use mathlib.Core.Option.{Option, some, none}
 use Prim.Native.Nat.{ℕ, zero, suc}

@@ -86,7 +86,7 @@ noiseTotalAt p u a i x =
 
 -- an expanded key of the call's own set and share count, every share word below q; noise, mask seeds and buffers that checks 7 and 8 pass
 pub record Fits (p : Params) (u : Unit) : Type 0 where
-  pub shareWords : Words (p .l * (p .shares * 512)) (u .words)
+  pub share-words : Words (p .l * (p .shares * 512)) (u .words)
   pub tapes : tapesGood p (u .attempts) (tapesOf u) ≡ true
   pub buffers : signBuffersSized p (u .result) (u .work) ≡ true
 
