@@ -74,7 +74,6 @@ module _ (e : Edition) (set d : ℕ) (p : Params) (is : lookupOf set d e ≡ Sel
   made-accepted vk msg T n none s z eA h = absurd (omega arith)
   made-accepted vk msg T n (some A) none z eA h = absurd (omega arith)
   made-accepted vk msg T n (some A) (some s) z eA h =
-      let r : Params = one .one in
       let m : matrix (one .one) (vkSeed (one .one) vk) ≡ some A = sym (matrix-same p (one .one) (one .same) vk) ∙ eA in
       call-is e set (one .one) vk msg (signFrom p (publicFor p vk msg A) T n 0 s .signature) (one .is)
       ∙ verify-good (one .one) vk msg A m n (signFrom p (publicFor p vk msg A) T n 0 s .signature) (sym (no-same p (one .one) (one .same) vk n msg) ∙ z)

@@ -83,7 +83,6 @@ module _ (d l : ℕ) (c s r : List ℕ) (ws : Words (l * (d * 512)) s) (wr : Wor
       totals-build l d one (λ (i : ℕ) (h : i < l). one-words i h .long)
       ∙ build-ext l (λ (i : ℕ). total d (one i)) (λ (i : ℕ). addW (mul c (intt (block 512 i (totals l d s)))) (block 512 i (totals l d r)))
       (λ (i : ℕ) (h : i < l).
-      let e : List ℕ = each d (λ (x : List ℕ). mul c (intt x)) (block (d * 512) i s) in
       let ps : Words (d * 512) (block (d * 512) i s) = block-words l i s ws h in
       let pr : Words (d * 512) (block (d * 512) i r) = block-words l i r wr h in
       let e1 : total d (one i) ≡ addW (total d (each d (λ (x : List ℕ). mul c (intt x)) (block (d * 512) i s))) (total d (block (d * 512) i r)) =
@@ -170,8 +169,6 @@ module _ (p : Params) (power : p .shares ≡ 2 ^ orderIndex (p .shares)) where
       z-totals : (c : List ℕ) → totals l d (refreshedResponse p N g s c) ≡ plainResponse p (totals l d s) (totalsOf p N) c
       unfolding refreshedResponse plainResponse
       z-totals c =
-          let S : List ℕ = refreshedKey p N g s in
-          let R : List ℕ = refreshedNoise p N g in
           refreshed-totals masks mask-low d power l (maskedResponse d l c (refreshedKey p N g s) (refreshedNoise p N g))
           (response-words d l c (refreshedKey p N g s) (refreshedNoise p N g) s-words r2-words) (skip masks d (behindProduct p N + l + l) g)
           ∙ response-totals d l c (refreshedKey p N g s) (refreshedNoise p N g) s-words r2-words
