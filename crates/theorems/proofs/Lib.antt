@@ -4,6 +4,7 @@ pub mod Agree
 pub mod Checks
 pub mod Collapse
 pub mod Demand3
+pub mod Exactly
 pub mod Hint
 pub mod Instances
 pub mod NoiseTotals

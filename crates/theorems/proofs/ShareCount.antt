@@ -23,7 +23,7 @@ use Rattle.signature.specs.Challenge.{chalHash, chalPoly}
 use Rattle.signature.specs.Form.{write}
 use Rattle.signature.specs.Keys.{vkSeed, vkVector}
 use Rattle.signature.specs.Matrix.{matrix}
-use Rattle.signature.specs.Recover.{recovered, keyHash, muOf}
+use Rattle.signature.specs.Recover.{recovered}
 use Rattle.signature.specs.Sign.{Public, signedFields, finished, challenged, concluded}
 use Rattle.signature.specs.SignCalls.{publicFor}
 use Rattle.theorems.specs.Plain.{Totals, plainCommitment, plainResponse, plainAttempt, plainFrom, plainNo, plainMade, plainGo, signPlain}
@@ -164,7 +164,7 @@ module _ (p : Params) where
   from-set P e (suc left) a s = cc (attempt-set P s (e a), from-set P e left (suc a) s)
 
   public-set : (vk msg A : List ℕ) → publicFor p vk msg A ≡ publicFor (setOf p) vk msg A
-  unfolding vkVector muOf keyHash
+  unfolding vkVector
   public-set vk msg A = refl
 
   matrix-set : (vk : List ℕ) → matrix p (vkSeed p vk) ≡ matrix (setOf p) (vkSeed (setOf p) vk)
