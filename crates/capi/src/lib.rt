@@ -4,6 +4,7 @@ ghost use Rattle.hash.specs.declared.params.Edition.{Edition};
 ghost use Rattle.ring.specs.Uniform.{sampledOf};
 ghost use Rattle.signature.specs.Challenge.{sampledChallenge};
 ghost use Rattle.signature.specs.KeyCalls.{outcome, keygenCall, expandCall, refreshCall};
+ghost use Rattle.signature.specs.Verify.{verifyCall};
 
 // Key generation (01: key making): checks 1, 2, 7, 8 and 10.
 #[no_mangle]
@@ -114,6 +115,44 @@ pub extern "C" fn raccoon_refresh_key(
         mask_seed,
         bytes_out,
         words_out,
+    )
+}
+
+// Verifying: checks 1, 3, 4, 9, 13, 14, 15, 10, 11 and 16.
+#[no_mangle]
+pub extern "C" fn raccoon_verify(
+    set: u32,
+    public_key: &[u8],
+    message: &[u8],
+    signature: &[u8],
+) -> u32
+    ensures { λ r. ⌜ r ≡ verifyCall Edition.Printed set (now («public_key» .entry)) (now (message .entry)) (now (signature .entry)) ⌝ }
+{
+    signature::verify::verify(
+        set as u64,
+        hash::params::Edition::Printed,
+        public_key,
+        message,
+        signature,
+    )
+}
+
+// The same for a signature of the response files.
+#[no_mangle]
+pub extern "C" fn raccoon_kat_verify(
+    set: u32,
+    public_key: &[u8],
+    message: &[u8],
+    signature: &[u8],
+) -> u32
+    ensures { λ r. ⌜ r ≡ verifyCall Edition.Kat set (now («public_key» .entry)) (now (message .entry)) (now (signature .entry)) ⌝ }
+{
+    signature::verify::verify(
+        set as u64,
+        hash::params::Edition::Kat,
+        public_key,
+        message,
+        signature,
     )
 }
 
