@@ -1,17 +1,20 @@
 -- The first n words of a local array: written there as a part, and read back.
 use mathlib.Core.Path.{_≡_, sym, ap, _∙_}
-use mathlib.Core.List.{List}
+use mathlib.Core.List.{List, _++_}
 use Prim.Native.Nat.{ℕ, _+_, _-_, _≤_}
 use native.Mathlib.Omega.{arith}
 use lib.ListN.{length, take, drop}
 use lib.Seq.{take-at}
 use borrow.Rule.Slice.PartMut.{midOf, postOf, putMid, same-len-mid, mid-len}
+use Rattle.hash.specs.Shake.{absorbed, stream, shake256}
+use Rattle.hash.proofs.Table.{length-table}
 use Rattle.sharing.specs.Region.{sub}
 use Rattle.sharing.proofs.Regions.{length-sub}
 use Rattle.signature.specs.Bits.{repack}
+use Rattle.signature.specs.Recover.{keyHash, boundTo}
 use Rattle.signature.proofs.Packing.{length-repack}
 
-module _ (n : ℕ) (xs ys : List ℕ) (h : n ≤ length xs) (e : length ys ≡ n) where
+module _ {A : Type 0} (n : ℕ) (xs ys : List A) (h : n ≤ length xs) (e : length ys ≡ n) where
   zero-off : n - 0 ≡ n
   zero-off = omega arith
 
@@ -47,3 +50,32 @@ module _ (w n : ℕ) (xs ys bs : List ℕ) (h : n ≤ length xs) (e : ys ≡ rep
 
   pub unpacked-is : take (n - 0) (putMid 0 (n - 0) xs ys) ≡ repack 8 w n bs
   unpacked-is = front-is n xs ys h long ∙ unpacked
+
+-- .. by a hash
+module _ (n : ℕ) (xs ys m : List ℕ) (h : n ≤ length xs) (e : ys ≡ shake256 m (length (midOf 0 (n - 0) xs))) where
+  digest : ys ≡ shake256 m n
+  digest = let z : n - 0 ≡ n = omega arith in e ∙ ap (shake256 m) (mid-len 0 n xs h ∙ z)
+
+  digest-long : length ys ≡ n
+  digest-long = ap (λ (l : List ℕ). length l) digest ∙ length-table (stream (absorbed m)) n
+
+  pub digest-in : n ≤ length (putMid 0 (n - 0) xs ys)
+  digest-in = front-in n xs ys h digest-long
+
+  pub digest-is : take (n - 0) (putMid 0 (n - 0) xs ys) ≡ shake256 m n
+  digest-is = front-is n xs ys h digest-long ∙ digest
+
+-- .. by mu
+module _ (n : ℕ) (xs ys vk msg : List ℕ) (h : n ≤ length xs) (e : ys ≡ boundTo (length (midOf 0 (n - 0) xs)) vk msg) where
+  bound : ys ≡ boundTo n vk msg
+  bound = let z : n - 0 ≡ n = omega arith in e ∙ ap (λ (k : ℕ). boundTo k vk msg) (mid-len 0 n xs h ∙ z)
+
+  bound-long : length ys ≡ n
+  unfolding boundTo
+  bound-long = ap (λ (l : List ℕ). length l) bound ∙ length-table (stream (absorbed (keyHash n vk ++ msg))) n
+
+  pub bound-in : n ≤ length (putMid 0 (n - 0) xs ys)
+  bound-in = front-in n xs ys h bound-long
+
+  pub bound-is : take (n - 0) (putMid 0 (n - 0) xs ys) ≡ boundTo n vk msg
+  bound-is = front-is n xs ys h bound-long ∙ bound

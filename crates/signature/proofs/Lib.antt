@@ -1,3 +1,4 @@
+pub mod Adjusted
 pub mod Asked
 pub mod Attempts
 pub mod Canon
@@ -31,15 +32,20 @@ pub mod Packer
 pub mod Packing
 pub mod Parsed
 pub mod Product
+pub mod Proper
 pub mod Renewed
+pub mod Recovered
+pub mod Reduced
 pub mod Responses
 pub mod Rounded
 pub mod Rows
 pub mod Signs
+pub mod SameBytes
 pub mod Sizes
 pub mod Strings
 pub mod Tapes
 pub mod Trip
+pub mod Verdict
 pub mod Whole
 pub mod Words
 pub mod KeyDone

@@ -45,7 +45,7 @@ module _ (d l : ℕ) (a : ℕ → List ℕ) (xs : List ℕ) (wa : (m : ℕ) → 
   share-words : (m j : ℕ) → m < l → j < d → Words 512 (block 512 j (block (d * 512) m xs))
   share-words m j hm hj = block-words d j (block (d * 512) m xs) (block-words l m xs wx hm) hj
 
-  row-share : (j : ℕ) → j < d
+  pub row-share : (j : ℕ) → j < d
       → rowShare d l a (transformed (l * d) xs) j ≡ sumOf 512 l (λ (m : ℕ). mul (a m) (block 512 j (block (d * 512) m xs)))
   unfolding rowShare
   row-share j hj =

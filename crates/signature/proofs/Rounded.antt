@@ -1,12 +1,14 @@
 -- Rounding polynomial by polynomial is rounding of the whole vector (000, 2.2).
 use mathlib.Core.Path.{_≡_, refl, sym, ap, _∙_}
 use mathlib.Core.List.{List, [], _∷_, _++_}
-use Prim.Native.Nat.{ℕ, zero, suc, _+_, _-_, _*_, _/_, _^_, _≤_, _<_}
+use Prim.Native.Nat.{ℕ, zero, suc, _+_, _-_, _*_, _/_, _%_, _^_, _≤_, _<_}
 use native.Mathlib.Nat.{mod-lt}
 use native.Mathlib.Omega.{arith}
-use lib.ListN.{length}
-use Rattle.ring.specs.Words.{Below, Residues}
-use Rattle.ring.specs.Round.{mapN, rounded}
+use lib.Dec.{lit<}
+use lib.ListN.{length, take, drop}
+use Rattle.ring.specs.Words.{q, Below, Words, Residues}
+use Rattle.ring.specs.Round.{mapN, rounded, scaledT}
+use Rattle.ring.proofs.Pairs.{below-mapN}
 use Rattle.sharing.specs.Blocks.{block, build}
 use Rattle.sharing.specs.Region.{sub, Wrote}
 use Rattle.sharing.proofs.Lists.{blocks-all}
@@ -22,10 +24,10 @@ unfolding build mapN
 map-build f zero g = refl
 map-build f (suc n) g = ap (λ (t : List ℕ). t ++ mapN f (g n)) (map-build f n g) ∙ sym (map-append f (build n g) (g n))
 
-map-long : (f : ℕ → ℕ) (xs : List ℕ) → length (mapN f xs) ≡ length xs
+pub length-map : (f : ℕ → ℕ) (xs : List ℕ) → length (mapN f xs) ≡ length xs
 unfolding mapN
-map-long f [] = refl
-map-long f (x ∷ xs) = ap suc (map-long f xs)
+length-map f [] = refl
+length-map f (x ∷ xs) = ap suc (length-map f xs)
 
 map-low : (f : ℕ → ℕ) (m : ℕ) → ((x : ℕ) → f x < m) → (xs : List ℕ) → Below m (mapN f xs)
 unfolding mapN
@@ -49,7 +51,7 @@ pub rounded-residues : (v m n : ℕ) → 0 < m → (xs : List ℕ) → length xs
 unfolding rounded
 rounded-residues v m n h xs e =
     record {
-      long = map-long (rounded v m) xs ∙ e;
+      long = length-map (rounded v m) xs ∙ e;
       low = map-low (rounded v m) m (λ (x : ℕ). mod-lt ((x + 2 ^ (v - 1)) / 2 ^ v) h) xs;
     }
 
@@ -57,3 +59,21 @@ rounded-residues v m n h xs e =
 pub below-up : (p r : ℕ) (xs : List ℕ) → p ≤ r → Below p xs → Below r xs
 below-up p r [] h b = tt
 below-up p r (x ∷ xs) h b = (omega (arith, b .0, h), below-up p r xs h (b .1))
+
+-- ---- parts of what is done to each element
+
+pub map-take : (f : ℕ → ℕ) (n : ℕ) (xs : List ℕ) → take n (mapN f xs) ≡ mapN f (take n xs)
+unfolding mapN
+map-take f zero xs = refl
+map-take f (suc n) [] = refl
+map-take f (suc n) (x ∷ xs) = ap (λ (t : List ℕ). f x ∷ t) (map-take f n xs)
+
+pub map-drop : (f : ℕ → ℕ) (n : ℕ) (xs : List ℕ) → drop n (mapN f xs) ≡ mapN f (drop n xs)
+unfolding mapN
+map-drop f zero xs = refl
+map-drop f (suc n) [] = refl
+map-drop f (suc n) (x ∷ xs) = map-drop f n xs
+
+pub scaled-words : (f : List ℕ) → length f ≡ 512 → Words 512 (scaledT f)
+scaled-words f e =
+    record { long = length-map (λ (x : ℕ). x * 2 ^ 42 % q) f ∙ e; low = below-mapN q (λ (x : ℕ). x * 2 ^ 42 % q) (λ (x : ℕ). mod-lt (x * 2 ^ 42) (lit< tt)) f }

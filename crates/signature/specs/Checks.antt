@@ -93,11 +93,11 @@ sameBytes [] (y ∷ ys) = false
 sameBytes (x ∷ xs) [] = false
 sameBytes (x ∷ xs) (y ∷ ys) = both (eqb x y) (sameBytes xs ys)
 
-abbrev writtenAs : List ℕ → Option (List ℕ) → Bool
+abbrev pub writtenAs : List ℕ → Option (List ℕ) → Bool
 writtenAs b none = false
 writtenAs b (some c) = sameBytes b c
 
-abbrev properFields : Params → List ℕ → Option Fields → Bool
+abbrev pub properFields : Params → List ℕ → Option Fields → Bool
 properFields p b none = false
 properFields p b (some f) = writtenAs b (write p f)
 

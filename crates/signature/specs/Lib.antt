@@ -17,4 +17,5 @@ pub mod Opening
 pub mod Recover
 pub mod Sign
 pub mod SignCalls
+pub mod Table
 pub mod Verify

@@ -2,6 +2,7 @@
 ghost use mathlib.Core.Path.{_≡_};
 ghost use Prim.Native.Nat.{_^_, _<_};
 ghost use lib.IntN.{natAbs};
+ghost use Rattle.ring.specs.Round.{residue};
 ghost use Rattle.signature.specs.Code.{negOf, signedOf};
 
 // The absolute value.
@@ -26,4 +27,13 @@ pub(crate) fn signed(m: u64, s: u64) -> i64
 {
     let z = m as i64;
     if s == 0 { z } else { -z }
+}
+
+// The residue modulo m of a number whose absolute value is below m.
+pub(crate) fn residue(z: i64, m: u64) -> u64
+    requires { ⌜ (natAbs z < m) × (m < 2 ^ 63) ⌝ }
+    ensures { λ r. ⌜ (r ≡ residue m z) × (r < m) ⌝ }
+{
+    let a = mag(z);
+    if sign(z) == 0 { a } else { m - a }
 }

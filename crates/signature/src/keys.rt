@@ -50,7 +50,7 @@ pub(crate) fn copy_bytes(a: &[u8], out: &mut [u8])
 }
 
 // Question 4: are the k * 512 coefficients of t, 7 bits each behind the n bytes of the seed, below 125?
-fn public_key_good(key: &[u8], n: usize, k: usize) -> bool
+pub(crate) fn public_key_good(key: &[u8], n: usize, k: usize) -> bool
     requires { ⌜ (n + k * 448 ≤ length (now key)) × (k ≤ 9) ⌝ }
     ensures { λ r. ⌜ r ≡ allBelow 125 (repack 8 7 (k * 512) (take (k * 448) (drop n (now (key .entry))))) ⌝ }
 {

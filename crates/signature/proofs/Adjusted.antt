@@ -1,0 +1,111 @@
+-- The bytes of w' = y + h, row by row, and as the definition has them; parts of t and of the hint.
+use mathlib.Core.Path.{_≡_, refl, sym, ap, _∙_}
+use mathlib.Core.List.{List, [], _∷_, _++_, append-assoc}
+use mathlib.Core.Option.{some}
+use Prim.Native.Nat.{ℕ, zero, suc, _+_, _*_, _≤_, _<_}
+use native.Mathlib.Omega.{arith}
+use native.Mathlib.Numerals.{add-one}
+use lib.IntN.{ℤ, pos, natAbs}
+use lib.ListN.{length, getD, take, drop, length-append, length-drop}
+use lib.Seq.{take-at, take-all, length-take-le, getD-take, getD-drop}
+use Rattle.hash.specs.declared.params.Params.{Params}
+use Rattle.ring.specs.Words.{Below, Residues, Words, zipTo}
+use Rattle.ring.specs.Transform.{ntt, mul}
+use Rattle.ring.specs.Round.{rounded, roundW, scaledT, residues}
+use Rattle.ring.proofs.Sums.{below-take, below-drop, length-zip, zip-take, zip-drop, words-sub}
+use Rattle.sharing.specs.Blocks.{block, build, sumOf}
+use Rattle.sharing.proofs.Lists.{inside, build-ext, length-build, block-build, blocks-all}
+use Rattle.sharing.proofs.Decode.{words-sum}
+use Rattle.sharing.specs.Region.{sub, put}
+use Rattle.sharing.proofs.Regions.{length-sub}
+use Rattle.signature.specs.Masked.{transformed}
+use Rattle.signature.specs.Matrix.{matrix, rowEntry}
+use Rattle.signature.specs.Recover.{add31, productRow, recoveredRow, recovered, adjusted, recoveredBy, blockZ, adjustedRows}
+use Rattle.signature.proofs.Recovered.{recovered-row}
+use Rattle.signature.proofs.Reduced.{take-residues, drop-residues}
+use Rattle.signature.proofs.Rounded.{map-take, map-drop, length-map, scaled-words}
+
+-- row i of them
+abbrev pub adjustedAt : ℕ → List ℕ → List ℕ → List ℕ → List ℕ → List ℤ → ℕ → List ℕ
+adjustedAt l seed Z C t h i = adjusted (recoveredBy l (rowEntry seed i) Z C (block 512 i t)) (blockZ i h)
+
+pub sub-residues : (p : ℕ) (xs : List ℕ) (a k : ℕ) → a + k ≤ length xs → Below p xs → Residues p k (sub xs a k)
+sub-residues p xs a k h b = record { long = length-sub xs a k h; low = below-take p k (drop a xs) (below-drop p a xs b) }
+
+pub length-subZ : (xs : List ℤ) (a k : ℕ) → a + k ≤ length xs → length (take k (drop a xs)) ≡ k
+length-subZ xs a k h = length-take-le k (drop a xs) (rw length-drop (omega arith))
+
+-- the numbers of a part are as small as those of the whole
+pub part-small : (m a n : ℕ) (h : List ℤ) → a + n ≤ length h → ((i : ℕ) → i < length h → natAbs (getD h i (pos 0)) < m)
+    → (i : ℕ) → i < n → natAbs (getD (take n (drop a h)) i (pos 0)) < m
+part-small m a n h l f i g =
+    rw (getD-take n (drop a h) i (pos 0) g, getD-drop a h i (pos 0)) (f (a + i) (omega arith))
+
+-- the front of a list behind which n elements are put
+pub take-put : (xs ys : List ℕ) (a n : ℕ) → a + n ≤ length xs → length ys ≡ n → take (a + n) (put xs a n ys) ≡ take a xs ++ ys
+take-put xs ys a n h e =
+    let f : length (take a xs) ≡ a = length-take-le a xs (omega arith) in
+    let g : length (take a xs ++ ys) ≡ a + n = length-append (take a xs) ys ∙ omega (arith, f, e) in
+    ap (take (a + n)) (sym (append-assoc (take a xs) ys (drop n (drop a xs)))) ∙ take-at (take a xs ++ ys) (drop n (drop a xs)) (a + n) g
+
+-- a row more: y is the rounded row, X what is put behind the i rows of w
+pub adjust-turn : (l : ℕ) (seed Z C t : List ℕ) (h : List ℤ) (i : ℕ) (w X y r : List ℕ) → i * 512 + 512 ≤ length w
+    → take (i * 512) w ≡ build i (adjustedAt l seed Z C t h) → r ≡ recoveredBy l (rowEntry seed i) Z C (block 512 i t) → y ≡ roundW r
+    → X ≡ zipTo add31 y (residues 31 (blockZ i h)) → length X ≡ 512
+    → take ((i + 1) * 512) (put w (i * 512) 512 X) ≡ build (i + 1) (adjustedAt l seed Z C t h)
+unfolding build adjusted
+adjust-turn l seed Z C t h i w X y r n e f g k m =
+    let o : (i + 1) * 512 ≡ i * 512 + 512 = omega arith in
+    let x : X ≡ adjustedAt l seed Z C t h i =
+    k ∙ ap (λ (v : List ℕ). zipTo add31 v (residues 31 (blockZ i h))) (g ∙ ap roundW f) in
+    ap (λ (v : ℕ). take v (put w (i * 512) 512 X)) o ∙ take-put w X (i * 512) 512 n m ∙ ap (λ (v : List ℕ). v ++ X) e
+    ∙ ap (λ (v : List ℕ). build i (adjustedAt l seed Z C t h) ++ v) x ∙ ap (λ (v : ℕ). build v (adjustedAt l seed Z C t h)) (sym (add-one i))
+
+-- ---- all rows are the definition's
+
+block-long : (t : List ℕ) (i : ℕ) → i * 512 + 512 ≤ length t → length (block 512 i t) ≡ 512
+unfolding block
+block-long t i h = length-sub t (i * 512) 512 h
+
+-- w' polynomial by polynomial
+adjust-block : (y : List ℕ) (h : List ℤ) (i : ℕ) → block 512 i (adjusted y h) ≡ adjusted (block 512 i y) (blockZ i h)
+unfolding adjusted block
+adjust-block y h i =
+    ap (take 512) (zip-drop add31 (i * 512) (roundW y) (residues 31 h)) ∙ zip-take add31 512 (drop (i * 512) (roundW y)) (drop (i * 512) (residues 31 h))
+    ∙ ap (λ (v : List ℕ). zipTo add31 v (take 512 (drop (i * 512) (residues 31 h))))
+    (ap (take 512) (map-drop (rounded 44 31) (i * 512) y) ∙ map-take (rounded 44 31) 512 (drop (i * 512) y))
+    ∙ ap (zipTo add31 (roundW (take 512 (drop (i * 512) y)))) (ap (take 512) (drop-residues 31 (i * 512) h) ∙ take-residues 31 512 (drop (i * 512) h))
+
+length-adjusted : (y : List ℕ) (h : List ℤ) → length (adjusted y h) ≡ length y
+unfolding adjusted
+length-adjusted y h = length-zip add31 (roundW y) (residues 31 h) ∙ length-map (rounded 44 31) y
+
+module _ (p : Params) (A z c t : List ℕ) where
+  row-long : (i : ℕ) → i < p .k → length (recoveredRow (p .l) A z c t i) ≡ 512
+  unfolding recoveredRow productRow
+  row-long i o =
+      words-sub (sumOf 512 (p .l) (λ (m : ℕ). mul (block 512 (i * p .l + m) A) (block 512 m z))) (mul c (scaledT (block 512 i t)))
+      (words-sum 512 (p .l) (λ (m : ℕ). mul (block 512 (i * p .l + m) A) (block 512 m z))) .long
+
+  pub adjusted-long : (h : List ℤ) → length (adjusted (recovered p A z c t) h) ≡ p .k * 512
+  unfolding recovered
+  adjusted-long h = length-adjusted (recovered p A z c t) h ∙ length-build 512 (p .k) (recoveredRow (p .l) A z c t) row-long
+
+module _ (p : Params) (seed A z c t : List ℕ) (h : List ℤ) (e : matrix p seed ≡ some A) (wz : Words (p .l * 512) z) (wc : Words 512 c) (lt : length t ≡ p .k * 512) where
+  pub adjusted-all : adjustedRows (p .k) (p .l) seed (transformed (p .l) z) (ntt c) t h ≡ adjusted (recovered p A z c t) h
+  unfolding adjustedRows recovered
+  adjusted-all =
+      let R : ℕ → List ℕ = recoveredRow (p .l) A z c t in
+      let Y : List ℕ = build (p .k) R in
+      let f : (i : ℕ) → i < p .k → adjustedAt (p .l) seed (transformed (p .l) z) (ntt c) t h i ≡ block 512 i (adjusted Y h) =
+      λ (i : ℕ) (o : i < p .k).
+      let g : i * 512 + 512 ≤ p .k * 512 = inside i (p .k) 512 o in
+      ap (λ (v : List ℕ). adjusted v (blockZ i h)) (recovered-row (p .k) (p .l) seed A z c t e wz wc i o (scaled-words (block 512 i t) (block-long t i (omega (arith, g, lt))))
+      ∙ sym (block-build 512 (p .k) i R (row-long p A z c t) o))
+      ∙ sym (adjust-block Y h i) in
+      build-ext (p .k) (adjustedAt (p .l) seed (transformed (p .l) z) (ntt c) t h) (λ (i : ℕ). block 512 i (adjusted Y h)) f
+      ∙ blocks-all 512 (p .k) (adjusted Y h) (adjusted-long p A z c t h)
+
+-- the same of equal parts
+pub adjusted-parts : {v v′ s s′ x x′ t t′ : List ℕ} (k l : ℕ) (h : List ℤ) → v ≡ v′ → s ≡ s′ → x ≡ x′ → t ≡ t′ → adjustedRows k l v s x t h ≡ adjustedRows k l v′ s′ x′ t′ h
+adjusted-parts k l h a b c d = cc (a, b, c, d)

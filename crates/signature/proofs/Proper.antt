@@ -1,0 +1,98 @@
+-- Check 14 from what the reader of the code answers, and the checks of lengths and bounds around it.
+use mathlib.Core.Path.{_≡_, refl, sym, ap, subst, _∙_}
+use mathlib.Core.Bool.{Bool, true, false}
+use mathlib.Core.List.{List, [], _∷_}
+use mathlib.Core.Option.{Option, some, none}
+use Prim.Native.Nat.{ℕ, zero, suc, _+_, _*_, _^_, _≤_, _<_}
+use native.Mathlib.Omega.{arith}
+use native.Mathlib.Nat.{not-suc-le-zero}
+use lib.Dec.{T, leb, leb→le}
+use lib.IntN.{ℤ, pos, natAbs}
+use lib.ListN.{length, getD, take, drop}
+use Rattle.hash.specs.Lists.{pick, Bytes}
+use Rattle.hash.specs.declared.params.Params.{Params}
+use Rattle.signature.specs.Answers.{fieldsOf, parsed, boundsOf}
+use Rattle.signature.specs.Bits.{fields}
+use Rattle.signature.specs.Bounds.{within, squares, checkBounds}
+use Rattle.signature.specs.Checks.{ask, sameBytes, writtenAs, properFields, properForm}
+use Rattle.signature.specs.Form.{Fields, hashBytes, write, read}
+use Rattle.signature.specs.Verify.{verifyFields}
+use Rattle.signature.proofs.Canonical.{accepted, refused}
+use Rattle.signature.proofs.Entries.{absurd-bool}
+use Rattle.signature.proofs.SameBytes.{same-refl, same-eq}
+
+-- what the writer makes of the fields read
+pub record Written (p : Params) (b : List ℕ) : Type 0 where
+  pub f : Fields
+  pub read-is : read p b ≡ some f
+  pub write-is : write p f ≡ some b
+
+pub proper-some : (p : Params) (b : List ℕ) (f : Fields) → read p b ≡ some f → write p f ≡ some b → properForm p b ≡ true
+unfolding properForm
+proper-some p b f e g = ap (properFields p b) e ∙ ap (writtenAs b) g ∙ same-refl b
+
+pub proper-is : (p : Params) (b : List ℕ) → properForm p b ≡ true → Written p b
+unfolding properForm
+proper-is p b e = go (read p b) refl e
+  where
+    fits : (f : Fields) → read p b ≡ some f → (o : Option (List ℕ)) → write p f ≡ o → writtenAs b o ≡ true → Written p b
+    fits f r none w t = absurd-bool (sym t)
+    fits f r (some c) w t = record { f = f; read-is = r; write-is = w ∙ ap some (sym (same-eq b c t)) }
+
+    go : (o : Option Fields) → read p b ≡ o → properFields p b o ≡ true → Written p b
+    go none r t = absurd-bool (sym t)
+    go (some f) r t = fits f r (write p f) refl t
+
+pub proper-none : (p : Params) (b : List ℕ) → ((f : Fields) → read p b ≡ some f → write p f ≡ some b → ⊥) → properForm p b ≡ false
+proper-none p b n = go (properForm p b) refl
+  where
+    go : (t : Bool) → properForm p b ≡ t → properForm p b ≡ false
+    go true e = let w = proper-is p b e in absurd (n (w .f) (w .read-is) (w .write-is))
+    go false e = e
+
+-- ---- the code's reader
+
+pub bytes-of : (b : List ℕ) → ((j : ℕ) → getD b j 0 < 256) → Bytes b
+bytes-of [] h = tt
+bytes-of (x ∷ b) h = (h 0, bytes-of b (λ (j : ℕ). h (suc j)))
+
+module _ (p : Params) (vk msg b : List ℕ) (byte : Bytes b) (long : length b ≡ p .«sig_bytes») (size : hashBytes p ≤ length b) where
+  bits : List ℕ
+  bits = drop (8 * hashBytes p) (fields 8 b)
+
+  pub status-14 : parsed (p .k * 512) (p .l * 512) bits ≡ none → ask 14 (properForm p b) (verifyFields p vk msg (read p b)) ≡ 14
+  status-14 e = ap (λ (t : Bool). ask 14 t (verifyFields p vk msg (read p b))) (proper-none p b (λ (f : Fields). λ (r : read p b ≡ some f) (w : write p f ≡ some b). refused p b byte long size f e r w))
+
+  pub status-read : (h z : List ℤ) → parsed (p .k * 512) (p .l * 512) bits ≡ some (h, z)
+      → ask 14 (properForm p b) (verifyFields p vk msg (read p b)) ≡ verifyFields p vk msg (some (fieldsOf (take (hashBytes p) b) h z))
+  status-read h z e =
+      let a = accepted p b byte long size h z e in
+      ap (λ (t : Bool). ask 14 t (verifyFields p vk msg (read p b))) (proper-some p b (fieldsOf (take (hashBytes p) b) h z) (a .0) (a .1)) ∙ ap (verifyFields p vk msg) (a .0)
+
+-- ---- the bounds
+
+pub bounds-is : (p : Params) (c : List ℕ) (h z : List ℤ) → boundsOf (p .«hint_limit») (p .binf) (p .b22) h z ≡ checkBounds p (fieldsOf c h z)
+unfolding boundsOf checkBounds
+bounds-is p c h z = refl
+
+within-at : (most : ℕ) (zs : List ℤ) → within most zs ≡ true → (i : ℕ) → i < length zs → natAbs (getD zs i (pos 0)) ≤ most
+unfolding within
+within-at most [] e i h = absurd (not-suc-le-zero h)
+within-at most (z ∷ zs) e i h = go (leb (natAbs z) most) refl e i h (within-at most zs)
+  where
+    go : (t : Bool) → leb (natAbs z) most ≡ t → pick t (within most zs) false ≡ true → (i : ℕ) → i < length (z ∷ zs)
+        → (within most zs ≡ true → (i : ℕ) → i < length zs → natAbs (getD zs i (pos 0)) ≤ most) → natAbs (getD (z ∷ zs) i (pos 0)) ≤ most
+    go false g f i h r = absurd-bool (sym f)
+    go true g f zero h r = leb→le (natAbs z) most (subst T (sym g) tt)
+    go true g f (suc i) h r = r f i (omega arith)
+
+pub bounds-small : (limit most all : ℕ) (h z : List ℤ) → boundsOf limit most all h z ≡ true
+    → ((i : ℕ) → i < length h → natAbs (getD h i (pos 0)) ≤ limit) × ((i : ℕ) → i < length z → natAbs (getD z i (pos 0)) ≤ most)
+unfolding boundsOf
+bounds-small limit most all h z e = go (within limit h) refl (within most z) refl e
+  where
+    go : (t : Bool) → within limit h ≡ t → (u : Bool) → within most z ≡ u → pick t (pick u (leb (2 ^ 24 * squares 0 h + squares 32 z) all) false) false ≡ true
+        → ((i : ℕ) → i < length h → natAbs (getD h i (pos 0)) ≤ limit) × ((i : ℕ) → i < length z → natAbs (getD z i (pos 0)) ≤ most)
+    go false a u b f = absurd-bool (sym f)
+    go true a false b f = absurd-bool (sym f)
+    go true a true b f = (within-at limit h a, within-at most z b)

@@ -1,0 +1,172 @@
+// Verifying (000, Algorithm 3; 01: checks 1, 3, 4, 9, 13, 14, 15, 10, 11, 16). Nothing is written but local arrays.
+ghost use mathlib.Core.Path.{_≡_};
+ghost use mathlib.Core.Bool.{true};
+ghost use mathlib.Core.List.{List};
+ghost use mathlib.Core.Option.{some};
+ghost use Prim.Native.Nat.{ℕ, _+_, _*_, _≤_, _<_};
+ghost use lib.IntN.{pos, natAbs};
+ghost use lib.ListN.{length, getD};
+ghost use Rattle.ring.specs.Words.{q, Below, Words};
+ghost use Rattle.ring.specs.Round.{residues};
+ghost use Rattle.sharing.specs.Region.{sub};
+ghost use Rattle.signature.specs.Answers.{fieldsOf};
+ghost use Rattle.signature.specs.Checks.{ask, sameBytes, properForm};
+ghost use Rattle.signature.specs.Form.{read, hashBytes};
+ghost use Rattle.signature.specs.Keys.{vkSeed, vkVector};
+ghost use Rattle.signature.specs.Masked.{transformed};
+ghost use Rattle.signature.specs.Matrix.{matrix, matrixOf, filled};
+ghost use Rattle.signature.specs.Recover.{recovered, adjusted, adjustedRows, boundTo};
+ghost use Rattle.signature.specs.Table.{Tabled};
+ghost use Rattle.signature.specs.Verify.{verifyMatrix, verifyFields, verifyOf, verifyCall};
+use crate::bits::unpack;
+use crate::bounds::check_bounds;
+use crate::challenge::chal_hash;
+use crate::challenge::chal_poly;
+use crate::challenge::hash_two;
+use crate::form::read;
+use crate::keys::public_key_good;
+use crate::recover::recover_row;
+use crate::residues::adjust;
+use crate::residues::residues_into;
+use crate::vector::ntt_vector;
+use hash::params::Edition;
+use hash::params::Params;
+use hash::params::Selected;
+use hash::params::lookup;
+use hash::shake::shake256;
+use ring::poly::from_signed;
+use ring::poly::ntt;
+use ring::poly::round_w;
+use sharing::region::load;
+
+// The modulus q (000, Tables 2 to 4).
+const Q: u64 = 549824583172097;
+
+// Lines 6 and 7, row by row: the bytes of w' = y + h. In s: room for a row, then z, transformed; c is transformed. False where the matrix does
+// not fill.
+fn adjust_rows(
+    s: &mut [u64],
+    seed: &[u8],
+    k: usize,
+    l: usize,
+    c: [u64; 512],
+    t: &[u64],
+    hint: &[i64],
+    w: &mut [u8],
+) -> bool
+    requires { ⌜ (512 + l * 512 ≤ length (now s)) × Below q (now s) × (k ≤ 9) × (l ≤ 7) × Words 512 c ⌝ }
+    requires { ⌜ (length (now t) ≡ k * 512) × Below 125 (now t) × (length (now hint) ≡ k * 512) × (length (now w) ≡ k * 512) ⌝ }
+    requires { ⌜ ((i : ℕ) → i < length (now hint) → natAbs (getD (now hint) i (pos 0)) < 31) ⌝ }
+    ensures { λ r. ⌜ r ≡ filled (matrixOf k l (now (seed .entry))) ⌝ }
+    ensures { λ r. ⌜ (r ≡ true → now (w .exit) ≡ adjustedRows k l (now (seed .entry)) (sub (now (s .entry)) 512 (l * 512)) c (now (t .entry)) (now (hint .entry))) ⌝ }
+{
+    for i in 0..k {
+        let a = i * 512;
+        let e = a + 512;
+        if !recover_row(s, 0, 512, seed, i, l, c, load(t, a)) {
+            return false;
+        }
+        let y = round_w(load(s, 0));
+        adjust(y, &hint[a..e], &mut w[a..e]);
+    }
+    true
+}
+
+// z behind the room for a row, transformed.
+fn place(z: &[i64], l: usize, s: &mut [u64])
+    requires { ⌜ (512 + l * 512 ≤ length (now s)) × Below q (now s) × (length (now z) ≡ l * 512) ⌝ }
+    requires { ⌜ ((i : ℕ) → i < length (now z) → natAbs (getD (now z) i (pos 0)) < q) ⌝ }
+    ensures { λ _. ⌜ (sub (now (s .exit)) 512 (l * 512) ≡ transformed l (residues q (now (z .entry)))) × (length (now (s .exit)) ≡ length (now (s .entry))) × Below q (now (s .exit)) ⌝ }
+{
+    let b = 512 + l * 512;
+    residues_into(z, Q, &mut s[512..b]);
+    ntt_vector(s, 512, l);
+}
+
+// Lines 4 to 7: the bytes of w', of the matrix, t, the fields and the challenge polynomial.
+fn recompute(p: Params, vk: &[u8], hint: &[i64], z: &[i64], c: [i8; 512], w: &mut [u8]) -> bool
+    requires { ⌜ Tabled p × (length (now vk) ≡ p .«vk_bytes») × Below 125 (vkVector p (now vk)) ⌝ }
+    requires { ⌜ (length (now hint) ≡ p .k * 512) × (length (now z) ≡ p .l * 512) × (length (now w) ≡ p .k * 512) ⌝ }
+    requires { ⌜ ((i : ℕ) → i < length (now hint) → natAbs (getD (now hint) i (pos 0)) < 31) ⌝ }
+    requires { ⌜ ((i : ℕ) → i < length (now z) → natAbs (getD (now z) i (pos 0)) < q) ⌝ }
+    ensures { λ r. ⌜ r ≡ filled (matrix p (vkSeed p (now (vk .entry)))) ⌝ }
+    ensures { λ r. ⌜ ((A : List ℕ) → matrix p (vkSeed p (now (vk .entry))) ≡ some A → now (w .exit) ≡ adjusted (recovered p A (residues q (now (z .entry))) (residues q c) (vkVector p (now (vk .entry)))) (now (hint .entry))) ⌝ }
+{
+    let k = p.k;
+    let l = p.l;
+    let n = p.kappa / 8;
+    let m = k * 512;
+    let e = n + k * 448;
+    let mut t = [0u64; 4608];
+    let mut s = [0u64; 4096];
+    unpack(&vk[n..e], 7, &mut t[0..m]);
+    place(z, l, &mut s);
+    let x = ntt(from_signed(c));
+    adjust_rows(&mut s, &vk[0..n], k, l, x, &t[0..m], hint, w)
+}
+
+// mu = H(H(vk) || msg) (line 3); out has the bytes of a hash.
+pub(crate) fn bind(vk: &[u8], msg: &[u8], out: &mut [u8])
+    requires { ⌜ length (now out) ≤ 64 ⌝ }
+    ensures { λ _. ⌜ now (out .exit) ≡ boundTo (length (now (out .entry))) (now (vk .entry)) (now (msg .entry)) ⌝ }
+{
+    let n = out.len();
+    let mut h = [0u8; 64];
+    shake256(vk, &mut h[0..n]);
+    hash_two(&h[0..n], msg, out);
+}
+
+// Whether a and b are the same bytes (line 9).
+fn same_bytes(a: &[u8], b: &[u8]) -> bool
+    ensures { λ r. ⌜ r ≡ sameBytes (now (a .entry)) (now (b .entry)) ⌝ }
+{
+    if a.len() != b.len() {
+        return false;
+    }
+    let mut i: usize = 0;
+    while i < a.len() {
+        if a[i] != b[i] {
+            return false;
+        }
+        i += 1;
+    }
+    true
+}
+
+// Lines 3 to 9, of the fields: checks 10, 11, 16.
+fn verify_hash(
+    p: Params,
+    vk: &[u8],
+    msg: &[u8],
+    hash: &[u8],
+    hint: &[i64],
+    z: &[i64],
+) -> u32
+    requires { ⌜ Tabled p × (length (now vk) ≡ p .«vk_bytes») × Below 125 (vkVector p (now vk)) × (length (now hash) ≡ hashBytes p) ⌝ }
+    requires { ⌜ (length (now hint) ≡ p .k * 512) × (length (now z) ≡ p .l * 512) ⌝ }
+    requires { ⌜ ((i : ℕ) → i < length (now hint) → natAbs (getD (now hint) i (pos 0)) < 31) ⌝ }
+    requires { ⌜ ((i : ℕ) → i < length (now z) → natAbs (getD (now z) i (pos 0)) < q) ⌝ }
+    ensures { λ r. ⌜ r ≡ verifyMatrix p (now (vk .entry)) (now (msg .entry)) (fieldsOf (now (hash .entry)) (now (hint .entry)) (now (z .entry))) (matrix p (vkSeed p (now (vk .entry)))) ⌝ }
+{
+    let k = p.k;
+    let edition = p.edition;
+    let n = k * 512;
+    let b = p.kappa / 4;
+    let mut w = [0u8; 4608];
+    let mut mu = [0u8; 64];
+    let mut again = [0u8; 64];
+    let c = chal_poly(p.omega, edition, hash);
+    let x = c.poly;
+    if !recompute(p, vk, hint, z, x, &mut w[0..n]) {
+        return 10;
+    }
+    if !c.ok {
+        return 11;
+    }
+    bind(vk, msg, &mut mu[0..b]);
+    chal_hash(k, edition, &w[0..n], &mu[0..b], &mut again[0..b]);
+    if same_bytes(hash, &again[0..b]) {
+        return 0;
+    }
+    16
+}
