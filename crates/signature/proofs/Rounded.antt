@@ -29,11 +29,6 @@ unfolding mapN
 length-map f [] = refl
 length-map f (x ∷ xs) = ap suc (length-map f xs)
 
-map-low : (f : ℕ → ℕ) (m : ℕ) → ((x : ℕ) → f x < m) → (xs : List ℕ) → Below m (mapN f xs)
-unfolding mapN
-map-low f m h [] = tt
-map-low f m h (x ∷ xs) = (h x, map-low f m h xs)
-
 -- block after block, and the whole of length n * w
 pub map-blocks : (f : ℕ → ℕ) (w n : ℕ) (xs : List ℕ) → length xs ≡ n * w → build n (λ (i : ℕ). mapN f (block w i xs)) ≡ mapN f xs
 map-blocks f w n xs e = map-build f n (λ (i : ℕ). block w i xs) ∙ ap (mapN f) (blocks-all w n xs e)
@@ -52,7 +47,7 @@ unfolding rounded
 rounded-residues v m n h xs e =
     record {
       long = length-map (rounded v m) xs ∙ e;
-      low = map-low (rounded v m) m (λ (x : ℕ). mod-lt ((x + 2 ^ (v - 1)) / 2 ^ v) h) xs;
+      low = below-mapN m (rounded v m) (λ (x : ℕ). mod-lt ((x + 2 ^ (v - 1)) / 2 ^ v) h) xs;
     }
 
 -- below a smaller number is below a larger one
