@@ -3,6 +3,7 @@ pub mod Asked
 pub mod Attempts
 pub mod Canon
 pub mod Canonical
+pub mod Centred
 pub mod ChalBytes
 pub mod ChalMap
 pub mod ChalResult
@@ -13,6 +14,7 @@ pub mod Commits
 pub mod Counts
 pub mod Entries
 pub mod Filled
+pub mod Finished
 pub mod Fronts
 pub mod Images
 pub mod KeyBytes

@@ -6,6 +6,7 @@ pub mod challenge;
 mod code;
 mod commit;
 mod compress;
+mod fields;
 mod form;
 mod int;
 mod keycheck;

@@ -1,0 +1,91 @@
+use mir.Syntax.{w64}
+use mir.Val.{SFits, toZ, ofZ}
+use mir.ValLaws.{toZ-ofZ}
+use mathlib.Core.Path.{_≡_, refl, ap, sym, _∙_}
+use Prim.Native.Nat.{ℕ, _+_, _-_, _<_, _≤_}
+use native.Mathlib.Omega.{arith}
+use lib.Dec.{lit<}
+use lib.IntN.{pos}
+use lib.ListN.{length, getD, take, length-set}
+use Rattle.ring.specs.Round.{centred}
+use Rattle.ring.specs.Words.{zipTo}
+use Rattle.ring.proofs.Sums.{below-at, length-zip, zip-at}
+use Rattle.signature.specs.Recover.{sub31, centredAll}
+use Rattle.signature.proofs.Centred.{length-centred, centred-at, signed-turn, signed-end}
+use borrow.Author.Needs.{needs}
+use Rattle.signature.proofs.residues.centred_into.Statement.{statement}
+use Rattle.signature.proofs.residues.centred_into.Tie as tie
+use Rattle.signature.proofs.residues.centred_into.Reads as reads
+use Rattle.signature.proofs.residues.centred_into.Lts as lts
+use Rattle.ring.proofs.poly.centred.Reads as centred-reads
+
+abbrev Inv-loop : tie.InvT-loop
+Inv-loop words m out₀ i₀ out i = (i ≤ length words) × (length out ≡ length words) × (take i out ≡ take i (centredAll m words))
+
+abbrev μ-loop : tie.MeasureT-loop
+μ-loop words m out₀ i₀ out i = length words - i
+
+loop-holds : tie.Need-loop-holds Inv-loop μ-loop
+loop-holds c = search needs
+
+mul-centred : tie.Need-mul-centred Inv-loop μ-loop
+mul-centred c = search needs
+
+shared-slice-read-centred : tie.Need-shared-slice-read-centred Inv-loop μ-loop
+shared-slice-read-centred c = search needs
+
+centred-requires : tie.Need-centred-requires Inv-loop μ-loop
+centred-requires c κs = let p = c .before .before .before .before .pre in
+    (below-at (c .before .before .before .before .args .m) (p .2) (c .before .before .before .before .args .words .now) (p .1) (c .before .before .loop .i), p .3)
+
+mul-t10 : tie.Need-mul-t10 Inv-loop μ-loop
+mul-t10 c = search needs
+
+slice-set-from-out : tie.Need-slice-set-from-out Inv-loop μ-loop
+slice-set-from-out c = omega (arith, c .before .before .loop-test .taken, c .before .before .before .loop .inv .1)
+
+add-i : tie.Need-add-i Inv-loop μ-loop
+add-i c = search needs
+
+loop-less : tie.Need-loop-less Inv-loop μ-loop
+loop-less c = search needs
+
+loop-again : tie.Need-loop-again Inv-loop μ-loop
+loop-again c = let l = c .before .before .before .loop in
+    let ws = c .before .before .before .before .before .args .words .now in
+    let m = c .before .before .before .before .before .args .m in
+    let h : l .i < length ws = c .before .before .loop-test .taken in
+    let r = c .centred .result in
+    let s : SFits w64 r = search needs in
+    let v : toZ w64 (ofZ w64 r) ≡ getD (centredAll m ws) (l .i) (pos 0) = toZ-ofZ w64 r s ∙ c .centred .ensures ∙ sym (centred-at m ws (l .i) h) in (
+      omega (arith, h),
+      length-set (l .out) (l .i) _ ∙ l .inv .1,
+      signed-turn (l .out) (centredAll m ws) (l .i) _ (omega (arith, h, l .inv .1)) (omega (arith, h, length-centred m ws)) (l .inv .2) v,
+    )
+
+same-length : tie.Need-same-length Inv-loop μ-loop
+same-length c = search needs
+
+returns : tie.Need-returns Inv-loop μ-loop
+returns c = let l = c .before .loop in
+    let ws = c .before .before .before .args .words .now in
+    let m = c .before .before .before .args .m in
+    signed-end (l .out) (centredAll m ws) (l .i) (omega (arith, l .inv .1)) (omega (arith, length-centred m ws)) (l .inv .2)
+
+pub centred-into-spec : {M : Type 1} → statement M
+centred-into-spec =
+    tie.close
+    (tie.spec
+    Inv-loop
+    μ-loop
+    loop-holds
+    mul-centred
+    shared-slice-read-centred
+    centred-requires
+    mul-t10
+    slice-set-from-out
+    add-i
+    loop-less
+    loop-again
+    same-length
+    returns)
