@@ -34,7 +34,7 @@ pub sizes : (x v y n : ℕ) → both (eqb x v) (eqb y n) ≡ true → (x ≡ v) 
 sizes x v y n e = let b = both-true (eqb x v) (eqb y n) e in (eqb-true x v (b .0), eqb-true y n (b .1))
 
 -- a question whose whole is 0 was answered with yes
-yes-of : (n : ℕ) (b : Bool) (rest : ℕ) → ask (suc n) b rest ≡ 0 → (b ≡ true) × (rest ≡ 0)
+pub yes-of : (n : ℕ) (b : Bool) (rest : ℕ) → ask (suc n) b rest ≡ 0 → (b ≡ true) × (rest ≡ 0)
 yes-of n true rest e = (refl, e)
 yes-of n false rest e = let x : ⊥ = omega arith in absurd x
 

@@ -41,6 +41,7 @@ pub mod Reduced
 pub mod Responses
 pub mod Rounded
 pub mod Rows
+pub mod SignChecks
 pub mod Signs
 pub mod SameBytes
 pub mod Sizes

@@ -57,7 +57,7 @@ bytes-of [] h = tt
 bytes-of (x ∷ b) h = (h 0, bytes-of b (λ (j : ℕ). h (suc j)))
 
 module _ (p : Params) (vk msg b : List ℕ) (byte : Bytes b) (long : length b ≡ p .«sig_bytes») (size : hashBytes p ≤ length b) where
-  bits : List ℕ
+  abbrev bits : List ℕ
   bits = drop (8 * hashBytes p) (fields 8 b)
 
   pub status-14 : parsed (p .k * 512) (p .l * 512) bits ≡ none → ask 14 (properForm p b) (verifyFields p vk msg (read p b)) ≡ 14
