@@ -1,5 +1,6 @@
 pub mod Adjusted
 pub mod Asked
+pub mod AttemptEnds
 pub mod Attempts
 pub mod Canon
 pub mod Canonical
