@@ -28,7 +28,7 @@ use Rattle.signature.specs.SignSteps.{publicBy, EndedAs, kept}
 use Rattle.signature.specs.declared.challenge.Challenged.{Challenged}
 use Rattle.signature.specs.declared.sign.AttemptEnd.{AttemptEnd}
 use Rattle.signature.proofs.Attempts.{left-stuck, left-on, sign-pass, sign-stuck, sign-next, sign-none}
-use Rattle.signature.proofs.Entries.{absurd-bool, filled-some}
+use Rattle.signature.proofs.Checks.{absurd-bool, filled-some}
 use Rattle.signature.proofs.Rounded.{rounded-residues}
 
 -- the matrix seed is the front of the public key

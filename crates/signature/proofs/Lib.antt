@@ -9,6 +9,7 @@ pub mod ChalBytes
 pub mod ChalMap
 pub mod ChalResult
 pub mod ChalRun
+pub mod Checks
 pub mod Codes
 pub mod Collected
 pub mod Commits
@@ -17,6 +18,7 @@ pub mod Entries
 pub mod Filled
 pub mod Finished
 pub mod Fronts
+pub mod Hints
 pub mod Images
 pub mod KeyBytes
 pub mod KeyEnds
@@ -50,6 +52,7 @@ pub mod Strings
 pub mod Tapes
 pub mod Trip
 pub mod Verdict
+pub mod Verified
 pub mod Whole
 pub mod Words
 pub mod KeyDone

@@ -11,14 +11,15 @@ use lib.IntN.{ℤ, pos, natAbs}
 use lib.ListN.{length, getD, take, drop}
 use Rattle.hash.specs.Lists.{pick, Bytes}
 use Rattle.hash.specs.declared.params.Params.{Params}
-use Rattle.signature.specs.Answers.{fieldsOf, parsed, boundsOf}
+use Rattle.signature.specs.Answers.{fieldsOf, parsed, ReadOf, boundsOf}
 use Rattle.signature.specs.Bits.{fields}
 use Rattle.signature.specs.Bounds.{within, squares, checkBounds}
 use Rattle.signature.specs.Checks.{ask, sameBytes, writtenAs, properFields, properForm}
 use Rattle.signature.specs.Form.{Fields, hashBytes, write, read}
-use Rattle.signature.specs.Verify.{verifyFields}
-use Rattle.signature.proofs.Canonical.{accepted, refused}
-use Rattle.signature.proofs.Entries.{absurd-bool}
+use Rattle.signature.specs.Verify.{verifyMatrix, verifyFields}
+use Rattle.signature.proofs.Canonical.{accepted, refused, read-sized}
+use Rattle.signature.proofs.Parsed.{read-true, read-false}
+use Rattle.signature.proofs.Checks.{absurd-bool}
 use Rattle.signature.proofs.SameBytes.{same-refl, same-eq}
 
 -- what the writer makes of the fields read
@@ -69,6 +70,21 @@ module _ (p : Params) (vk msg b : List ℕ) (byte : Bytes b) (long : length b �
       let a = accepted p b byte long size h z e in
       ap (λ (t : Bool). ask 14 t (verifyFields p vk msg (read p b))) (proper-some p b (fieldsOf (take (hashBytes p) b) h z) (a .0) (a .1)) ∙ ap (verifyFields p vk msg) (a .0)
 
+  -- the fields have the set's sizes
+  pub sizes-read : (h z : List ℤ) → parsed (p .k * 512) (p .l * 512) bits ≡ some (h, z) → (length h ≡ p .k * 512) × (length z ≡ p .l * 512)
+  sizes-read h z e =
+      let s = read-sized p b (fieldsOf (take (hashBytes p) b) h z) byte size (accepted p b byte long size h z e .0) in
+      (s .hint-long, s .response-long)
+
+-- what the reader's answer says of the definition, where its lists have n and m numbers
+pub read-yes : (t : List ℕ) (n m n′ m′ : ℕ) (r : Bool) (h z : List ℤ) → n′ ≡ n → m′ ≡ m → r ≡ true → ReadOf (parsed n′ m′ t) r h z → parsed n m t ≡ some (h, z)
+read-yes t n m n′ m′ r h z a b e u =
+    ap (λ (x : ℕ). parsed x m t) (sym a) ∙ ap (λ (x : ℕ). parsed n′ x t) (sym b) ∙ read-true (parsed n′ m′ t) h z (subst (λ (x : Bool). ReadOf (parsed n′ m′ t) x h z) e u)
+
+pub read-no : (t : List ℕ) (n m n′ m′ : ℕ) (r : Bool) (h z : List ℤ) → n′ ≡ n → m′ ≡ m → r ≡ false → ReadOf (parsed n′ m′ t) r h z → parsed n m t ≡ none
+read-no t n m n′ m′ r h z a b e u =
+    ap (λ (x : ℕ). parsed x m t) (sym a) ∙ ap (λ (x : ℕ). parsed n′ x t) (sym b) ∙ read-false (parsed n′ m′ t) h z (subst (λ (x : Bool). ReadOf (parsed n′ m′ t) x h z) e u)
+
 -- ---- the bounds
 
 pub bounds-is : (p : Params) (c : List ℕ) (h z : List ℤ) → boundsOf (p .«hint_limit») (p .binf) (p .b22) h z ≡ checkBounds p (fieldsOf c h z)
@@ -96,3 +112,18 @@ bounds-small limit most all h z e = go (within limit h) refl (within most z) ref
     go false a u b f = absurd-bool (sym f)
     go true a false b f = absurd-bool (sym f)
     go true a true b f = (within-at limit h a, within-at most z b)
+
+-- ---- the same of equal lists
+
+pub small-part : {xs ys : List ℤ} (m : ℕ) → xs ≡ ys → ((i : ℕ) → natAbs (getD ys i (pos 0)) < m) → (i : ℕ) → natAbs (getD xs i (pos 0)) < m
+small-part m e f i = subst (λ (l : List ℤ). natAbs (getD l i (pos 0)) < m) (sym e) (f i)
+
+pub bounded-part : {xs ys : List ℤ} (m n : ℕ) → xs ≡ ys → n < m → ((i : ℕ) → i < length xs → natAbs (getD xs i (pos 0)) ≤ n) → (i : ℕ) → i < length xs → natAbs (getD xs i (pos 0)) < m
+bounded-part m n e l f i h = omega (arith, f i h, l)
+
+pub matrix-parts : {c c′ : List ℕ} {h h′ z z′ : List ℤ} (p : Params) (vk msg : List ℕ) (M : Option (List ℕ)) → c ≡ c′ → h ≡ h′ → z ≡ z′
+    → verifyMatrix p vk msg (fieldsOf c h z) M ≡ verifyMatrix p vk msg (fieldsOf c′ h′ z′) M
+matrix-parts p vk msg M a b e = cc (a, b, e)
+
+pub bounds-parts : {h h′ z z′ : List ℤ} (a b c : ℕ) → h ≡ h′ → z ≡ z′ → boundsOf a b c h z ≡ boundsOf a b c h′ z′
+bounds-parts a b c e g = cc (e, g)

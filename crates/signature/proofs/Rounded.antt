@@ -8,7 +8,6 @@ use lib.Dec.{lit<}
 use lib.ListN.{length, take, drop}
 use Rattle.ring.specs.Words.{q, Below, Words, Residues}
 use Rattle.ring.specs.Round.{mapN, rounded, scaledT}
-use Rattle.ring.proofs.Pairs.{below-mapN}
 use Rattle.sharing.specs.Blocks.{block, build}
 use Rattle.sharing.specs.Region.{sub, Wrote}
 use Rattle.sharing.proofs.Lists.{blocks-all}
@@ -24,10 +23,15 @@ unfolding build mapN
 map-build f zero g = refl
 map-build f (suc n) g = ap (λ (t : List ℕ). t ++ mapN f (g n)) (map-build f n g) ∙ sym (map-append f (build n g) (g n))
 
-pub length-map : (f : ℕ → ℕ) (xs : List ℕ) → length (mapN f xs) ≡ length xs
+pub map-long : (f : ℕ → ℕ) (xs : List ℕ) → length (mapN f xs) ≡ length xs
 unfolding mapN
-length-map f [] = refl
-length-map f (x ∷ xs) = ap suc (length-map f xs)
+map-long f [] = refl
+map-long f (x ∷ xs) = ap suc (map-long f xs)
+
+map-low : (f : ℕ → ℕ) (m : ℕ) → ((x : ℕ) → f x < m) → (xs : List ℕ) → Below m (mapN f xs)
+unfolding mapN
+map-low f m h [] = tt
+map-low f m h (x ∷ xs) = (h x, map-low f m h xs)
 
 -- block after block, and the whole of length n * w
 pub map-blocks : (f : ℕ → ℕ) (w n : ℕ) (xs : List ℕ) → length xs ≡ n * w → build n (λ (i : ℕ). mapN f (block w i xs)) ≡ mapN f xs
@@ -46,8 +50,8 @@ pub rounded-residues : (v m n : ℕ) → 0 < m → (xs : List ℕ) → length xs
 unfolding rounded
 rounded-residues v m n h xs e =
     record {
-      long = length-map (rounded v m) xs ∙ e;
-      low = below-mapN m (rounded v m) (λ (x : ℕ). mod-lt ((x + 2 ^ (v - 1)) / 2 ^ v) h) xs;
+      long = map-long (rounded v m) xs ∙ e;
+      low = map-low (rounded v m) m (λ (x : ℕ). mod-lt ((x + 2 ^ (v - 1)) / 2 ^ v) h) xs;
     }
 
 -- below a smaller number is below a larger one
@@ -55,7 +59,7 @@ pub below-up : (p r : ℕ) (xs : List ℕ) → p ≤ r → Below p xs → Below 
 below-up p r [] h b = tt
 below-up p r (x ∷ xs) h b = (omega (arith, b .0, h), below-up p r xs h (b .1))
 
--- ---- parts of what is done to each element
+-- ---- parts and lengths of what is done to each element
 
 pub map-take : (f : ℕ → ℕ) (n : ℕ) (xs : List ℕ) → take n (mapN f xs) ≡ mapN f (take n xs)
 unfolding mapN
@@ -71,4 +75,4 @@ map-drop f (suc n) (x ∷ xs) = map-drop f n xs
 
 pub scaled-words : (f : List ℕ) → length f ≡ 512 → Words 512 (scaledT f)
 scaled-words f e =
-    record { long = length-map (λ (x : ℕ). x * 2 ^ 42 % q) f ∙ e; low = below-mapN q (λ (x : ℕ). x * 2 ^ 42 % q) (λ (x : ℕ). mod-lt (x * 2 ^ 42) (lit< tt)) f }
+    record { long = map-long (λ (x : ℕ). x * 2 ^ 42 % q) f ∙ e; low = map-low (λ (x : ℕ). x * 2 ^ 42 % q) q (λ (x : ℕ). mod-lt (x * 2 ^ 42) (lit< tt)) f }

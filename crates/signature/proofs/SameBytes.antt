@@ -5,31 +5,17 @@ use mathlib.Core.List.{List, [], _∷_}
 use Prim.Native.Nat.{ℕ, zero, suc, _+_, _≤_, _<_}
 use native.Mathlib.Omega.{arith}
 use native.Mathlib.Numerals.{add-one}
-use borrow.Author.Tests.{eqb-true, eqb-false}
+use borrow.Author.Tests.{eqb-true, eq-eqb, ne-eqb}
 use lib.Dec.{eqb}
 use lib.ListN.{length, getD, drop, drop-of-length-le}
 use lib.Seq.{drop-cons}
+use Rattle.signature.proofs.Checks.{absurd-bool}
 use Rattle.signature.specs.Checks.{both, sameBytes}
-use Rattle.signature.proofs.Entries.{absurd-bool}
-
-eqb-same : (x : ℕ) → eqb x x ≡ true
-eqb-same x = go (eqb x x) refl
-  where
-    go : (b : Bool) → eqb x x ≡ b → eqb x x ≡ true
-    go true e = e
-    go false e = absurd (eqb-false x x e refl)
-
-eqb-not : (x y : ℕ) → (x ≡ y → ⊥) → eqb x y ≡ false
-eqb-not x y h = go (eqb x y) refl
-  where
-    go : (b : Bool) → eqb x y ≡ b → eqb x y ≡ false
-    go true e = absurd (h (eqb-true x y e))
-    go false e = e
 
 pub same-refl : (a : List ℕ) → sameBytes a a ≡ true
 unfolding sameBytes
 same-refl [] = refl
-same-refl (x ∷ a) = ap (λ (b : Bool). both b (sameBytes a a)) (eqb-same x) ∙ same-refl a
+same-refl (x ∷ a) = ap (λ (b : Bool). both b (sameBytes a a)) (eq-eqb x x refl) ∙ same-refl a
 
 pub same-eq : (a b : List ℕ) → sameBytes a b ≡ true → a ≡ b
 unfolding sameBytes
@@ -57,14 +43,14 @@ unfolding sameBytes
 same-turn a b i h g e =
     let n : i + 1 ≡ suc i = add-one i in
     ap (λ (l : List ℕ). sameBytes l (drop i b)) (drop-cons a i 0 h) ∙ ap (sameBytes (getD a i 0 ∷ drop (suc i) a)) (drop-cons b i 0 g)
-    ∙ ap (λ (t : Bool). both t (sameBytes (drop (suc i) a) (drop (suc i) b))) (ap (λ (x : ℕ). eqb (getD a i 0) x) (sym e) ∙ eqb-same (getD a i 0))
+    ∙ ap (λ (t : Bool). both t (sameBytes (drop (suc i) a) (drop (suc i) b))) (ap (λ (x : ℕ). eqb (getD a i 0) x) (sym e) ∙ eq-eqb (getD a i 0) (getD a i 0) refl)
     ∙ ap (λ (m : ℕ). sameBytes (drop m a) (drop m b)) (sym n)
 
 pub same-not : (a b : List ℕ) (i : ℕ) → i < length a → i < length b → (getD a i 0 ≡ getD b i 0 → ⊥) → sameBytes (drop i a) (drop i b) ≡ false
 unfolding sameBytes
 same-not a b i h g e =
     ap (λ (l : List ℕ). sameBytes l (drop i b)) (drop-cons a i 0 h) ∙ ap (sameBytes (getD a i 0 ∷ drop (suc i) a)) (drop-cons b i 0 g)
-    ∙ ap (λ (t : Bool). both t (sameBytes (drop (suc i) a) (drop (suc i) b))) (eqb-not (getD a i 0) (getD b i 0) e)
+    ∙ ap (λ (t : Bool). both t (sameBytes (drop (suc i) a) (drop (suc i) b))) (ne-eqb (getD a i 0) (getD b i 0) e)
 
 pub same-end : (a b : List ℕ) (i : ℕ) → length a ≤ i → length b ≤ i → sameBytes (drop i a) (drop i b) ≡ true
 unfolding sameBytes

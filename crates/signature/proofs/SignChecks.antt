@@ -15,8 +15,8 @@ use Rattle.signature.specs.Checks.{ask, both, attemptsAllowed, signBuffe
 use Rattle.signature.specs.Sign.{Tapes}
 use Rattle.signature.specs.SignCalls.{Key, keySized, keyGood, sharesGood, tapesGood, signNo}
 use Rattle.signature.specs.SignSteps.{keyNo, callNo}
-use Rattle.signature.proofs.Asked.{both-true, sizes, yes-of}
-use Rattle.signature.proofs.Entries.{absurd-bool}
+use Rattle.signature.proofs.Asked.{sizes}
+use Rattle.signature.proofs.Checks.{absurd-bool, asked, both-true, left-no, right-no, both-last}
 
 -- ---- the two parts
 
@@ -40,34 +40,23 @@ module _ (p : Params) (key : Key) (n : ℕ) (msg : List ℕ) (T : Tapes) (out wo
 
 -- ---- check 7
 
-both-no : (a : Bool) → both a false ≡ false
-both-no true = refl
-both-no false = refl
-
-both-yes : (a : Bool) → both a true ≡ a
-both-yes true = refl
-both-yes false = refl
-
 module _ (p : Params) (n : ℕ) (seeds noise masks : List ℕ) where
   abbrev words : ℕ
   words = n * ((p .l + p .k) * p .shares * 512)
 
   pub tapes-masks : (x : Bool) → (length masks ≡ n * 32 → ⊥) → false ≡ tapesGood p n (tapesOf x seeds noise masks)
-  tapes-masks true h =
-      sym (ap (λ (b : Bool). both (eqb (length noise) words) (both (allBelow q noise) b)) (ne-eqb (length masks) (n * 32) h)
-      ∙ ap (both (eqb (length noise) words)) (both-no (allBelow q noise)) ∙ both-no (eqb (length noise) words))
-  tapes-masks false h =
-      sym (ap (both (eqb (length seeds) (n * noiseBytes p))) (ne-eqb (length masks) (n * 32) h) ∙ both-no (eqb (length seeds) (n * noiseBytes p)))
+  tapes-masks true h = sym (right-no (eqb (length noise) words) (right-no (allBelow q noise) (ne-eqb (length masks) (n * 32) h)))
+  tapes-masks false h = sym (right-no (eqb (length seeds) (n * noiseBytes p)) (ne-eqb (length masks) (n * 32) h))
 
   pub tapes-noise : (x : Bool) → x ≡ true → (length noise ≡ words → ⊥) → false ≡ tapesGood p n (tapesOf x seeds noise masks)
-  tapes-noise true e h = sym (ap (λ (b : Bool). both b (both (allBelow q noise) (eqb (length masks) (n * 32)))) (ne-eqb (length noise) words h))
+  tapes-noise true e h = sym (left-no (both (allBelow q noise) (eqb (length masks) (n * 32))) (ne-eqb (length noise) words h))
   tapes-noise false e h = absurd-bool (sym e)
 
   module _ (m : length masks ≡ n * 32) where
     pub tapes-words : (x : Bool) → x ≡ true → length noise ≡ words → allBelow q noise ≡ tapesGood p n (tapesOf x seeds noise masks)
     tapes-words true e h =
         sym (ap (λ (b : Bool). both b (both (allBelow q noise) (eqb (length masks) (n * 32)))) (eq-eqb (length noise) words h)
-        ∙ ap (both (allBelow q noise)) (eq-eqb (length masks) (n * 32) m) ∙ both-yes (allBelow q noise))
+        ∙ ap (both (allBelow q noise)) (eq-eqb (length masks) (n * 32) m) ∙ both-last (allBelow q noise))
     tapes-words false e h = absurd-bool (sym e)
 
     pub tapes-seeds : (x : Bool) → x ≡ false
@@ -75,7 +64,7 @@ module _ (p : Params) (n : ℕ) (seeds noise masks : List ℕ) where
     unfolding noiseBytes
     tapes-seeds false e =
         let a = eqb (length seeds) (n * ((p .l + p .k) * p .shares * p .rep * (p .kappa / 8))) in
-        sym (ap (both a) (eq-eqb (length masks) (n * 32) m) ∙ both-yes a)
+        sym (ap (both a) (eq-eqb (length masks) (n * 32) m) ∙ both-last a)
     tapes-seeds true e = absurd-bool e
 
 -- ---- what passing gives
@@ -99,12 +88,12 @@ signable p key n msg T out work e =
     let n7 = ask 7 (tapesGood p n T) n8 in
     let n6 = ask 6 (attemptsAllowed n) n7 in
     let n5 = ask 5 (sharesGood p key) n6 in
-    let a3 = yes-of 2 (keySized p key) (ask 4 (keyGood p key) n5) e in
-    let a4 = yes-of 3 (keyGood p key) n5 (a3 .1) in
-    let a5 = yes-of 4 (sharesGood p key) n6 (a4 .1) in
-    let a6 = yes-of 5 (attemptsAllowed n) n7 (a5 .1) in
-    let a7 = yes-of 6 (tapesGood p n T) n8 (a6 .1) in
-    let a8 = yes-of 7 (signBuffersSized p out work) n9 (a7 .1) in
+    let a3 = asked 2 (keySized p key) (ask 4 (keyGood p key) n5) e in
+    let a4 = asked 3 (keyGood p key) n5 (a3 .1) in
+    let a5 = asked 4 (sharesGood p key) n6 (a4 .1) in
+    let a6 = asked 5 (attemptsAllowed n) n7 (a5 .1) in
+    let a7 = asked 6 (tapesGood p n T) n8 (a6 .1) in
+    let a8 = asked 7 (signBuffersSized p out work) n9 (a7 .1) in
     let b = both-true (leb 1 n) (leb n 16) (a6 .0) in
     let s = sizes (length out) (p .«sig_bytes») (length work) (workWords p) (a8 .0) in
     record {

@@ -43,7 +43,7 @@ verifyOf p vk msg sig =
     (ask 9 (messageSized msg) (ask 13 (signatureSized p sig) (ask 14 (properForm p sig) (verifyFields p vk msg (read p sig))))))
 
 -- the set is looked up with any share count: nothing in a verdict depends on it
-abbrev verifyFor : Selected → List ℕ → List ℕ → List ℕ → ℕ
+abbrev pub verifyFor : Selected → List ℕ → List ℕ → List ℕ → ℕ
 verifyFor Selected.NoSet vk msg sig = 1
 verifyFor Selected.NoShares vk msg sig = 1
 verifyFor (Selected.Found p) vk msg sig = verifyOf p vk msg sig

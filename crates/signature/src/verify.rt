@@ -170,3 +170,53 @@ fn verify_hash(
     }
     16
 }
+
+// Lines 1 and 2: the fields, checks 14 and 15; then the rest.
+fn verify_fields(p: Params, vk: &[u8], msg: &[u8], sig: &[u8]) -> u32
+    requires { ⌜ Tabled p × (length (now vk) ≡ p .«vk_bytes») × Below 125 (vkVector p (now vk)) × (length (now sig) ≡ p .«sig_bytes») ⌝ }
+    ensures { λ r. ⌜ r ≡ ask 14 (properForm p (now (sig .entry))) (verifyFields p (now (vk .entry)) (now (msg .entry)) (read p (now (sig .entry)))) ⌝ }
+{
+    let n = p.k * 512;
+    let m = p.l * 512;
+    let b = p.kappa / 4;
+    let mut hint = [0i64; 4608];
+    let mut z = [0i64; 3584];
+    if !read(sig, b, &mut hint[0..n], &mut z[0..m]) {
+        return 14;
+    }
+    if !check_bounds(&hint[0..n], &z[0..m], p.hint_limit, p.binf, p.b22) {
+        return 15;
+    }
+    verify_hash(p, vk, msg, &sig[0..b], &hint[0..n], &z[0..m])
+}
+
+// The checks of lengths and of the public key, then the rest.
+fn verify_with(p: Params, vk: &[u8], msg: &[u8], sig: &[u8]) -> u32
+    requires { ⌜ Tabled p ⌝ }
+    ensures { λ r. ⌜ r ≡ verifyOf p (now (vk .entry)) (now (msg .entry)) (now (sig .entry)) ⌝ }
+{
+    if vk.len() != p.vk_bytes {
+        return 3;
+    }
+    if !public_key_good(vk, p.kappa / 8, p.k) {
+        return 4;
+    }
+    if 4096 < msg.len() {
+        return 9;
+    }
+    if sig.len() != p.sig_bytes {
+        return 13;
+    }
+    verify_fields(p, vk, msg, sig)
+}
+
+// The status of a signature of a message under a public key (01, "Questions put to a call").
+pub fn verify(set: u64, edition: Edition, public_key: &[u8], message: &[u8], signature: &[u8]) -> u32
+    ensures { λ r. ⌜ r ≡ verifyCall edition set (now («public_key» .entry)) (now (message .entry)) (now (signature .entry)) ⌝ }
+{
+    match lookup(set, 1, edition) {
+        Selected::NoSet => 1,
+        Selected::NoShares => 1,
+        Selected::Found(p) => verify_with(p, public_key, message, signature),
+    }
+}

@@ -13,11 +13,6 @@ use Rattle.signature.proofs.Norms.{bounds-are}
 use borrow.Author.Needs.{needs}
 use Rattle.signature.proofs.fields.write_fields.Statement.{statement}
 use Rattle.signature.proofs.fields.write_fields.Tie as tie
-use Rattle.signature.proofs.fields.write_fields.Reads as reads
-use Rattle.signature.proofs.fields.write_fields.Lts as lts
-use Rattle.signature.proofs.bounds.check_bounds.Reads as check-bounds-reads
-use Rattle.signature.proofs.form.bit_count.Reads as bit-count-reads
-use Rattle.signature.proofs.form.write.Reads as write-reads
 
 check-bounds-requires : tie.Need-check-bounds-requires
 check-bounds-requires c κs = let a = c .before .before in
@@ -29,12 +24,6 @@ returns c = let a = c .before .before .before .before in
     let b = a .args in
     let f = fieldsOf (b .hash .now) (b .hint .now) (b .z .now) in
     ends-over (b .p) f (b .out .now) (sym (bounds-are (b .p) f) ∙ sym (c .before .check-bounds .ensures) ∙ not-true _ (c .if1 .taken))
-
-mul-if2 : tie.Need-mul-if2
-mul-if2 c = search needs
-
-bit-count-requires : tie.Need-bit-count-requires
-bit-count-requires c κs = search needs
 
 returns-2 : tie.Need-returns-2
 returns-2 c = let a = c .before .before .before .before .before .before in
@@ -50,9 +39,6 @@ write-requires c κs = let a = c .before .before .before .before .before .before
     let e : c .before .before .bit-count .result ≡ bitCount (fieldsOf (b .hash .now) (b .hint .now) (b .z .now)) = c .before .before .bit-count .ensures ∙ count-is (b .hash .now) (b .hint .now) (b .z .now) in
     (omega (arith, e, c .before .if2 .left), (omega (arith, a .pre .0 .4, T .sig-low), ((λ (i : ℕ). omega (arith, a .pre .1 .0 i)), (λ (i : ℕ). omega (arith, a .pre .1 .1 i)))))
 
-same-length : tie.Need-same-length
-same-length c = search needs
-
 returns-3 : tie.Need-returns-3
 returns-3 c = let a = c .before .before .before .before .before .before .before .before .before .before in
     let b = a .args in
@@ -64,13 +50,5 @@ returns-3 c = let a = c .before .before .before .before .before .before .before 
 
 pub write-fields-spec : {M : Type 1} → statement M
 write-fields-spec =
-    tie.close
-    (tie.spec
-    check-bounds-requires
-    returns
-    mul-if2
-    bit-count-requires
-    returns-2
-    write-requires
-    same-length
-    returns-3)
+    tie.close (tie.spec check-bounds-requires returns (λ c. search needs) (λ c κs. search needs) returns-2
+    write-requires (λ c. search needs) returns-3)

@@ -1,23 +1,18 @@
 use mir.Syntax.{w64}
 use mir.Val.{SFits, toZ, ofZ}
 use mir.ValLaws.{toZ-ofZ}
-use mathlib.Core.Path.{_≡_, refl, ap, sym, _∙_}
-use Prim.Native.Nat.{ℕ, _+_, _-_, _<_, _≤_}
+use mathlib.Core.Path.{_≡_, sym, _∙_}
+use Prim.Native.Nat.{_-_, _<_, _≤_}
 use native.Mathlib.Omega.{arith}
-use lib.Dec.{lit<}
 use lib.IntN.{pos}
 use lib.ListN.{length, getD, take, length-set}
 use Rattle.ring.specs.Round.{centred}
-use Rattle.ring.specs.Words.{zipTo}
-use Rattle.ring.proofs.Sums.{below-at, length-zip, zip-at}
-use Rattle.signature.specs.Recover.{sub31, centredAll}
+use Rattle.ring.proofs.Sums.{below-at}
+use Rattle.signature.specs.Recover.{centredAll}
 use Rattle.signature.proofs.Centred.{length-centred, centred-at, signed-turn, signed-end}
 use borrow.Author.Needs.{needs}
 use Rattle.signature.proofs.residues.centred_into.Statement.{statement}
 use Rattle.signature.proofs.residues.centred_into.Tie as tie
-use Rattle.signature.proofs.residues.centred_into.Reads as reads
-use Rattle.signature.proofs.residues.centred_into.Lts as lts
-use Rattle.ring.proofs.poly.centred.Reads as centred-reads
 
 abbrev Inv-loop : tie.InvT-loop
 Inv-loop words m out₀ i₀ out i = (i ≤ length words) × (length out ≡ length words) × (take i out ≡ take i (centredAll m words))
@@ -25,30 +20,12 @@ Inv-loop words m out₀ i₀ out i = (i ≤ length words) × (length out ≡ len
 abbrev μ-loop : tie.MeasureT-loop
 μ-loop words m out₀ i₀ out i = length words - i
 
-loop-holds : tie.Need-loop-holds Inv-loop μ-loop
-loop-holds c = search needs
-
-mul-centred : tie.Need-mul-centred Inv-loop μ-loop
-mul-centred c = search needs
-
-shared-slice-read-centred : tie.Need-shared-slice-read-centred Inv-loop μ-loop
-shared-slice-read-centred c = search needs
-
 centred-requires : tie.Need-centred-requires Inv-loop μ-loop
 centred-requires c κs = let p = c .before .before .before .before .pre in
     (below-at (c .before .before .before .before .args .m) (p .2) (c .before .before .before .before .args .words .now) (p .1) (c .before .before .loop .i), p .3)
 
-mul-t10 : tie.Need-mul-t10 Inv-loop μ-loop
-mul-t10 c = search needs
-
 slice-set-from-out : tie.Need-slice-set-from-out Inv-loop μ-loop
 slice-set-from-out c = omega (arith, c .before .before .loop-test .taken, c .before .before .before .loop .inv .1)
-
-add-i : tie.Need-add-i Inv-loop μ-loop
-add-i c = search needs
-
-loop-less : tie.Need-loop-less Inv-loop μ-loop
-loop-less c = search needs
 
 loop-again : tie.Need-loop-again Inv-loop μ-loop
 loop-again c = let l = c .before .before .before .loop in
@@ -63,9 +40,6 @@ loop-again c = let l = c .before .before .before .loop in
       signed-turn (l .out) (centredAll m ws) (l .i) _ (omega (arith, h, l .inv .1)) (omega (arith, h, length-centred m ws)) (l .inv .2) v,
     )
 
-same-length : tie.Need-same-length Inv-loop μ-loop
-same-length c = search needs
-
 returns : tie.Need-returns Inv-loop μ-loop
 returns c = let l = c .before .loop in
     let ws = c .before .before .before .args .words .now in
@@ -74,18 +48,6 @@ returns c = let l = c .before .loop in
 
 pub centred-into-spec : {M : Type 1} → statement M
 centred-into-spec =
-    tie.close
-    (tie.spec
-    Inv-loop
-    μ-loop
-    loop-holds
-    mul-centred
-    shared-slice-read-centred
-    centred-requires
-    mul-t10
-    slice-set-from-out
-    add-i
-    loop-less
-    loop-again
-    same-length
+    tie.close (tie.spec Inv-loop μ-loop (λ c. search needs) (λ c. search needs) (λ c. search needs) centred-requires
+    (λ c. search needs) slice-set-from-out (λ c. search needs) (λ c. search needs) loop-again (λ c. search needs)
     returns)

@@ -2,8 +2,8 @@ use mir.Syntax.{w64}
 use mir.Val.{SFits, toZ, ofZ}
 use mir.ValLaws.{toZ-ofZ}
 use native.Mathlib.Nat.{mod-lt}
-use mathlib.Core.Path.{_≡_, refl, ap, sym, _∙_}
-use Prim.Native.Nat.{ℕ, _+_, _-_, _<_, _≤_}
+use mathlib.Core.Path.{_≡_, ap, sym, _∙_}
+use Prim.Native.Nat.{_-_, _<_, _≤_}
 use native.Mathlib.Omega.{arith}
 use lib.Dec.{lit<}
 use lib.IntN.{pos}
@@ -16,30 +16,12 @@ use Rattle.signature.proofs.Centred.{length-centred, centred-at, signed
 use borrow.Author.Needs.{needs}
 use Rattle.signature.proofs.residues.hint_into.Statement.{statement}
 use Rattle.signature.proofs.residues.hint_into.Tie as tie
-use Rattle.signature.proofs.residues.hint_into.Reads as reads
-use Rattle.signature.proofs.residues.hint_into.Lts as lts
-use Rattle.ring.proofs.poly.centred.Reads as centred-reads
 
 abbrev Inv-loop : tie.InvT-loop
 Inv-loop out₀ w y i₀ out i = (i ≤ 512) × (length out ≡ 512) × (take i out ≡ take i (centredAll 31 (zipTo sub31 w y)))
 
 abbrev μ-loop : tie.MeasureT-loop
 μ-loop out₀ w y i₀ out i = 512 - i
-
-loop-holds : tie.Need-loop-holds Inv-loop μ-loop
-loop-holds c = search needs
-
-mul-d : tie.Need-mul-d Inv-loop μ-loop
-mul-d c = search needs
-
-array-read-d : tie.Need-array-read-d Inv-loop μ-loop
-array-read-d c = search needs
-
-mul-d-2 : tie.Need-mul-d-2 Inv-loop μ-loop
-mul-d-2 c = search needs
-
-array-read-d-2 : tie.Need-array-read-d-2 Inv-loop μ-loop
-array-read-d-2 c = search needs
 
 sub-d : tie.Need-sub-d Inv-loop μ-loop
 sub-d c = omega (arith, below-at 31 (lit< tt) (c .before .before .args .t2) (c .before .before .pre .1 .low) (c .before .loop .i))
@@ -50,17 +32,8 @@ add-d c = record { fits = omega (arith, below-at 31 (lit< tt) (c .before .before
 centred-requires : tie.Need-centred-requires Inv-loop μ-loop
 centred-requires c κs = (mod-lt _ (lit< tt), lit< tt)
 
-mul-t9 : tie.Need-mul-t9 Inv-loop μ-loop
-mul-t9 c = search needs
-
 slice-set-from-out : tie.Need-slice-set-from-out Inv-loop μ-loop
 slice-set-from-out c = omega (arith, c .before .loop-test .taken, c .before .before .loop .inv .1)
-
-add-i : tie.Need-add-i Inv-loop μ-loop
-add-i c = search needs
-
-loop-less : tie.Need-loop-less Inv-loop μ-loop
-loop-less c = search needs
 
 loop-again : tie.Need-loop-again Inv-loop μ-loop
 loop-again c = let l = c .before .before .loop in
@@ -79,9 +52,6 @@ loop-again c = let l = c .before .before .loop in
       signed-turn (l .out) (centredAll 31 (zipTo sub31 w y)) (l .i) _ (omega (arith, h, l .inv .1)) (omega (arith, k, length-centred 31 (zipTo sub31 w y))) (l .inv .2) v,
     )
 
-same-length : tie.Need-same-length Inv-loop μ-loop
-same-length c = search needs
-
 returns : tie.Need-returns Inv-loop μ-loop
 returns c = let l = c .before .loop in
     let a = c .before .before in
@@ -90,22 +60,6 @@ returns c = let l = c .before .loop in
 
 pub hint-into-spec : {M : Type 1} → statement M
 hint-into-spec =
-    tie.close
-    (tie.spec
-    Inv-loop
-    μ-loop
-    loop-holds
-    mul-d
-    array-read-d
-    mul-d-2
-    array-read-d-2
-    sub-d
-    add-d
-    centred-requires
-    mul-t9
-    slice-set-from-out
-    add-i
-    loop-less
-    loop-again
-    same-length
-    returns)
+    tie.close (tie.spec Inv-loop μ-loop (λ c. search needs) (λ c. search needs) (λ c. search needs) (λ c. search needs)
+    (λ c. search needs) sub-d add-d centred-requires (λ c. search needs) slice-set-from-out (λ c. search needs)
+    (λ c. search needs) loop-again (λ c. search needs) returns)

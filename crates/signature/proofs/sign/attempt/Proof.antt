@@ -1,7 +1,6 @@
 use Rattle.ring.specs.Uniform.{heldOf}
-use Rattle.signature.proofs.Opened.{not-filled}
 use Rattle.signature.proofs.Fronts.{front-in, front-is}
-use Rattle.signature.proofs.Entries.{filled-some}
+use Rattle.signature.proofs.Checks.{filled-some, not-filled}
 use Rattle.signature.proofs.Attempts.{left-key}
 use Rattle.signature.proofs.AttemptEnds.{seed-front, answered-all, hash-long, commitment-low, ended-stuck, ended-made, ended-over, over-same}
 use Rattle.signature.specs.SignSteps.{publicBy}

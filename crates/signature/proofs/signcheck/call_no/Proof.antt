@@ -1,6 +1,7 @@
+use Rattle.signature.proofs.Checks.{no-here, yes-here, left-no, right-no, both-yes}
+use mathlib.Core.Path.{refl, sym, _∙_}
 use Rattle.signature.specs.SignSteps.{callNo}
 use borrow.Author.Tests.{not-true, not-false, le-leb, lt-leb, eq-eqb, ne-eqb}
-use mathlib.Core.Path.{sym, _∙_}
 use borrow.Author.Needs.{needs}
 use Rattle.signature.proofs.signcheck.call_no.Statement.{statement}
 use Rattle.signature.proofs.signcheck.call_no.Tie as tie
@@ -11,28 +12,24 @@ use Rattle.signature.proofs.signcheck.tapes_good.Reads as tapes-good-re
 
 returns : tie.Need-returns
 unfolding callNo
-returns c = simp (lt-leb 1 _ (c .if1 .taken))
+returns c = no-here 6 _ (left-no _ (lt-leb 1 _ (c .if1 .taken)))
 
 returns-2 : tie.Need-returns-2
 unfolding callNo
-returns-2 c = simp (le-leb 1 _ (c .before .if1 .left), lt-leb _ 16 (c .if2 .taken))
+returns-2 c = no-here 6 _ (right-no _ (lt-leb _ 16 (c .if2 .taken)))
 
 tapes-good-requires : tie.Need-tapes-good-requires
 tapes-good-requires c κs = search needs
 
 returns-3 : tie.Need-returns-3
 unfolding callNo
-returns-3 c = simp (le-leb 1 _ (c .before .before .before .if1 .left), le-leb _ 16 (c .before .before .if2 .left), sym (c .before .tapes-good .ensures) ∙ not-true _ (c .if3 .taken))
+returns-3 c = yes-here 6 (both-yes (le-leb 1 _ (c .before .before .before .if1 .left)) (le-leb _ 16 (c .before .before .if2 .left))) (no-here 7 _ (sym (c .before .tapes-good .ensures) ∙ not-true _ (c .if3 .taken)))
 
 returns-4 : tie.Need-returns-4
 unfolding callNo
 returns-4 c =
-    simp (
-      le-leb 1 _ (c .before .before .before .before .before .if1 .left),
-      le-leb _ 16 (c .before .before .before .before .if2 .left),
-      sym (c .before .before .before .tapes-good .ensures) ∙ not-false _ (c .before .before .if3 .left),
-      ne-eqb _ _ (c .if4 .taken),
-    )
+    yes-here 6 (both-yes (le-leb 1 _ (c .before .before .before .before .before .if1 .left)) (le-leb _ 16 (c .before .before .before .before .if2 .left)))
+    (yes-here 7 (sym (c .before .before .before .tapes-good .ensures) ∙ not-false _ (c .before .before .if3 .left)) (no-here 8 _ (left-no _ (ne-eqb _ _ (c .if4 .taken)))))
 
 work-words-requires : tie.Need-work-words-requires
 work-words-requires c κs = search needs
@@ -40,37 +37,25 @@ work-words-requires c κs = search needs
 returns-5 : tie.Need-returns-5
 unfolding callNo
 returns-5 c =
-    simp (
-      le-leb 1 _ (c .before .before .before .before .before .before .before .if1 .left),
-      le-leb _ 16 (c .before .before .before .before .before .before .if2 .left),
-      sym (c .before .before .before .before .before .tapes-good .ensures) ∙ not-false _ (c .before .before .before .before .if3 .left),
-      eq-eqb _ _ (c .before .before .if4 .left),
-      ne-eqb _ _ (λ e. c .if5 .taken (e ∙ sym (c .before .work-words .ensures))),
-    )
+    yes-here 6 (both-yes (le-leb 1 _ (c .before .before .before .before .before .before .before .if1 .left)) (le-leb _ 16 (c .before .before .before .before .before .before .if2 .left)))
+    (yes-here 7 (sym (c .before .before .before .before .before .tapes-good .ensures) ∙ not-false _ (c .before .before .before .before .if3 .left))
+    (no-here 8 _ (right-no _ (ne-eqb _ _ (λ e. c .if5 .taken (e ∙ sym (c .before .work-words .ensures)))))))
 
 returns-6 : tie.Need-returns-6
 unfolding callNo
 returns-6 c =
-    simp (
-      le-leb 1 _ (c .before .before .before .before .before .before .before .before .if1 .left),
-      le-leb _ 16 (c .before .before .before .before .before .before .before .if2 .left),
-      sym (c .before .before .before .before .before .before .tapes-good .ensures) ∙ not-false _ (c .before .before .before .before .before .if3 .left),
-      eq-eqb _ _ (c .before .before .before .if4 .left),
-      eq-eqb _ _ (c .before .if5 .left ∙ c .before .before .work-words .ensures),
-      lt-leb _ 4096 (c .if6 .taken),
-    )
+    yes-here 6 (both-yes (le-leb 1 _ (c .before .before .before .before .before .before .before .before .if1 .left)) (le-leb _ 16 (c .before .before .before .before .before .before .before .if2 .left)))
+    (yes-here 7 (sym (c .before .before .before .before .before .before .tapes-good .ensures) ∙ not-false _ (c .before .before .before .before .before .if3 .left))
+    (yes-here 8 (both-yes (eq-eqb _ _ (c .before .before .before .if4 .left)) (eq-eqb _ _ (c .before .if5 .left ∙ c .before .before .work-words .ensures)))
+    (no-here 9 _ (lt-leb _ 4096 (c .if6 .taken)))))
 
 returns-7 : tie.Need-returns-7
 unfolding callNo
 returns-7 c =
-    simp (
-      le-leb 1 _ (c .before .before .before .before .before .before .before .before .if1 .left),
-      le-leb _ 16 (c .before .before .before .before .before .before .before .if2 .left),
-      sym (c .before .before .before .before .before .before .tapes-good .ensures) ∙ not-false _ (c .before .before .before .before .before .if3 .left),
-      eq-eqb _ _ (c .before .before .before .if4 .left),
-      eq-eqb _ _ (c .before .if5 .left ∙ c .before .before .work-words .ensures),
-      le-leb _ 4096 (c .if6 .left),
-    )
+    yes-here 6 (both-yes (le-leb 1 _ (c .before .before .before .before .before .before .before .before .if1 .left)) (le-leb _ 16 (c .before .before .before .before .before .before .before .if2 .left)))
+    (yes-here 7 (sym (c .before .before .before .before .before .before .tapes-good .ensures) ∙ not-false _ (c .before .before .before .before .before .if3 .left))
+    (yes-here 8 (both-yes (eq-eqb _ _ (c .before .before .before .if4 .left)) (eq-eqb _ _ (c .before .if5 .left ∙ c .before .before .work-words .ensures)))
+    (yes-here 9 (le-leb _ 4096 (c .if6 .left)) refl)))
 
 pub call-no-spec : {M : Type 1} → statement M
 call-no-spec =

@@ -1,3 +1,5 @@
+use Rattle.signature.proofs.Checks.{no-here, yes-here}
+use mathlib.Core.Path.{refl, sym, _∙_}
 use Rattle.signature.proofs.Opened.{words-few}
 use Rattle.signature.proofs.Asked.{sizes}
 use Rattle.signature.specs.SignSteps.{keyNo}
@@ -6,7 +8,6 @@ use borrow.Author.Tests.{not-true, not-false}
 use lib.ListN.{length}
 use native.Mathlib.Omega.{arith}
 use Prim.Native.Nat.{_*_}
-use mathlib.Core.Path.{sym, _∙_}
 use borrow.Author.Needs.{needs}
 use Rattle.signature.proofs.signcheck.expanded_no.Statement.{statement}
 use Rattle.signature.proofs.signcheck.expanded_no.Tie as tie
@@ -26,8 +27,8 @@ sized-requires : tie.Need-sized-requires
 sized-requires c κs = search needs
 
 returns : tie.Need-returns
-unfolding keyNo vkVector
-returns c = simp (sym (c .before .sized .ensures) ∙ not-true _ (c .if1 .taken))
+unfolding keyNo
+returns c = no-here 3 _ (sym (c .before .sized .ensures) ∙ not-true _ (c .if1 .taken))
 
 public-key-good-requires : tie.Need-public-key-good-requires
 public-key-good-requires c κs =
@@ -38,7 +39,7 @@ public-key-good-requires c κs =
 
 returns-2 : tie.Need-returns-2
 unfolding keyNo vkVector
-returns-2 c = simp (sym (c .before .before .before .before .sized .ensures) ∙ not-false _ (c .before .before .before .if1 .left), sym (c .before .public-key-good .ensures) ∙ not-true _ (c .if2 .taken))
+returns-2 c = yes-here 3 (sym (c .before .before .before .before .sized .ensures) ∙ not-false _ (c .before .before .before .if1 .left)) (no-here 4 _ (sym (c .before .public-key-good .ensures) ∙ not-true _ (c .if2 .taken)))
 
 all-below-requires : tie.Need-all-below-requires
 all-below-requires c κs = search needs
@@ -46,20 +47,14 @@ all-below-requires c κs = search needs
 returns-3 : tie.Need-returns-3
 unfolding keyNo vkVector
 returns-3 c =
-    simp (
-      sym (c .before .before .before .before .before .before .sized .ensures) ∙ not-false _ (c .before .before .before .before .before .if1 .left),
-      sym (c .before .before .before .public-key-good .ensures) ∙ not-false _ (c .before .before .if2 .left),
-      sym (c .before .all-below .ensures) ∙ not-true _ (c .if3 .taken),
-    )
+    yes-here 3 (sym (c .before .before .before .before .before .before .sized .ensures) ∙ not-false _ (c .before .before .before .before .before .if1 .left))
+    (yes-here 4 (sym (c .before .before .before .public-key-good .ensures) ∙ not-false _ (c .before .before .if2 .left)) (no-here 5 _ (sym (c .before .all-below .ensures) ∙ not-true _ (c .if3 .taken))))
 
 returns-4 : tie.Need-returns-4
 unfolding keyNo vkVector
 returns-4 c =
-    simp (
-      sym (c .before .before .before .before .before .before .sized .ensures) ∙ not-false _ (c .before .before .before .before .before .if1 .left),
-      sym (c .before .before .before .public-key-good .ensures) ∙ not-false _ (c .before .before .if2 .left),
-      sym (c .before .all-below .ensures) ∙ not-false _ (c .if3 .left),
-    )
+    yes-here 3 (sym (c .before .before .before .before .before .before .sized .ensures) ∙ not-false _ (c .before .before .before .before .before .if1 .left))
+    (yes-here 4 (sym (c .before .before .before .public-key-good .ensures) ∙ not-false _ (c .before .before .if2 .left)) (yes-here 5 (sym (c .before .all-below .ensures) ∙ not-false _ (c .if3 .left)) refl))
 
 pub expanded-no-spec : {M : Type 1} → statement M
 expanded-no-spec =

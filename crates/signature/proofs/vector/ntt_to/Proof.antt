@@ -1,5 +1,5 @@
-use mathlib.Core.Path.{_≡_, ap, sym, _∙_}
-use Prim.Native.Nat.{_+_, _-_, _*_, _≤_, _<_}
+use mathlib.Core.Path.{ap, sym, _∙_}
+use Prim.Native.Nat.{_+_, _-_, _*_, _≤_}
 use native.Mathlib.Omega.{arith}
 use Rattle.ring.specs.Transform.{ntt}
 use Rattle.sharing.specs.Blocks.{block, build}
@@ -10,11 +10,6 @@ use Rattle.signature.specs.Masked.{transformed}
 use borrow.Author.Needs.{needs}
 use Rattle.signature.proofs.vector.ntt_to.Statement.{statement}
 use Rattle.signature.proofs.vector.ntt_to.Tie as tie
-use Rattle.signature.proofs.vector.ntt_to.Reads as reads
-use Rattle.signature.proofs.vector.ntt_to.Lts as lts
-use Rattle.ring.proofs.poly.ntt.Reads as ntt-reads
-use Rattle.sharing.proofs.region.load.Reads as load-reads
-use Rattle.sharing.proofs.region.store_at.Reads as store-at-reads
 
 abbrev Inv-loop : tie.InvT-loop
 Inv-loop s₀ from to n i₀ s i = (i ≤ n) × Wrote 0 to (i * 512) (build i (λ j. ntt (block 512 j (sub s₀ from (n * 512))))) s₀ s
@@ -26,12 +21,6 @@ loop-holds : tie.Need-loop-holds Inv-loop μ-loop
 loop-holds c = let a = c .before in
     (omega arith, wrote-start 512 (λ j. ntt (block 512 j (sub (a .args .s .now) (a .args .from) (a .args .n * 512)))) 0 (a .args .to) (a .args .s .now) (a .pre .2))
 
-mul-load : tie.Need-mul-load Inv-loop μ-loop
-mul-load c = search needs
-
-add-load : tie.Need-add-load Inv-loop μ-loop
-add-load c = search needs
-
 load-requires : tie.Need-load-requires Inv-loop μ-loop
 load-requires c κs = let w = c .before .before .loop .inv .1 in
     let n = w .long in
@@ -40,22 +29,10 @@ load-requires c κs = let w = c .before .before .loop .inv .1 in
 ntt-requires : tie.Need-ntt-requires Inv-loop μ-loop
 ntt-requires c κs = c .load .ensures .1
 
-mul-store-at : tie.Need-mul-store-at Inv-loop μ-loop
-mul-store-at c = search needs
-
-add-store-at : tie.Need-add-store-at Inv-loop μ-loop
-add-store-at c = search needs
-
 store-at-requires : tie.Need-store-at-requires Inv-loop μ-loop
 store-at-requires c κs = let w = c .before .before .before .before .before .before .loop .inv .1 in
     let n = w .long in
     (omega (arith, n, inside (c .before .before .before .before .before .before .loop .i) (c .before .before .before .before .before .before .before .before .args .n) 512 (c .before .before .before .before .before .loop-test .taken)), w .low, c .before .before .ntt .ensures .1 .low)
-
-add-i : tie.Need-add-i Inv-loop μ-loop
-add-i c = search needs
-
-loop-less : tie.Need-loop-less Inv-loop μ-loop
-loop-less c = search needs
 
 loop-again : tie.Need-loop-again Inv-loop μ-loop
 loop-again c = let l = c .before .before .before .before .before .before .before .before .before .loop in
@@ -66,9 +43,6 @@ loop-again c = let l = c .before .before .before .before .before .before .before
     let e = c .before .before .before .before .before .ntt .ensures .0 ∙ ap ntt (c .before .before .before .before .before .before .load .ensures .0 ∙ u .behind (b .from + l .i * 512) 512 (omega arith) (omega (arith, a .pre .0, inside (l .i) (b .n) 512 h)) ∙ sym (block-sub 512 (b .n) (l .i) (b .s .now) (b .from) h)) in
     (omega (arith, h), wrote-turn 512 (l .i) (λ j. ntt (block 512 j (sub (b .s .now) (b .from) (b .n * 512)))) (omega arith) u (wrote-value e (c .before .before .store-at .ensures)))
 
-same-length : tie.Need-same-length Inv-loop μ-loop
-same-length c = search needs
-
 returns : tie.Need-returns Inv-loop μ-loop
 unfolding transformed
 returns c = let b = c .before .before .before .args in
@@ -76,20 +50,6 @@ returns c = let b = c .before .before .before .args in
 
 pub ntt-to-spec : {M : Type 1} → statement M
 ntt-to-spec =
-    tie.close
-    (tie.spec
-    Inv-loop
-    μ-loop
-    loop-holds
-    mul-load
-    add-load
-    load-requires
-    ntt-requires
-    mul-store-at
-    add-store-at
-    store-at-requires
-    add-i
-    loop-less
-    loop-again
-    same-length
-    returns)
+    tie.close (tie.spec Inv-loop μ-loop loop-holds (λ c. search needs) (λ c. search needs) load-requires ntt-requires
+    (λ c. search needs) (λ c. search needs) store-at-requires (λ c. search needs) (λ c. search needs) loop-again
+    (λ c. search needs) returns)
