@@ -45,6 +45,7 @@ pub mod Responses
 pub mod Rounded
 pub mod Rows
 pub mod SignChecks
+pub mod SignEnds
 pub mod Signs
 pub mod SameBytes
 pub mod Sizes

@@ -1,3 +1,5 @@
+use lib.ListN.{length}
+use lib.Dec.{eqb, leb}
 use Rattle.signature.proofs.Checks.{no-here, yes-here, left-no, right-no, both-yes}
 use mathlib.Core.Path.{refl, sym, _∙_}
 use Rattle.signature.specs.SignSteps.{callNo}
@@ -16,7 +18,7 @@ returns c = no-here 6 _ (left-no _ (lt-leb 1 _ (c .if1 .taken)))
 
 returns-2 : tie.Need-returns-2
 unfolding callNo
-returns-2 c = no-here 6 _ (right-no _ (lt-leb _ 16 (c .if2 .taken)))
+returns-2 c = no-here 6 _ (right-no (leb 1 (c .before .before .before .before .before .before .before .before .args .attempts)) (lt-leb _ 16 (c .if2 .taken)))
 
 tapes-good-requires : tie.Need-tapes-good-requires
 tapes-good-requires c κs = search needs
@@ -39,7 +41,7 @@ unfolding callNo
 returns-5 c =
     yes-here 6 (both-yes (le-leb 1 _ (c .before .before .before .before .before .before .before .if1 .left)) (le-leb _ 16 (c .before .before .before .before .before .before .if2 .left)))
     (yes-here 7 (sym (c .before .before .before .before .before .tapes-good .ensures) ∙ not-false _ (c .before .before .before .before .if3 .left))
-    (no-here 8 _ (right-no _ (ne-eqb _ _ (λ e. c .if5 .taken (e ∙ sym (c .before .work-words .ensures)))))))
+    (no-here 8 _ (right-no (eqb (length (c .before .before .before .before .before .before .before .before .before .before .before .before .before .before .args .out .now)) (c .before .before .before .before .before .before .before .before .before .before .before .before .before .before .args .p .«sig_bytes»)) (ne-eqb _ _ (λ e. c .if5 .taken (e ∙ sym (c .before .work-words .ensures)))))))
 
 returns-6 : tie.Need-returns-6
 unfolding callNo
