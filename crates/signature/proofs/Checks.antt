@@ -27,6 +27,21 @@ pub both-true : (a b : Bool) → both a b ≡ true → (a ≡ true) × (b ≡ tr
 both-true true b e = (refl, e)
 both-true false b e = absurd-bool (sym e)
 
+-- .. a no of one of them; two yes; the last one alone
+pub left-no : {a : Bool} (b : Bool) → a ≡ false → both a b ≡ false
+left-no b e = ap (λ (x : Bool). both x b) e
+
+pub right-no : (a : Bool) {b : Bool} → b ≡ false → both a b ≡ false
+right-no true e = e
+right-no false e = refl
+
+pub both-yes : {a b : Bool} → a ≡ true → b ≡ true → both a b ≡ true
+both-yes {b = b} e h = ap (λ (x : Bool). both x b) e ∙ h
+
+pub both-last : (a : Bool) → both a true ≡ a
+both-last true = refl
+both-last false = refl
+
 -- ---- is the list there?
 
 pub filled-some : (o : Option (List ℕ)) → filled o ≡ true → o ≡ some (heldOf o .poly)

@@ -1,5 +1,6 @@
 pub mod Adjusted
 pub mod Asked
+pub mod AttemptEnds
 pub mod Attempts
 pub mod Canon
 pub mod Canonical
@@ -43,6 +44,8 @@ pub mod Reduced
 pub mod Responses
 pub mod Rounded
 pub mod Rows
+pub mod SignChecks
+pub mod SignEnds
 pub mod Signs
 pub mod SameBytes
 pub mod Sizes

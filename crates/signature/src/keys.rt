@@ -62,7 +62,7 @@ pub(crate) fn public_key_good(key: &[u8], n: usize, k: usize) -> bool
 }
 
 // Questions 3 and 8, of an expanded key: are there vk bytes and n words?
-fn sized(vk: usize, n: usize, bytes: &[u8], words: &[u64]) -> bool
+pub(crate) fn sized(vk: usize, n: usize, bytes: &[u8], words: &[u64]) -> bool
     ensures { λ r. ⌜ r ≡ both (eqb (length (now (bytes .entry))) vk) (eqb (length (now (words .entry))) n) ⌝ }
 {
     if bytes.len() != vk {
@@ -211,7 +211,7 @@ fn full_share(p: Params, part: &[u8], out: &mut [u64])
 }
 
 // Question 5: are the words of the full share below q?
-fn full_share_good(p: Params, part: &[u8]) -> bool
+pub(crate) fn full_share_good(p: Params, part: &[u8]) -> bool
     requires { ⌜ Listed p × (length (now part) ≡ partBytes p) ⌝ }
     ensures { λ r. ⌜ r ≡ allBelow q (fullShare p (now (part .entry))) ⌝ }
 {

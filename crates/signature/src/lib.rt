@@ -21,5 +21,7 @@ mod recover;
 mod residues;
 mod respond;
 mod rounding;
+pub mod sign;
+mod signcheck;
 mod vector;
 pub mod verify;
