@@ -214,7 +214,18 @@ fn sign_found(
     if k == 0 {
         let n = attempts as usize;
         return sign_with(
-            p, packed, key, words, n, message, explicit, seeds, noise, mask_seeds, out, work,
+            p,
+            packed,
+            key,
+            words,
+            n,
+            message,
+            explicit,
+            seeds,
+            noise,
+            mask_seeds,
+            out,
+            work,
         );
     }
     if k > 8 {
@@ -255,7 +266,18 @@ fn sign_any(
             attempts: 0,
         },
         Selected::Found(p) => sign_found(
-            p, attempts, packed, key, words, message, explicit, seeds, noise, mask_seeds, out, work,
+            p,
+            attempts,
+            packed,
+            key,
+            words,
+            message,
+            explicit,
+            seeds,
+            noise,
+            mask_seeds,
+            out,
+            work,
         ),
     }
 }

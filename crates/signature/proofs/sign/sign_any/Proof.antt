@@ -8,22 +8,6 @@ use mathlib.Core.Path.{sym, _∙_}
 use borrow.Author.Needs.{needs}
 use Rattle.signature.proofs.sign.sign_any.Statement.{statement}
 use Rattle.signature.proofs.sign.sign_any.Tie as tie
-use Rattle.signature.proofs.sign.sign_any.Reads as reads
-use Rattle.signature.proofs.sign.sign_any.Lts as lts
-use Rattle.hash.proofs.params.lookup.Reads as lookup-reads
-use Rattle.signature.proofs.sign.sign_found.Reads as sign-found-reads
-
-lookup-requires : tie.Need-lookup-requires
-lookup-requires c κs = search needs
-
-enum-told : tie.Need-enum-told
-enum-told c = search needs
-
-enum-told-2 : tie.Need-enum-told-2
-enum-told-2 c = search needs
-
-enum-known-p : tie.Need-enum-known-p
-enum-known-p c = search needs
 
 sign-found-requires : tie.Need-sign-found-requires
 sign-found-requires c κs =
@@ -44,12 +28,6 @@ returns-2 c =
     sign-no-shares (a .edition) (a .set) (a .shares) (keyFrom (a .packed) (a .key .now) (a .words .now)) (a .attempts) (a .message .now) (tapesOf (a .explicit) (a .seeds .now) (a .noise .now) (a .mask-seeds .now)) (a .out .now) (a .work .now)
     (sym (c .before .before .lookup .ensures) ∙ c .enum-told2 .given .1)
 
-same-length : tie.Need-same-length
-same-length c = search needs
-
-same-length-2 : tie.Need-same-length-2
-same-length-2 c = search needs
-
 returns-3 : tie.Need-returns-3
 returns-3 c =
     let a = c .before .before .before .before .before .before .before .before .before .before .before .before .before .before .before .before .before .before .before .args in
@@ -59,15 +37,5 @@ returns-3 c =
 
 pub sign-any-spec : {M : Type 1} → statement M
 sign-any-spec =
-    tie.close
-    (tie.spec
-    lookup-requires
-    enum-told
-    enum-told-2
-    enum-known-p
-    sign-found-requires
-    returns
-    returns-2
-    same-length
-    same-length-2
-    returns-3)
+    tie.close (tie.spec (λ c κs. search needs) (λ c. search needs) (λ c. search needs) (λ c. search needs)
+    sign-found-requires returns returns-2 (λ c. search needs) (λ c. search needs) returns-3)
