@@ -29,6 +29,12 @@ mod raw {
             set: u32, shares: u32, bytes: *const u8, bytes_len: usize, words: *const u64, words_len: usize, mask_seed: *const u8, mask_len: usize,
             bytes_out: *mut u8, bytes_out_len: usize, words_out: *mut u64, words_out_len: usize,
         ) -> u32;
+        pub fn raccoon_verify(
+            set: u32, public_key: *const u8, key_len: usize, message: *const u8, message_len: usize, signature: *const u8, signature_len: usize,
+        ) -> u32;
+        pub fn raccoon_kat_verify(
+            set: u32, public_key: *const u8, key_len: usize, message: *const u8, message_len: usize, signature: *const u8, signature_len: usize,
+        ) -> u32;
         pub fn raccoon_sample_challenge(set: u32, bytes: *const u8, bytes_len: usize, signed_bytes_out: *mut i8, signed_bytes_len: usize) -> u32;
         pub fn raccoon_sample_uniform(bytes: *const u8, bytes_len: usize, words_out: *mut u64, words_len: usize) -> u32;
     }
@@ -125,4 +131,13 @@ pub fn refresh_key(set: u32, shares: u32, key: (&[u8], &[u64]), mask_seed: &[u8]
             words.len(),
         )
     }
+}
+
+/// Verifying: its status. It is lent nothing to write.
+pub fn verify(edition: Edition, set: u32, public_key: &[u8], message: &[u8], signature: &[u8]) -> u32 {
+    let call = match edition {
+        Edition::Printed => raw::raccoon_verify,
+        Edition::Kat => raw::raccoon_kat_verify,
+    };
+    unsafe { call(set, public_key.as_ptr(), public_key.len(), message.as_ptr(), message.len(), signature.as_ptr(), signature.len()) }
 }

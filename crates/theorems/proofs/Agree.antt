@@ -21,7 +21,7 @@ use Rattle.signature.specs.Matrix.{matrix}
 use Rattle.signature.specs.Sign.{Public}
 use Rattle.signature.specs.SignCalls.{publicFor}
 use Rattle.theorems.specs.Plain.{Totals, noiseTotal, totalsOf, plainFrom, plainNo, plainMade, plainGo, signPlain}
-use Rattle.theorems.specs.Unit.{Unit, signUnit, recordOf, wordAt, secretAt, noiseTotalAt, Fits, Sound, Alike, SameSecret, EqualTotals}
+use Rattle.theorems.specs.Unit.{UnitCall, signUnit, recordOf, wordAt, secretAt, noiseTotalAt, Fits, Sound, Alike, SameSecret, EqualTotals}
 use Rattle.theorems.proofs.ShareCount.{setOf, found-set, look-up, k-same, l-same, plain-same}
 use Rattle.theorems.proofs.Collapse.{secretOf, noiseOf, noiseTotals, shares-are, sign-plain, sign-unknown}
 use Rattle.theorems.proofs.NoiseTotals.{first-at, second-at}
@@ -37,7 +37,7 @@ total-words-at d n i xs w h x lx =
     (sumN-ext d (λ (j : ℕ). getD (block 512 j (block (d * 512) i xs)) x 0) (λ (j : ℕ). getD xs (i * (d * 512) + (j * 512 + x)) 0)
     (λ (j : ℕ) (lj : j < d). block-at 512 j (block (d * 512) i xs) x lx ∙ block-at (d * 512) i xs (j * 512 + x) (omega arith)))
 
-module _ (u : Unit) (p : Params) (is : recordOf u ≡ Selected.Found p) (h : Fits p u) where
+module _ (u : UnitCall) (p : Params) (is : recordOf u ≡ Selected.Found p) (h : Fits p u) where
   secret-at : (i x : ℕ) → i < p .l → x < 512 → getD (total (p .shares) (block (p .shares * 512) i (u .words))) x 0 ≡ secretAt u i x
   unfolding secretAt wordAt
   secret-at i x li lx =
@@ -75,7 +75,7 @@ build-same n m f g e wf wg h =
     build-ext n f g (λ (i : ℕ) (l : i < n). same-residues (f i) (g i) (wf i) (wg i) (λ (x : ℕ) (lx : x < 512). h i x l lx))
     ∙ ap (λ (k : ℕ). build k g) e
 
-module _ (u v : Unit) (p r : Params) (iu : recordOf u ≡ Selected.Found p) (iv : recordOf v ≡ Selected.Found r)
+module _ (u v : UnitCall) (p r : Params) (iu : recordOf u ≡ Selected.Found p) (iv : recordOf v ≡ Selected.Found r)
     (hu : Fits p u) (hv : Fits r v) (al : Alike u v) where
   one-set : setOf p ≡ setOf r
   one-set =
@@ -130,10 +130,10 @@ module _ (u v : Unit) (p r : Params) (iu : recordOf u ≡ Selected.Found p) (iv 
       e1 ∙ e3 ∙ e4 ∙ e5 ∙ sym e2
 
 -- AGREEMENT, the answers
-pub answers-agree : (u v : Unit) → Sound u → Sound v → Alike u v → SameSecret u v → EqualTotals u v → signUnit u ≡ signUnit v
+pub answers-agree : (u v : UnitCall) → Sound u → Sound v → Alike u v → SameSecret u v → EqualTotals u v → signUnit u ≡ signUnit v
 answers-agree u v hu hv al s t = go (eqb (setIndex (u .set)) 3) refl
   where
-    look : (w : Unit) → Sound w → u .set ≡ w .set → (b : Bool) → eqb (setIndex (u .set)) 3 ≡ b
+    look : (w : UnitCall) → Sound w → u .set ≡ w .set → (b : Bool) → eqb (setIndex (u .set)) 3 ≡ b
         → recordOf w ≡ pick b Selected.NoSet (Selected.Found (paramsOf (rowAt (6 * setIndex (w .set) + orderIndex (w .shares))) (w .edition)))
     look w h e b i =
         look-up (w .set) (w .shares) (w .edition) (h .count)

@@ -26,7 +26,7 @@ use Rattle.signature.specs.Matrix.{matrix}
 use Rattle.signature.specs.Sign.{answer, noiseSize, noiseFrom, noiseAt}
 use Rattle.signature.specs.SignCalls.{tapesGood, signNo, publicFor, signMade, signGo, signFor, signOf}
 use Rattle.theorems.specs.Plain.{Totals, totalsOf, plainNo, plainMade, plainGo, signPlain}
-use Rattle.theorems.specs.Unit.{Unit, keyOf, tapesOf, signUnit, recordOf, Fits}
+use Rattle.theorems.specs.Unit.{UnitCall, keyOf, tapesOf, signUnit, recordOf, Fits}
 use Rattle.theorems.proofs.Checks.{both-true, both-yes, below-all}
 use Rattle.theorems.proofs.Steps.{GoodNoise, collapse}
 
@@ -69,16 +69,16 @@ module _ (p : Params) where
 -- ---- the answer
 
 -- the unit's secret; its noise in attempt a + 1, and the totals of it
-abbrev pub secretOf : Params → Unit → List ℕ
+abbrev pub secretOf : Params → UnitCall → List ℕ
 secretOf p u = totals (p .l) (p .shares) (u .words)
 
-abbrev pub noiseOf : Params → Unit → ℕ → Noise
+abbrev pub noiseOf : Params → UnitCall → ℕ → Noise
 noiseOf p u a = noiseAt p (tapesOf u) a
 
-abbrev pub noiseTotals : Params → Unit → ℕ → Totals
+abbrev pub noiseTotals : Params → UnitCall → ℕ → Totals
 noiseTotals p u a = totalsOf p (noiseOf p u a)
 
-module _ (u : Unit) (p : Params) (is : recordOf u ≡ Selected.Found p) (h : Fits p u) where
+module _ (u : UnitCall) (p : Params) (is : recordOf u ≡ Selected.Found p) (h : Fits p u) where
   row : Row (u .set) (u .shares) (u .edition) p
   row = found (u .set) (u .shares) (u .edition) p is
 
@@ -124,6 +124,6 @@ module _ (u : Unit) (p : Params) (is : recordOf u ≡ Selected.Found p) (h : Fit
       ∙ ap (λ (m : ℕ). plainGo m p (u .vk) (u .attempts) (u .message) (secretOf p u) (noiseTotals p u)) no-plain
 
 -- of an unknown set there is one answer
-pub sign-unknown : (u : Unit) → recordOf u ≡ Selected.NoSet → signUnit u ≡ answer 1 0 []
+pub sign-unknown : (u : UnitCall) → recordOf u ≡ Selected.NoSet → signUnit u ≡ answer 1 0 []
 unfolding signUnit signOf
 sign-unknown u is = ap (λ (s : Selected). signFor s (keyOf u) (u .attempts) (u .message) (tapesOf u) (u .result) (u .work)) is

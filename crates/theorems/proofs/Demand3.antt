@@ -12,7 +12,7 @@ use Rattle.hash.specs.declared.params.Selected.{Selected}
 use Rattle.signature.specs.Sign.{Answer, Tapes}
 use Rattle.signature.specs.SignCalls.{Key, Signing, leftBy, signOf, signCall}
 use Rattle.signature.specs.Verify.{verifyCall}
-use Rattle.theorems.specs.Unit.{Unit, tapesOf, signUnit, callUnit, Sound, Alike, SameSecret, EqualTotals}
+use Rattle.theorems.specs.Unit.{UnitCall, tapesOf, signUnit, callUnit, Sound, Alike, SameSecret, EqualTotals}
 use Rattle.theorems.proofs.Agree.{answers-agree}
 use Rattle.theorems.proofs.AcceptCall.{known-accepted, found-with}
 
@@ -32,7 +32,7 @@ pub accepted-packed : (e : Edition) (set d : ℕ) (p : Params) → lookupOf set 
     → verifyCall e set (take (p .«vk_bytes») key) msg (signOf e set d (Key.packed key) n msg T out work .signature) ≡ 0
 accepted-packed e set d p is key n msg T out work h = known-accepted e set d p is (Key.packed key) n msg T out work h
 
-pub accepted-unit : (u : Unit) → signUnit u .status ≡ 0 → verifyCall (u .edition) (u .set) (u .vk) (u .message) (signUnit u .signature) ≡ 0
+pub accepted-unit : (u : UnitCall) → signUnit u .status ≡ 0 → verifyCall (u .edition) (u .set) (u .vk) (u .message) (signUnit u .signature) ≡ 0
 unfolding signUnit
 accepted-unit u h = accepted (u .edition) (u .set) (u .shares) (u .vk) (u .words) (u .attempts) (u .message) (tapesOf u) (u .result) (u .work) h
 
@@ -40,33 +40,33 @@ accepted-unit u h = accepted (u .edition) (u .set) (u .shares) (u .vk) (u .words
 -- the same secret, and in every allowed attempt their noise adds to equal totals at every coefficient. Whatever the share counts, the sharings, the
 -- mask seeds and what the buffers held, both from seeds, both with explicit noise or one and one: status, attempts and signature are the same,
 -- after a refusal too; and with 0 the verifier accepts the signature.
-pub agreement : (u v : Unit) → Sound u → Sound v → Alike u v → SameSecret u v → EqualTotals u v
+pub agreement : (u v : UnitCall) → Sound u → Sound v → Alike u v → SameSecret u v → EqualTotals u v
     → (signUnit u ≡ signUnit v) × (signUnit u .status ≡ 0 → verifyCall (u .edition) (u .set) (u .vk) (u .message) (signUnit u .signature) ≡ 0)
 agreement u v hu hv al s t = (answers-agree u v hu hv al s t, accepted-unit u)
 
 -- ---- the same, of what the calls give and leave
 
 -- equal status and attempts; with 0 the result buffers hold the same signature, which the verifier accepts
-pub record Agreed (u v : Unit) : Type 0 where
+pub record Agreed (u v : UnitCall) : Type 0 where
   pub status : callUnit u .status ≡ callUnit v .status
   pub attempts : callUnit u .attempts ≡ callUnit v .attempts
   pub bytes : callUnit u .status ≡ 0 → callUnit u .bytes ≡ callUnit v .bytes
   pub verified : callUnit u .status ≡ 0 → verifyCall (u .edition) (u .set) (u .vk) (u .message) (callUnit u .bytes) ≡ 0
 
 -- what a call leaves in its result buffer with 0
-left-is : (u : Unit) → callUnit u ≡ leftBy (signUnit u) (u .result) (u .work)
+left-is : (u : UnitCall) → callUnit u ≡ leftBy (signUnit u) (u .result) (u .work)
 unfolding callUnit signUnit signCall
 left-is u = refl
 
 left-bytes : (A : Answer) (out work : List ℕ) → A .status ≡ 0 → leftBy A out work .bytes ≡ A .signature
 left-bytes A out work e = ap (λ b. pick b (A .signature) out) (eq-eqb (A .status) 0 e)
 
-bytes-are : (u : Unit) → callUnit u .status ≡ 0 → callUnit u .bytes ≡ signUnit u .signature
+bytes-are : (u : UnitCall) → callUnit u .status ≡ 0 → callUnit u .bytes ≡ signUnit u .signature
 bytes-are u h =
     let l : callUnit u ≡ leftBy (signUnit u) (u .result) (u .work) = left-is u in
     ap (λ (s : Signing). s .bytes) l ∙ left-bytes (signUnit u) (u .result) (u .work) (ap (λ (s : Signing). s .status) (sym l) ∙ h)
 
-pub results-agree : (u v : Unit) → Sound u → Sound v → Alike u v → SameSecret u v → EqualTotals u v → Agreed u v
+pub results-agree : (u v : UnitCall) → Sound u → Sound v → Alike u v → SameSecret u v → EqualTotals u v → Agreed u v
 results-agree u v hu hv al s t =
     let p : signUnit u ≡ signUnit v = answers-agree u v hu hv al s t in
     let lu : callUnit u ≡ leftBy (signUnit u) (u .result) (u .work) = left-is u in

@@ -48,7 +48,7 @@ pub record Accepts (e : Edition) (set : ℕ) (vk msg sig : List ℕ) : Type 0 wh
   pub equal : f .hash ≡ recomputed p A (vkVector p vk) (muOf p vk msg) f c
 
 -- .. of the record of the set
-record Found (p : Params) (vk msg sig : List ℕ) : Type 0 where
+record Passed (p : Params) (vk msg sig : List ℕ) : Type 0 where
   key-sized : publicKeySized p vk ≡ true
   key-good : publicKeyGood p vk ≡ true
   message-sized : messageSized msg ≡ true
@@ -56,9 +56,9 @@ record Found (p : Params) (vk msg sig : List ℕ) : Type 0 where
   proper : properForm p sig ≡ true
   rest : verifyFields p vk msg (read p sig) ≡ 0
 
-found : (p : Params) (vk msg sig : List ℕ) → verifyOf p vk msg sig ≡ 0 → Found p vk msg sig
+passed : (p : Params) (vk msg sig : List ℕ) → verifyOf p vk msg sig ≡ 0 → Passed p vk msg sig
 unfolding verifyOf
-found p vk msg sig z =
+passed p vk msg sig z =
     let a = asked 2 (publicKeySized p vk) _ z in
     let b = asked 3 (publicKeyGood p vk) _ (a .1) in
     let c = asked 8 (messageSized msg) _ (b .1) in
@@ -71,7 +71,7 @@ module _ (e : Edition) (set : ℕ) (vk msg sig : List ℕ) (byte : Bytes sig) wh
   unfolding verifyCall
   only-accepted z = look (lookupOf set 1 e) refl z
     where
-      hash : (p : Params) → lookupOf set 1 e ≡ Selected.Found p → Found p vk msg sig → (f : Fields) → read p sig ≡ some f → write p f ≡ some sig
+      hash : (p : Params) → lookupOf set 1 e ≡ Selected.Found p → Passed p vk msg sig → (f : Fields) → read p sig ≡ some f → write p f ≡ some sig
           → checkBounds p f ≡ true → (A : List ℕ) → matrix p (vkSeed p vk) ≡ some A
           → (o : Option (List ℤ)) → chalPoly p (f .hash) ≡ o → verifyChallenge p A (vkVector p vk) (muOf p vk msg) f o ≡ 0 → Accepts e set vk msg sig
       hash p l h f r w b A m none c v = absurd (omega (arith, v))
@@ -95,7 +95,7 @@ module _ (e : Edition) (set : ℕ) (vk msg sig : List ℕ) (byte : Bytes sig) wh
             equal = same-eq (f .hash) (recomputed p A (vkVector p vk) (muOf p vk msg) f x) (asked 15 (hashEqual f (recomputed p A (vkVector p vk) (muOf p vk msg) f x)) 0 v .0);
           }
 
-      entries : (p : Params) → lookupOf set 1 e ≡ Selected.Found p → Found p vk msg sig → (f : Fields) → read p sig ≡ some f → write p f ≡ some sig
+      entries : (p : Params) → lookupOf set 1 e ≡ Selected.Found p → Passed p vk msg sig → (f : Fields) → read p sig ≡ some f → write p f ≡ some sig
           → checkBounds p f ≡ true → (o : Option (List ℕ)) → matrix p (vkSeed p vk) ≡ o → verifyMatrix p vk msg f o ≡ 0 → Accepts e set vk msg sig
       entries p l h f r w b none m v = absurd (omega (arith, v))
       entries p l h f r w b (some A) m v = hash p l h f r w b A m (chalPoly p (f .hash)) refl v
@@ -104,7 +104,7 @@ module _ (e : Edition) (set : ℕ) (vk msg sig : List ℕ) (byte : Bytes sig) wh
       look Selected.NoSet l v = absurd (omega (arith, v))
       look Selected.NoShares l v = absurd (omega (arith, v))
       look (Selected.Found p) l v =
-          let h = found p vk msg sig v in
+          let h = passed p vk msg sig v in
           let w = proper-is p sig (h .proper) in
           let u : verifyFields p vk msg (some (w .f)) ≡ 0 = ap (verifyFields p vk msg) (sym (w .read-is)) ∙ h .rest in
           let b = asked 14 (checkBounds p (w .f)) _ u in

@@ -19,7 +19,7 @@ use Rattle.sharing.proofs.Lists.{block-at}
 use Rattle.signature.specs.Masked.{Noise, seeded, explicit}
 use Rattle.signature.specs.Sign.{noiseSize, noiseFrom, noiseAt}
 use Rattle.theorems.specs.Plain.{noiseTotal}
-use Rattle.theorems.specs.Unit.{Unit, recordOf, lentAt, sampledAt, noiseTotalAt, Fits}
+use Rattle.theorems.specs.Unit.{UnitCall, recordOf, lentAt, sampledAt, noiseTotalAt, Fits}
 use Rattle.theorems.proofs.Steps.{GoodNoise}
 use Rattle.theorems.proofs.Collapse.{noiseOf, shares-are, uw-low, good}
 use Rattle.theorems.proofs.Tape.{explicit-first, explicit-second, seeded-first, seeded-second}
@@ -40,7 +40,7 @@ sum-one : (f : ℕ → ℕ) → sumN 1 f ≡ f 0
 unfolding sumN
 sum-one f = zero-add (f 0)
 
-module _ (u : Unit) (p : Params) (is : recordOf u ≡ Selected.Found p) (h : Fits p u) (a : ℕ) (x : ℕ) (hx : x < 512) where
+module _ (u : UnitCall) (p : Params) (is : recordOf u ≡ Selected.Found p) (h : Fits p u) (a : ℕ) (x : ℕ) (hx : x < 512) where
   abbrev m : ℕ
   m = p .l + p .k
 

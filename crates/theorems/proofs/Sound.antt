@@ -11,12 +11,12 @@ use Rattle.ring.specs.Words.{q}
 use Rattle.ring.proofs.Sums.{all-below}
 use Rattle.signature.specs.Checks.{publicKeySized}
 use Rattle.signature.specs.SignCalls.{signNo, signGo, signFor, signOf}
-use Rattle.theorems.specs.Unit.{Unit, keyOf, tapesOf, signUnit, recordOf, Fits, Sound}
+use Rattle.theorems.specs.Unit.{UnitCall, keyOf, tapesOf, signUnit, recordOf, Fits, Sound}
 use Rattle.theorems.proofs.Checks.{both-true, AllPassed, all-passed}
 use Rattle.theorems.proofs.ShareCount.{found-set}
 use Rattle.theorems.proofs.AcceptCall.{found-with}
 
-module _ (u : Unit) (h : signUnit u .status ≡ 0) where
+module _ (u : UnitCall) (h : signUnit u .status ≡ 0) where
   none-no : (p : Params) → recordOf u ≡ Selected.Found p → signNo p (keyOf u) (u .attempts) (u .message) (tapesOf u) (u .result) (u .work) ≡ 0
   unfolding signUnit signOf
   none-no p is =
