@@ -25,10 +25,10 @@ use Rattle.signature.specs.Keys.{seedBytes, vkSeed, vkVector}
 use Rattle.signature.specs.Matrix.{matrix, filled}
 use Rattle.signature.specs.Opening.{Listed}
 use Rattle.signature.specs.Sign.{Public, Attempted, made, over, stuck, Answer, answer, Tapes, ended, refreshedKey, attempted, noiseAt, maskAt, signFrom}
-use Rattle.signature.specs.SignCalls.{Key, keySized, keyGood, publicOf, sharesOf, signNo, publicFor, signMade, signGo, signOf, signing, leftBy, signCall}
+use Rattle.signature.specs.SignCalls.{Key, keySized, keyGood, publicOf, sharesOf, signNo, publicFor, signMade, signGo, signOf, Signing, signing, leftBy, signCall}
 use Rattle.signature.specs.SignSteps.{kept}
 use Rattle.signature.proofs.Asked.{sizes}
-use Rattle.signature.proofs.Checks.{filled-some, not-filled, both-yes, right-no}
+use Rattle.signature.proofs.Checks.{not-filled, both-yes, right-no}
 use Rattle.signature.proofs.Loads.{packed-long}
 use Rattle.signature.proofs.Opened.{vk-in}
 
@@ -131,6 +131,32 @@ module _ (p : Params) (key : Key) (msg : List ℕ) (T : Tapes) (n : ℕ) (out wo
 
 -- ---- the call
 
+module _ (p : Params) (key : Key) (n : ℕ) (msg : List ℕ) (T : Tapes) (out work : List ℕ) (k : ℕ) (f : k ≡ signNo p key n msg T out work) where
+  abbrev found : Signing
+  found = leftBy (signGo (signNo p key n msg T out work) p key n msg T) out work
+
+  pub found-on : k ≡ 0 → leftBy (signMade p (publicOf p key) msg T n (matrix p (vkSeed p (publicOf p key))) (sharesOf p key)) out work ≡ found
+  found-on z = ap (λ (m : ℕ). leftBy (signGo m p key n msg T) out work) (sym z ∙ f)
+
+  module _ (no : k ≡ 0 → ⊥) where
+    -- k is not 0
+    above : (m : ℕ) → (m ≡ 0 → ⊥) → (1 ≤ m) × (signing m 0 out (pick (both (leb 1 m) (leb m 8)) work (zeros (length work))) ≡ leftBy (signGo m p key n msg T) out work)
+    above zero z = absurd (z refl)
+    above (suc m) z =
+        let b = both (leb 1 (suc m)) (leb (suc m) 8) in
+        (omega arith, ap (λ (x : Bool). signing (suc m) 0 (pick x [] out) (pick b work (zeros (length work)))) (sym (ne-eqb (suc m) 0 z)))
+
+    refused : signing k 0 out (pick (both (leb 1 k) (leb k 8)) work (zeros (length work))) ≡ found
+    refused = above k no .1 ∙ ap (λ (m : ℕ). leftBy (signGo m p key n msg T) out work) f
+
+    pub found-refused : k ≤ 8 → signing k 0 out work ≡ found
+    found-refused m =
+        ap (λ (b : Bool). signing k 0 out (pick b work (zeros (length work)))) (sym (both-yes (le-leb 1 k (above k no .0)) (le-leb k 8 m))) ∙ refused
+
+    -- check 9
+    pub found-cleared : 8 < k → signing k 0 out (zeros (length work)) ≡ found
+    found-cleared m = ap (λ (b : Bool). signing k 0 out (pick b work (zeros (length work)))) (sym (right-no (leb 1 k) (lt-leb k 8 m))) ∙ refused
+
 module _ (e : Edition) (set d : ℕ) (key : Key) (n : ℕ) (msg : List ℕ) (T : Tapes) (out work : List ℕ) where
   pub sign-no-set : lookupOf set d e ≡ Selected.NoSet → signing 1 0 out work ≡ signCall e set d key n msg T out work
   unfolding signCall signOf
@@ -140,31 +166,7 @@ module _ (e : Edition) (set d : ℕ) (key : Key) (n : ℕ) (msg : List ℕ) (T :
   unfolding signCall signOf
   sign-no-shares h = rw h
 
-  module _ (p : Params) (h : lookupOf set d e ≡ Selected.Found p) where
-    goes : signCall e set d key n msg T out work ≡ leftBy (signGo (signNo p key n msg T out work) p key n msg T) out work
-    unfolding signCall signOf
-    goes = rw h
-
-    pub sign-on : signNo p key n msg T out work ≡ 0
-        → leftBy (signMade p (publicOf p key) msg T n (matrix p (vkSeed p (publicOf p key))) (sharesOf p key)) out work ≡ signCall e set d key n msg T out work
-    sign-on z = sym (goes ∙ ap (λ (k : ℕ). leftBy (signGo k p key n msg T) out work) z)
-
-    refused-as : (k : ℕ) → k ≡ signNo p key n msg T out work → (k ≡ 0 → ⊥)
-        → signing k 0 out (pick (both (leb 1 k) (leb k 8)) work (zeros (length work))) ≡ signCall e set d key n msg T out work
-    refused-as zero f z = absurd (z refl)
-    refused-as (suc k) f z =
-        ap (λ (b : Bool). signing (suc k) 0 (pick b [] out) (pick (both (leb 1 (suc k)) (leb (suc k) 8)) work (zeros (length work)))) (sym (ne-eqb (suc k) 0 z))
-        ∙ sym (goes ∙ ap (λ (m : ℕ). leftBy (signGo m p key n msg T) out work) (sym f))
-
-    pub sign-refused : (k : ℕ) → k ≡ signNo p key n msg T out work → (k ≡ 0 → ⊥) → k ≤ 8 → signing k 0 out work ≡ signCall e set d key n msg T out work
-    sign-refused k f z m =
-        ap (λ (b : Bool). signing k 0 out (pick b work (zeros (length work)))) (sym (both-yes (le-leb 1 k (positive k z)) (le-leb k 8 m))) ∙ refused-as k f z
-      where
-        positive : (k : ℕ) → (k ≡ 0 → ⊥) → 1 ≤ k
-        positive zero z = absurd (z refl)
-        positive (suc k) z = omega arith
-
-    -- check 9: the work buffer is cleared
-    pub sign-cleared : (k : ℕ) → k ≡ signNo p key n msg T out work → (k ≡ 0 → ⊥) → 8 < k
-        → signing k 0 out (zeros (length work)) ≡ signCall e set d key n msg T out work
-    sign-cleared k f z m = ap (λ (b : Bool). signing k 0 out (pick b work (zeros (length work)))) (sym (right-no (leb 1 k) (lt-leb k 8 m))) ∙ refused-as k f z
+  pub sign-on : (p : Params) → lookupOf set d e ≡ Selected.Found p
+      → leftBy (signGo (signNo p key n msg T out work) p key n msg T) out work ≡ signCall e set d key n msg T out work
+  unfolding signCall signOf
+  sign-on p h = rw h

@@ -16,7 +16,7 @@ ghost use Rattle.signature.specs.Matrix.{matrix};
 ghost use Rattle.signature.specs.Opening.{Listed};
 ghost use Rattle.signature.specs.Recover.{muOf};
 ghost use Rattle.signature.specs.Sign.{answer, attempted, noiseAt, maskAt, refreshedKey};
-ghost use Rattle.signature.specs.SignCalls.{packed, expanded, publicOf, sharesOf, tapesGood, signNo, signMade, signing, leftBy, signCall};
+ghost use Rattle.signature.specs.SignCalls.{packed, expanded, publicOf, sharesOf, tapesGood, signNo, signMade, signGo, signing, leftBy, signCall};
 ghost use Rattle.signature.specs.SignSteps.{publicBy, EndedAs, kept};
 ghost use Rattle.signature.specs.Table.{Tabled};
 use crate::attempt::answer;
@@ -32,7 +32,7 @@ use hash::params::lookup;
 use sharing::region::clear;
 
 // The end of an attempt (01: try): a signature; over the bounds or too long; a challenge (check 11), the matrix (check 10) that does not fill.
-pub enum AttemptEnd {
+pub(crate) enum AttemptEnd {
     Made,
     Over,
     Stuck,
@@ -179,6 +179,64 @@ fn sign_with(
     r
 }
 
+// Signing with a record of the table: checks 3 to 9, and what follows. The work buffer is zero after 9 and as it was after those before.
+fn sign_found(
+    p: Params,
+    attempts: u64,
+    packed: bool,
+    key: &[u8],
+    words: &[u64],
+    message: &[u8],
+    explicit: bool,
+    seeds: &[u8],
+    noise: &[u64],
+    mask_seeds: &[u8],
+    out: &mut [u8],
+    work: &mut [u64],
+) -> Signed
+    requires { ⌜ Tabled p × Listed p × Small p × Ranges p ⌝ }
+    ensures { λ r. ⌜ signing (r .status) (r .attempts) (now (out .exit)) (now (work .exit)) ≡ leftBy (signGo (signNo p (keyFrom packed (now (key .entry)) (now (words .entry))) attempts (now (message .entry)) (tapesOf explicit (now (seeds .entry)) (now (noise .entry)) (now («mask_seeds» .entry))) (now (out .entry)) (now (work .entry))) p (keyFrom packed (now (key .entry)) (now (words .entry))) attempts (now (message .entry)) (tapesOf explicit (now (seeds .entry)) (now (noise .entry)) (now («mask_seeds» .entry)))) (now (out .entry)) (now (work .entry)) ⌝ }
+{
+    let k = sign_no(
+        p,
+        packed,
+        key,
+        words,
+        attempts,
+        message,
+        explicit,
+        seeds,
+        noise,
+        mask_seeds,
+        out,
+        work,
+    );
+    if k == 0 {
+        let n = attempts as usize;
+        return sign_with(
+            p,
+            packed,
+            key,
+            words,
+            n,
+            message,
+            explicit,
+            seeds,
+            noise,
+            mask_seeds,
+            out,
+            work,
+        );
+    }
+    if k > 8 {
+        clear(work);
+    }
+    Signed {
+        status: k,
+        attempts: 0,
+    }
+}
+
 // Signing with a key of either form and noise of either form (01, "Questions put to a call": 1 to 12).
 fn sign_any(
     set: u64,
@@ -207,35 +265,20 @@ fn sign_any(
             status: 2,
             attempts: 0,
         },
-        Selected::Found(p) => {
-            let k = sign_no(
-                p, packed, key, words, attempts, message, explicit, seeds, noise, mask_seeds, out,
-                work,
-            );
-            if k == 0 {
-                return sign_with(
-                    p,
-                    packed,
-                    key,
-                    words,
-                    attempts as usize,
-                    message,
-                    explicit,
-                    seeds,
-                    noise,
-                    mask_seeds,
-                    out,
-                    work,
-                );
-            }
-            if k > 8 {
-                clear(work);
-            }
-            Signed {
-                status: k,
-                attempts: 0,
-            }
-        }
+        Selected::Found(p) => sign_found(
+            p,
+            attempts,
+            packed,
+            key,
+            words,
+            message,
+            explicit,
+            seeds,
+            noise,
+            mask_seeds,
+            out,
+            work,
+        ),
     }
 }
 

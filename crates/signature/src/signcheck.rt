@@ -147,5 +147,15 @@ pub(crate) fn sign_no(
     if k != 0 {
         return k;
     }
-    call_no(p, attempts, message, explicit, seeds, noise, mask_seeds, out, work)
+    call_no(
+        p,
+        attempts,
+        message,
+        explicit,
+        seeds,
+        noise,
+        mask_seeds,
+        out,
+        work,
+    )
 }

@@ -10,7 +10,7 @@ use Rattle.signature.specs.Keys.{vkSeed}
 use Rattle.signature.specs.Keygen.{atS}
 use Rattle.signature.specs.Attempt.{tapesOf}
 use Rattle.sharing.specs.Region.{sub}
-use borrow.Rule.Slice.PartMut.{midOf, mid-len}
+use borrow.Rule.Slice.PartMut.{mid-len}
 use borrow.Author.Tests.{not-true, not-false}
 use lib.ListN.{length, replicate}
 use native.Mathlib.Omega.{arith}
@@ -20,26 +20,6 @@ use mathlib.Core.Path.{_≡_, refl, sym, ap, _∙_}
 use borrow.Author.Needs.{needs}
 use Rattle.signature.proofs.sign.attempt.Statement.{statement}
 use Rattle.signature.proofs.sign.attempt.Tie as tie
-use Rattle.signature.proofs.sign.attempt.Reads as reads
-use Rattle.signature.proofs.sign.attempt.Lts as lts
-use Rattle.signature.proofs.attempt.answer.Reads as answer-reads
-use Rattle.signature.proofs.commit.commit.Reads as commit-reads
-use Rattle.signature.proofs.fields.finish.Reads as finish-reads
-
-sub-commit : tie.Need-sub-commit
-sub-commit c = search needs
-
-part-commit-start : tie.Need-part-commit-start
-part-commit-start c = search needs
-
-part-commit-end : tie.Need-part-commit-end
-part-commit-end c = search needs
-
-commit-requires : tie.Need-commit-requires
-commit-requires c κs = search needs
-
-same-length : tie.Need-same-length
-same-length c = search needs
 
 returns : tie.Need-returns
 returns c =
@@ -47,12 +27,6 @@ returns c =
     let z = c .before .before .before .before .commit .ensures in
     let e = ap (λ (l : List ℕ). filled (matrix (b .p) l)) (sym (seed-front (b .p) (b .vk .now))) in
     ((z .0 .1, z .0 .2), (not-filled (matrix (b .p) (vkSeed (b .p) (b .vk .now))) (e ∙ sym (z .0 .0) ∙ not-true _ (c .if1 .taken)), refl))
-
-sub-answer : tie.Need-sub-answer
-sub-answer c = search needs
-
-part-hash-start : tie.Need-part-hash-start
-part-hash-start c = search needs
 
 part-hash-end : tie.Need-part-hash-end
 part-hash-end c =
@@ -67,9 +41,6 @@ answer-requires c κs =
     let o : n - 0 ≡ n = omega arith in
     (a .pre .0 .1, z .0 .1 ∙ a .pre .0 .2, z .0 .2, mid-len 0 n (replicate 64 0) (a .pre .0 .0 .hash-low) ∙ o)
 
-same-length-2 : tie.Need-same-length-2
-same-length-2 c = search needs
-
 returns-2 : tie.Need-returns-2
 returns-2 c =
     let b = c .before .before .before .before .before .before .before .before .before .before .before .before .before .before .before .before .before .before .before .before .before .before .before .before .args in
@@ -81,12 +52,6 @@ returns-2 c =
     let fill = ap (λ (l : List ℕ). filled (matrix p l)) (sym e) ∙ sym (z .0 .0) ∙ not-false _ (c .before .before .before .before .before .before .before .before .if1 .left) in
     let u = answered-all p (b .vk .now) (b .mu .now) (noiseAt p T (b .a)) (maskAt T (b .a)) _ _ (b .work .now) _ _ _ _ e (z .1) (v .1) in
     ((v .0 .0 ∙ z .0 .1, v .0 .1), (fill, ended-stuck p (b .vk .now) (b .mu .now) (noiseAt p T (b .a)) (maskAt T (b .a)) (sub (b .work .now) (atS (p .shares)) (p .l * (p .shares * 512))) _ _ _ fill u (not-true _ (c .if2 .taken)), refl))
-
-sub-finish : tie.Need-sub-finish
-sub-finish c = search needs
-
-part-finish-start : tie.Need-part-finish-start
-part-finish-start c = search needs
 
 part-finish-end : tie.Need-part-finish-end
 part-finish-end c =
@@ -118,12 +83,6 @@ finish-requires c κs =
     let H = front-is (p .kappa / 4) (replicate 64 0) (c .before .before .before .before .before .before .before .before .before .before .answer .last .1 .1 .1 .0) (a .pre .0 .0 .hash-low) n in
     ((a .pre .0 .0, a .pre .0 .1, v .0 .0 ∙ z .0 .1 ∙ a .pre .0 .2, v .0 .1, w), (a .pre .1 .0 .0, a .pre .1 .0 .1, fill, ap (λ (l : List ℕ). length l) H ∙ n, a .pre .1 .0 .2))
 
-same-length-3 : tie.Need-same-length-3
-same-length-3 c = search needs
-
-same-length-4 : tie.Need-same-length-4
-same-length-4 c = search needs
-
 returns-3 : tie.Need-returns-3
 returns-3 c =
     let a = c .before .before .before .before .before .before .before .before .before .before .before .before .before .before .before .before .before .before .before .before .before .before .before .before .before .before .before .before .before .before .before .before .before .before .before in
@@ -140,12 +99,6 @@ returns-3 c =
     let n = hash-long p (b .vk .now) (b .mu .now) (noiseAt p T (b .a)) (maskAt T (b .a)) s _ _ _ fill u in
     let H = front-is (p .kappa / 4) (replicate 64 0) (c .before .before .before .before .before .before .before .before .before .before .before .before .before .before .before .before .answer .last .1 .1 .1 .0) (a .pre .0 .0 .hash-low) n in
     ((f .0 .0 ∙ v .0 .0 ∙ z .0 .1, f .0 .1), (fill, ended-made p (b .vk .now) (b .mu .now) (noiseAt p T (b .a)) (maskAt T (b .a)) s _ _ _ fill u (not-false _ (c .before .before .before .before .before .before .before .before .before .before .before .if2 .left)) _ H _ _ _ (f .1) (c .if3 .taken)))
-
-same-length-5 : tie.Need-same-length-5
-same-length-5 c = search needs
-
-same-length-6 : tie.Need-same-length-6
-same-length-6 c = search needs
 
 returns-4 : tie.Need-returns-4
 returns-4 c =
@@ -171,27 +124,7 @@ returns-4 c =
 
 pub attempt-spec : {M : Type 1} → statement M
 attempt-spec =
-    tie.close
-    (tie.spec
-    sub-commit
-    part-commit-start
-    part-commit-end
-    commit-requires
-    same-length
-    returns
-    sub-answer
-    part-hash-start
-    part-hash-end
-    answer-requires
-    same-length-2
-    returns-2
-    sub-finish
-    part-finish-start
-    part-finish-end
-    finish-requires
-    same-length-3
-    same-length-4
-    returns-3
-    same-length-5
-    same-length-6
-    returns-4)
+    tie.close (tie.spec (λ c. search needs) (λ c. search needs) (λ c. search needs) (λ c κs. search needs)
+    (λ c. search needs) returns (λ c. search needs) (λ c. search needs) part-hash-end answer-requires
+    (λ c. search needs) returns-2 (λ c. search needs) (λ c. search needs) part-finish-end finish-requires
+    (λ c. search needs) (λ c. search needs) returns-3 (λ c. search needs) (λ c. search needs) returns-4)

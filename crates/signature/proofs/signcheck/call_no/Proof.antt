@@ -7,10 +7,6 @@ use borrow.Author.Tests.{not-true, not-false, le-leb, lt-leb, eq-eqb, ne-eqb}
 use borrow.Author.Needs.{needs}
 use Rattle.signature.proofs.signcheck.call_no.Statement.{statement}
 use Rattle.signature.proofs.signcheck.call_no.Tie as tie
-use Rattle.signature.proofs.signcheck.call_no.Reads as reads
-use Rattle.signature.proofs.signcheck.call_no.Lts as lts
-use Rattle.signature.proofs.keycheck.work_words.Reads as work-words-reads
-use Rattle.signature.proofs.signcheck.tapes_good.Reads as tapes-good-reads
 
 returns : tie.Need-returns
 unfolding callNo
@@ -19,9 +15,6 @@ returns c = no-here 6 _ (left-no _ (lt-leb 1 _ (c .if1 .taken)))
 returns-2 : tie.Need-returns-2
 unfolding callNo
 returns-2 c = no-here 6 _ (right-no (leb 1 (c .before .before .before .before .before .before .before .before .args .attempts)) (lt-leb _ 16 (c .if2 .taken)))
-
-tapes-good-requires : tie.Need-tapes-good-requires
-tapes-good-requires c κs = search needs
 
 returns-3 : tie.Need-returns-3
 unfolding callNo
@@ -32,9 +25,6 @@ unfolding callNo
 returns-4 c =
     yes-here 6 (both-yes (le-leb 1 _ (c .before .before .before .before .before .if1 .left)) (le-leb _ 16 (c .before .before .before .before .if2 .left)))
     (yes-here 7 (sym (c .before .before .before .tapes-good .ensures) ∙ not-false _ (c .before .before .if3 .left)) (no-here 8 _ (left-no _ (ne-eqb _ _ (c .if4 .taken)))))
-
-work-words-requires : tie.Need-work-words-requires
-work-words-requires c κs = search needs
 
 returns-5 : tie.Need-returns-5
 unfolding callNo
@@ -61,14 +51,5 @@ returns-7 c =
 
 pub call-no-spec : {M : Type 1} → statement M
 call-no-spec =
-    tie.close
-    (tie.spec
-    returns
-    returns-2
-    tapes-good-requires
-    returns-3
-    returns-4
-    work-words-requires
-    returns-5
-    returns-6
-    returns-7)
+    tie.close (tie.spec returns returns-2 (λ c κs. search needs) returns-3 returns-4 (λ c κs. search needs) returns-5
+    returns-6 returns-7)

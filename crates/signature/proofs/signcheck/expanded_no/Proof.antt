@@ -11,20 +11,9 @@ use Prim.Native.Nat.{_*_}
 use borrow.Author.Needs.{needs}
 use Rattle.signature.proofs.signcheck.expanded_no.Statement.{statement}
 use Rattle.signature.proofs.signcheck.expanded_no.Tie as tie
-use Rattle.signature.proofs.signcheck.expanded_no.Reads as reads
-use Rattle.signature.proofs.signcheck.expanded_no.Lts as lts
-use Rattle.ring.proofs.poly.all_below.Reads as all-below-reads
-use Rattle.signature.proofs.keys.public_key_good.Reads as public-key-good-reads
-use Rattle.signature.proofs.keys.sized.Reads as sized-reads
-
-mul-n : tie.Need-mul-n
-mul-n c = search needs
 
 mul-n-2 : tie.Need-mul-n-2
 mul-n-2 c = omega (arith, words-few (c .before .before .before .before .args .p) (c .before .before .before .before .pre))
-
-sized-requires : tie.Need-sized-requires
-sized-requires c κs = search needs
 
 returns : tie.Need-returns
 unfolding keyNo
@@ -41,9 +30,6 @@ returns-2 : tie.Need-returns-2
 unfolding keyNo vkVector
 returns-2 c = yes-here 3 (sym (c .before .before .before .before .sized .ensures) ∙ not-false _ (c .before .before .before .if1 .left)) (no-here 4 _ (sym (c .before .public-key-good .ensures) ∙ not-true _ (c .if2 .taken)))
 
-all-below-requires : tie.Need-all-below-requires
-all-below-requires c κs = search needs
-
 returns-3 : tie.Need-returns-3
 unfolding keyNo vkVector
 returns-3 c =
@@ -58,14 +44,5 @@ returns-4 c =
 
 pub expanded-no-spec : {M : Type 1} → statement M
 expanded-no-spec =
-    tie.close
-    (tie.spec
-    mul-n
-    mul-n-2
-    sized-requires
-    returns
-    public-key-good-requires
-    returns-2
-    all-below-requires
-    returns-3
-    returns-4)
+    tie.close (tie.spec (λ c. search needs) mul-n-2 (λ c κs. search needs) returns public-key-good-requires returns-2
+    (λ c κs. search needs) returns-3 returns-4)

@@ -6,20 +6,11 @@ use mathlib.Core.Path.{_∙_}
 use borrow.Author.Needs.{needs}
 use Rattle.signature.proofs.signcheck.tapes_good.Statement.{statement}
 use Rattle.signature.proofs.signcheck.tapes_good.Tie as tie
-use Rattle.signature.proofs.signcheck.tapes_good.Reads as reads
-use Rattle.signature.proofs.signcheck.tapes_good.Lts as lts
-use Rattle.ring.proofs.poly.all_below.Reads as all-below-reads
-
-mul-if1 : tie.Need-mul-if1
-mul-if1 c = search needs
 
 returns : tie.Need-returns
 returns c =
     let a = c .before .before .before .before .args in
     tapes-masks (a .p) (a .n) (a .seeds .now) (a .noise .now) (a .mask-seeds .now) (a .explicit) (c .if1 .taken)
-
-add-c : tie.Need-add-c
-add-c c = search needs
 
 mul-c : tie.Need-mul-c
 mul-c c =
@@ -40,9 +31,6 @@ returns-2 : tie.Need-returns-2
 returns-2 c =
     let a = c .before .before .before .before .before .before .before .before .args in
     tapes-noise (a .p) (a .n) (a .seeds .now) (a .noise .now) (a .mask-seeds .now) (a .explicit) (c .before .if2 .taken) (c .if3 .taken)
-
-all-below-requires : tie.Need-all-below-requires
-all-below-requires c κs = search needs
 
 returns-3 : tie.Need-returns-3
 returns-3 c =
@@ -71,18 +59,5 @@ returns-4 c =
 
 pub tapes-good-spec : {M : Type 1} → statement M
 tapes-good-spec =
-    tie.close
-    (tie.spec
-    mul-if1
-    returns
-    add-c
-    mul-c
-    mul-if3
-    mul-if3-2
-    returns-2
-    all-below-requires
-    returns-3
-    mul-result
-    mul-result-2
-    mul-result-3
-    returns-4)
+    tie.close (tie.spec (λ c. search needs) returns (λ c. search needs) mul-c mul-if3 mul-if3-2 returns-2
+    (λ c κs. search needs) returns-3 mul-result mul-result-2 mul-result-3 returns-4)
