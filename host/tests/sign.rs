@@ -379,16 +379,11 @@ fn all_sets_and_share_counts_in_every_form() {
             let packed = Call::new(&p, Key::Packed(key.clone()), message.clone(), seeds.clone());
             let answer = packed.checked();
             assert_eq!((answer.0, answer.1), (0, 1), "{set}-{d}");
-            let other = Call { masks: random.bytes(32), key: expanded(&p, &key), ..packed.clone() };
-            assert!(other.checked() == answer, "{set}-{d}: an expanded key");
-            // the same totals as the seeds have
-            for key in [&packed.key, &other.key] {
-                let call = Call { key: key.clone(), noise: explicit.clone(), masks: random.bytes(32), ..packed.clone() };
-                assert!(call.checked() == answer, "{set}-{d}: explicit noise");
-            }
-            // whatever the buffers held
-            for fill in [0, u64::MAX, Q] {
-                assert!(other.run_on(fill) == answer, "{set}-{d}: buffers of {fill}");
+            // the same totals in every form, with other masks, whatever the buffers held
+            let opened = expanded(&p, &key);
+            for (key, noise, fill) in [(&opened, &seeds, u64::MAX), (&packed.key, &explicit, 0), (&opened, &explicit, Q)] {
+                let call = Call { key: key.clone(), noise: noise.clone(), masks: random.bytes(32), ..packed.clone() };
+                assert!(call.run_on(fill) == answer, "{set}-{d}: another form");
             }
             let p = Params { edition: Edition::Kat, ..p };
             let kat = Call::new(&p, Key::Packed(signing_key(&p)), message, seeds).checked();
