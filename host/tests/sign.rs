@@ -2,7 +2,7 @@
 //! share counts, attempts that fail, and each refusal. Status, attempts and signature are compared with the independent implementation, with
 //! guards around the result and the work buffer; what was signed is verified.
 
-use koivrast_host::independent::raccoon::{expand, keygen, refresh, sample_u, sign, Edition, Noise, Params};
+use koivrast_host::independent::raccoon::{expand, form_bits, keygen, read, refresh, sample_u, sign, Edition, Noise, Params};
 use koivrast_host::independent::ring::{N, Q};
 use koivrast_host::known::{digest, known, word_bytes, xof};
 use koivrast_host::random::Random;
@@ -496,6 +496,56 @@ fn attempts_that_fail() {
         let mut call = Call::new(&p, key, vec![], Tape::Seeds(random.bytes(5 * p.noise_bytes())));
         set_share_word(&mut call, &p, true, Q - 1);
         assert_eq!(call.numbers(), (12, 5));
+    }
+}
+
+/// Signatures of exactly the length that there is, and too long by one bit: the places of these in a search over the numbers of [`Random`].
+#[test]
+fn length_to_the_bit() {
+    for (set, ones, full, over) in [(128, 1000, 88, 32), (192, 1310, 345, 152), (256, 1770, 245, 561)] {
+        let p = params(set, 1);
+        let key = signing_key(&p);
+        let (vk, secret) = (&key[..p.vk_bytes()], expand(&p, &key).unwrap());
+        let totals = |number: u64| {
+            let mut totals = small_totals(&p, &mut Random(number));
+            // one more bit in so many codes of the response
+            totals.iter_mut().take(ones).for_each(|x| *x = if *x < Q / 2 { *x + (1 << 40) } else { *x - (1 << 40) });
+            totals
+        };
+        let call = |d: usize, tapes: &[&Vec<u64>]| laid_out_call(&params(set, d), vk, &secret, tapes, b"near", &mut Random(64));
+        let (full, over) = (totals(full), totals(over));
+        let answer = call(1, &[&full]).checked();
+        let fields = read(&p, &answer.2.expect("a signature")).unwrap();
+        assert_eq!(form_bits(&fields).len(), 8 * p.sig_bytes);
+        assert_eq!(call(1, &[&over]).numbers(), (12, 1), "{set}: one bit too long");
+        assert_eq!(call(2, &[&over, &full]).numbers(), (0, 2), "{set}: one bit too long, then full");
+    }
+}
+
+/// Sums of squares at the bound and one above it: responses whose squares make up what so many hints of 1 leave, and messages that give just
+/// these hints (their places in a search).
+#[test]
+fn sum_of_squares_at_its_bound() {
+    for (set, hints, at, above) in [(128, 640, 20, 113), (192, 1150, 200, 262), (256, 1780, 79, 178)] {
+        let p = params(set, 1);
+        let key = signing_key(&p);
+        let (vk, secret) = (&key[..p.vk_bytes()], expand(&p, &key).unwrap());
+        let call = |sum: u64, number: u32| {
+            let mut totals = vec![0u64; (p.l + p.k) * N];
+            let mut rest = sum - (hints << 24);
+            for x in totals.iter_mut().take(p.l * N) {
+                // half of the bits that do not count leave room for the secret's part of the response
+                let root = rest.isqrt().min((p.binf >> 32) - 1);
+                rest -= root * root;
+                *x = root << 32 | 1 << 31;
+            }
+            assert_eq!(rest, 0);
+            laid_out_call(&p, vk, &secret, &[&totals], &number.to_le_bytes(), &mut Random(65))
+        };
+        let fields = read(&p, &call(p.b22, at).checked().2.expect("a signature")).unwrap();
+        let squares = |v: &[i64], shift: u32| v.iter().map(|x| (x.unsigned_abs() >> shift).pow(2)).sum::<u64>();
+        assert_eq!((squares(&fields.hint, 0) << 24) + squares(&fields.response, 32), p.b22, "{set}: at the bound");
+        assert_eq!(call(p.b22 + 1, above).numbers(), (12, 1), "{set}: one above the bound");
     }
 }
 
