@@ -1,9 +1,13 @@
 // The unit's calls for C: one export for each call of paper 01, with the contract of the function behind it.
 ghost use mathlib.Core.Path.{_≡_};
+ghost use mathlib.Core.Bool.{true, false};
 ghost use Rattle.hash.specs.declared.params.Edition.{Edition};
 ghost use Rattle.ring.specs.Uniform.{sampledOf};
 ghost use Rattle.signature.specs.Challenge.{sampledChallenge};
 ghost use Rattle.signature.specs.KeyCalls.{outcome, keygenCall, expandCall, refreshCall};
+ghost use Rattle.signature.specs.SignCalls.{packed, expanded, signing, signCall};
+ghost use Rattle.signature.specs.Verify.{verifyCall};
+use signature::sign::Signed;
 
 // Key generation (01: key making): checks 1, 2, 7, 8 and 10.
 #[no_mangle]
@@ -114,6 +118,193 @@ pub extern "C" fn raccoon_refresh_key(
         mask_seed,
         bytes_out,
         words_out,
+    )
+}
+
+// Signing with a signing key, from noise seeds: checks 1 to 10, 11 within each attempt, 12. Status and attempts.
+#[no_mangle]
+pub extern "C" fn raccoon_sign(
+    set: u32,
+    shares: u32,
+    attempts: u32,
+    key: &[u8],
+    message: &[u8],
+    noise_seeds: &[u8],
+    mask_seeds: &[u8],
+    signature_out: &mut [u8],
+    work: &mut [u64],
+) -> Signed
+    ensures { λ r. ⌜ signing (r .status) (r .attempts) (now («signature_out» .exit)) (now (work .exit)) ≡ signCall Edition.Printed set shares (packed (now (key .entry))) attempts (now (message .entry)) (record { explicit = false; noise = now («noise_seeds» .entry); masks = now («mask_seeds» .entry) }) (now («signature_out» .entry)) (now (work .entry)) ⌝ }
+{
+    signature::sign::sign(
+        set as u64,
+        shares as u64,
+        hash::params::Edition::Printed,
+        attempts as u64,
+        key,
+        message,
+        noise_seeds,
+        mask_seeds,
+        signature_out,
+        work,
+    )
+}
+
+// The same in the edition of the response files.
+#[no_mangle]
+pub extern "C" fn raccoon_kat_sign(
+    set: u32,
+    shares: u32,
+    attempts: u32,
+    key: &[u8],
+    message: &[u8],
+    noise_seeds: &[u8],
+    mask_seeds: &[u8],
+    signature_out: &mut [u8],
+    work: &mut [u64],
+) -> Signed
+    ensures { λ r. ⌜ signing (r .status) (r .attempts) (now («signature_out» .exit)) (now (work .exit)) ≡ signCall Edition.Kat set shares (packed (now (key .entry))) attempts (now (message .entry)) (record { explicit = false; noise = now («noise_seeds» .entry); masks = now («mask_seeds» .entry) }) (now («signature_out» .entry)) (now (work .entry)) ⌝ }
+{
+    signature::sign::sign(
+        set as u64,
+        shares as u64,
+        hash::params::Edition::Kat,
+        attempts as u64,
+        key,
+        message,
+        noise_seeds,
+        mask_seeds,
+        signature_out,
+        work,
+    )
+}
+
+// With an expanded key (01: opened key).
+#[no_mangle]
+pub extern "C" fn raccoon_sign_expanded(
+    set: u32,
+    shares: u32,
+    attempts: u32,
+    bytes: &[u8],
+    words: &[u64],
+    message: &[u8],
+    noise_seeds: &[u8],
+    mask_seeds: &[u8],
+    signature_out: &mut [u8],
+    work: &mut [u64],
+) -> Signed
+    ensures { λ r. ⌜ signing (r .status) (r .attempts) (now («signature_out» .exit)) (now (work .exit)) ≡ signCall Edition.Printed set shares (expanded (now (bytes .entry)) (now (words .entry))) attempts (now (message .entry)) (record { explicit = false; noise = now («noise_seeds» .entry); masks = now («mask_seeds» .entry) }) (now («signature_out» .entry)) (now (work .entry)) ⌝ }
+{
+    signature::sign::sign_expanded(
+        set as u64,
+        shares as u64,
+        hash::params::Edition::Printed,
+        attempts as u64,
+        bytes,
+        words,
+        message,
+        noise_seeds,
+        mask_seeds,
+        signature_out,
+        work,
+    )
+}
+
+// With a signing key and explicit noise (01: bench form).
+#[no_mangle]
+pub extern "C" fn raccoon_sign_explicit(
+    set: u32,
+    shares: u32,
+    attempts: u32,
+    key: &[u8],
+    message: &[u8],
+    noise_words: &[u64],
+    mask_seeds: &[u8],
+    signature_out: &mut [u8],
+    work: &mut [u64],
+) -> Signed
+    ensures { λ r. ⌜ signing (r .status) (r .attempts) (now («signature_out» .exit)) (now (work .exit)) ≡ signCall Edition.Printed set shares (packed (now (key .entry))) attempts (now (message .entry)) (record { explicit = true; noise = now («noise_words» .entry); masks = now («mask_seeds» .entry) }) (now («signature_out» .entry)) (now (work .entry)) ⌝ }
+{
+    signature::sign::sign_explicit(
+        set as u64,
+        shares as u64,
+        hash::params::Edition::Printed,
+        attempts as u64,
+        key,
+        message,
+        noise_words,
+        mask_seeds,
+        signature_out,
+        work,
+    )
+}
+
+// With an expanded key and explicit noise.
+#[no_mangle]
+pub extern "C" fn raccoon_sign_expanded_explicit(
+    set: u32,
+    shares: u32,
+    attempts: u32,
+    bytes: &[u8],
+    words: &[u64],
+    message: &[u8],
+    noise_words: &[u64],
+    mask_seeds: &[u8],
+    signature_out: &mut [u8],
+    work: &mut [u64],
+) -> Signed
+    ensures { λ r. ⌜ signing (r .status) (r .attempts) (now («signature_out» .exit)) (now (work .exit)) ≡ signCall Edition.Printed set shares (expanded (now (bytes .entry)) (now (words .entry))) attempts (now (message .entry)) (record { explicit = true; noise = now («noise_words» .entry); masks = now («mask_seeds» .entry) }) (now («signature_out» .entry)) (now (work .entry)) ⌝ }
+{
+    signature::sign::sign_expanded_explicit(
+        set as u64,
+        shares as u64,
+        hash::params::Edition::Printed,
+        attempts as u64,
+        bytes,
+        words,
+        message,
+        noise_words,
+        mask_seeds,
+        signature_out,
+        work,
+    )
+}
+
+// Verifying: checks 1, 3, 4, 9, 13, 14, 15, 10, 11 and 16.
+#[no_mangle]
+pub extern "C" fn raccoon_verify(
+    set: u32,
+    public_key: &[u8],
+    message: &[u8],
+    signature: &[u8],
+) -> u32
+    ensures { λ r. ⌜ r ≡ verifyCall Edition.Printed set (now («public_key» .entry)) (now (message .entry)) (now (signature .entry)) ⌝ }
+{
+    signature::verify::verify(
+        set as u64,
+        hash::params::Edition::Printed,
+        public_key,
+        message,
+        signature,
+    )
+}
+
+// The same for a signature of the response files.
+#[no_mangle]
+pub extern "C" fn raccoon_kat_verify(
+    set: u32,
+    public_key: &[u8],
+    message: &[u8],
+    signature: &[u8],
+) -> u32
+    ensures { λ r. ⌜ r ≡ verifyCall Edition.Kat set (now («public_key» .entry)) (now (message .entry)) (now (signature .entry)) ⌝ }
+{
+    signature::verify::verify(
+        set as u64,
+        hash::params::Edition::Kat,
+        public_key,
+        message,
+        signature,
     )
 }
 

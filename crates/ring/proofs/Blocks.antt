@@ -16,7 +16,7 @@ use Rattle.ring.specs.Residue.{prime, rootOf, over512, up, down, join, p
 use Rattle.ring.proofs.Sums.{below-take, below-drop, below-append}
 use Rattle.ring.proofs.Places.{length-map2, below-map2, residues-mods}
 use Rattle.ring.proofs.Butterfly.{up-low, down-low}
-use Rattle.ring.proofs.Inverse.{residues-bwd}
+use Rattle.ring.proofs.Inverse.{residues-bwd, pow-two}
 use Rattle.ring.proofs.Tables.{prime-pos}
 use Rattle.ring.proofs.Rests.{forth-residues, back-residues}
 
@@ -49,9 +49,6 @@ module _ (h : ℕ) (S X : List ℕ) (es : length S ≡ 2 * h) (ex : length X ≡
       cc (take-at X (drop h S) h ex, none, append-nil Y)
 
 -- ---- a block above the last
-
-pow-two : (d : ℕ) → 2 ^ suc d ≡ 2 * 2 ^ d
-pow-two d = omega arith
 
 module _ (p d k : ℕ) (A : List ℕ) (l : 2 < d) (b : Block p d k A) where
   below : d ≡ suc (d - 1)

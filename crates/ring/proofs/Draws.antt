@@ -19,6 +19,7 @@ use Rattle.hash.specs.Keccak.{State, keccakF}
 use Rattle.hash.specs.Shake.{absorbed, after, stream, shake256}
 use Rattle.hash.proofs.Table.{length-table, getD-table}
 use Rattle.ring.specs.Words.{q, Below, Words}
+use Rattle.ring.specs.Checks.{filled}
 use Rattle.ring.specs.Uniform.{draw, keep, kept, draws, uniform, sampleQ, sampledOf, heldOf, Gathered}
 use Rattle.ring.specs.declared.uniform.Sampled.{Sampled}
 use Rattle.ring.proofs.Sums.{below-append, below-take, words-zeros}
@@ -159,9 +160,9 @@ module _ (S A : State) (i l : ℕ) (e : A ≡ after (7 * i) S) (z : l ≡ 952) w
 
 module _ (s a₀ a : List ℕ) (n r : ℕ) (v : Gathered s n a₀ 0 a r) where
   -- 512 draws are kept
-  pub filled : n ≤ draws (length s) → r ≡ 512 → uniform s ≡ some a
+  pub fills : n ≤ draws (length s) → r ≡ 512 → uniform s ≡ some a
   unfolding uniform
-  filled h e =
+  fills h e =
       let N = draws (length s) in
       let w : n + (N - n) ≡ N = omega arith in
       let l : 512 ≤ length (kept s n) = omega (arith, v .count, length-take 512 (kept s n)) in
@@ -182,18 +183,18 @@ module _ (s a₀ a : List ℕ) (n r : ℕ) (v : Gathered s n a₀ 0 a r) where
       let m : length (kept s (draws (length s))) < 512 = rw h at l in
       rw (lt-leb _ _ m)
 
--- over lent bytes: questions 8 and 10
+-- over lent bytes: checks 8 and 10
 module _ (s out : List ℕ) where
   pub refused : (length out ≡ 512 → ⊥) → (8, out) ≡ sampledOf s out
   unfolding sampledOf
   refused h = rw (ne-eqb _ _ h)
 
   pub answered-none : length out ≡ 512 → uniform s ≡ none → (10, out) ≡ sampledOf s out
-  unfolding sampledOf
+  unfolding sampledOf filled
   answered-none h e = rw (eq-eqb _ _ h, e)
 
   pub answered-some : (f : List ℕ) → length out ≡ 512 → uniform s ≡ some f → (0, f) ≡ sampledOf s out
-  unfolding sampledOf
+  unfolding sampledOf filled
   answered-some f h e = rw (eq-eqb _ _ h, e)
 
 -- ---- its words
@@ -236,7 +237,7 @@ module _ (hdr seed a : List ℕ) (S : State) (n r : ℕ) (e : S ≡ absorbed (hd
   unfolding sampleQ heldOf
   held-some h g =
       let d : n ≤ draws (length (table (stream S) 5439)) = rw length-table h in
-      let f : sampleQ hdr seed ≡ some a = rw (← e) (filled (table (stream S) 5439) [] a n r v d g) in
+      let f : sampleQ hdr seed ≡ some a = rw (← e) (fills (table (stream S) 5439) [] a n r v d g) in
       (ap heldOf (sym f), sampleQ-words hdr seed a f)
 
   pub held-none : n ≡ 777 → (r ≡ 512 → ⊥)

@@ -14,7 +14,7 @@ use Rattle.ring.proofs.Butterfly.{both-halves, lower, upper, same-halve
 use Rattle.ring.proofs.Values.{Roots, half, inner, residues-fwd}
 
 -- 2^(d + 1) as omega and cc want it
-pow-two : (d : ℕ) → 2 ^ suc d ≡ 2 * 2 ^ d
+pub pow-two : (d : ℕ) → 2 ^ suc d ≡ 2 * 2 ^ d
 pow-two d = omega arith
 
 pub residues-bwd : {p : ℕ} → 0 < p → (z : ℕ → ℕ) (d j : ℕ) (f : List ℕ) → Residues p (2 ^ d) f → Residues p (2 ^ d) (bwd p z d j f)

@@ -1,4 +1,5 @@
 pub mod Words
+pub mod Checks
 pub mod Poly
 pub mod Residue
 pub mod Transform

@@ -5,11 +5,12 @@ use mathlib.Core.Bool.{Bool, true, false}
 use mathlib.Core.List.{List, [], _∷_, _++_}
 use mathlib.Core.Option.{Option, some, none}
 use lib.ListN.{length, getD, take, replicate}
-use lib.Dec.{ltb, leb, eqb}
+use lib.Dec.{ltb, leb}
 use Rattle.hash.specs.Lists.{pick}
 use Rattle.hash.specs.Shake.{shake256}
 use Rattle.hash.specs.Endian.{le}
 use Rattle.ring.specs.Words.{q}
+use Rattle.ring.specs.Checks.{ask, polynomialSized, filled, answered}
 use Rattle.ring.specs.declared.uniform.Sampled.{Sampled}
 
 -- draw number n of the bytes s: the low 49 bits of seven bytes, the lowest first
@@ -30,7 +31,7 @@ kept s (suc n) = kept s n ++ keep (ltb (draw s n) q) (draw s n)
 abbrev pub draws : ℕ → ℕ
 draws n = min 777 (n / 7)
 
--- the polynomial that the bytes s give: the first 512 draws kept, if there are as many (question 10)
+-- the polynomial that the bytes s give: the first 512 draws kept, if there are as many (check 10)
 unfoldable pub uniform : List ℕ → Option (List ℕ)
 uniform s = pick (leb 512 (length (kept s (draws (length s))))) (some (take 512 (kept s (draws (length s))))) none
 
@@ -38,13 +39,13 @@ uniform s = pick (leb 512 (length (kept s (draws (length s))))) (some (take 512 
 unfoldable pub sampleQ : List ℕ → List ℕ → Option (List ℕ)
 sampleQ hdr seed = uniform (shake256 (hdr ++ seed) 5439)
 
--- the number and the result of the sampler over lent bytes: questions 8 and 10
-abbrev answered : Option (List ℕ) → List ℕ → ℕ × List ℕ
-answered none out = (10, out)
-answered (some f) out = (0, f)
+-- the sampler over lent bytes: checks 8 and 10
+abbrev pub sampledNo : List ℕ → List ℕ → ℕ
+sampledNo s out = ask 8 (polynomialSized out) (ask 10 (filled (uniform s)) 0)
 
+-- its status, and what out holds afterwards
 unfoldable pub sampledOf : List ℕ → List ℕ → ℕ × List ℕ
-sampledOf s out = pick (eqb (length out) 512) (answered (uniform s) out) (8, out)
+sampledOf s out = answered (sampledNo s out) (uniform s) out
 
 -- the answer of SampleQ: a polynomial, or zero where there is none
 unfoldable pub heldOf : Option (List ℕ) → Sampled

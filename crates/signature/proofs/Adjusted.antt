@@ -42,11 +42,11 @@ part-small m a n h l f i g =
     rw (getD-take n (drop a h) i (pos 0) g, getD-drop a h i (pos 0)) (f (a + i) (omega arith))
 
 -- the front of a list behind which n elements are put
-pub take-put : (xs ys : List ℕ) (a n : ℕ) → a + n ≤ length xs → length ys ≡ n → take (a + n) (put xs a n ys) ≡ take a xs ++ ys
-take-put xs ys a n h e =
+pub take-put : {A : Type 0} (xs ys : List A) (a n : ℕ) → a + n ≤ length xs → length ys ≡ n → take (a + n) (take a xs ++ (ys ++ drop n (drop a xs))) ≡ take a xs ++ ys
+take-put {A} xs ys a n h e =
     let f : length (take a xs) ≡ a = length-take-le a xs (omega arith) in
     let g : length (take a xs ++ ys) ≡ a + n = length-append (take a xs) ys ∙ omega (arith, f, e) in
-    ap (take (a + n)) (sym (append-assoc (take a xs) ys (drop n (drop a xs)))) ∙ take-at (take a xs ++ ys) (drop n (drop a xs)) (a + n) g
+    ap (λ (l : List A). take (a + n) l) (sym (append-assoc (take a xs) ys (drop n (drop a xs)))) ∙ take-at (take a xs ++ ys) (drop n (drop a xs)) (a + n) g
 
 -- a row more: y is the rounded row, X what is put behind the i rows of w
 pub adjust-turn : (l : ℕ) (seed Z C t : List ℕ) (h : List ℤ) (i : ℕ) (w X y r : List ℕ) → i * 512 + 512 ≤ length w
@@ -67,13 +67,21 @@ block-long : (t : List ℕ) (i : ℕ) → i * 512 + 512 ≤ length t → length 
 unfolding block
 block-long t i h = length-sub t (i * 512) 512 h
 
+-- place by place, and rounding, polynomial by polynomial
+pub zip-block : (f : ℕ → ℕ → ℕ) (xs ys : List ℕ) (i : ℕ) → block 512 i (zipTo f xs ys) ≡ zipTo f (block 512 i xs) (block 512 i ys)
+unfolding block
+zip-block f xs ys i = ap (take 512) (zip-drop f (i * 512) xs ys) ∙ zip-take f 512 (drop (i * 512) xs) (drop (i * 512) ys)
+
+pub round-block : (y : List ℕ) (i : ℕ) → block 512 i (roundW y) ≡ roundW (block 512 i y)
+unfolding block
+round-block y i = ap (take 512) (map-drop (rounded 44 31) (i * 512) y) ∙ map-take (rounded 44 31) 512 (drop (i * 512) y)
+
 -- w' polynomial by polynomial
 adjust-block : (y : List ℕ) (h : List ℤ) (i : ℕ) → block 512 i (adjusted y h) ≡ adjusted (block 512 i y) (blockZ i h)
 unfolding adjusted block
 adjust-block y h i =
-    ap (take 512) (zip-drop add31 (i * 512) (roundW y) (residues 31 h)) ∙ zip-take add31 512 (drop (i * 512) (roundW y)) (drop (i * 512) (residues 31 h))
-    ∙ ap (λ (v : List ℕ). zipTo add31 v (take 512 (drop (i * 512) (residues 31 h))))
-    (ap (take 512) (map-drop (rounded 44 31) (i * 512) y) ∙ map-take (rounded 44 31) 512 (drop (i * 512) y))
+    zip-block add31 (roundW y) (residues 31 h) i
+    ∙ ap (λ (v : List ℕ). zipTo add31 v (take 512 (drop (i * 512) (residues 31 h)))) (round-block y i)
     ∙ ap (zipTo add31 (roundW (take 512 (drop (i * 512) y)))) (ap (take 512) (drop-residues 31 (i * 512) h) ∙ take-residues 31 512 (drop (i * 512) h))
 
 length-adjusted : (y : List ℕ) (h : List ℤ) → length (adjusted y h) ≡ length y
@@ -87,24 +95,31 @@ module _ (p : Params) (A z c t : List ℕ) where
       words-sub (sumOf 512 (p .l) (λ (m : ℕ). mul (block 512 (i * p .l + m) A) (block 512 m z))) (mul c (scaledT (block 512 i t)))
       (words-sum 512 (p .l) (λ (m : ℕ). mul (block 512 (i * p .l + m) A) (block 512 m z))) .long
 
-  pub adjusted-long : (h : List ℤ) → length (adjusted (recovered p A z c t) h) ≡ p .k * 512
+  recovered-long : length (recovered p A z c t) ≡ p .k * 512
   unfolding recovered
-  adjusted-long h = length-adjusted (recovered p A z c t) h ∙ length-build 512 (p .k) (recoveredRow (p .l) A z c t) row-long
+  recovered-long = length-build 512 (p .k) (recoveredRow (p .l) A z c t) row-long
 
-module _ (p : Params) (seed A z c t : List ℕ) (h : List ℤ) (e : matrix p seed ≡ some A) (wz : Words (p .l * 512) z) (wc : Words 512 c) (lt : length t ≡ p .k * 512) where
-  pub adjusted-all : adjustedRows (p .k) (p .l) seed (transformed (p .l) z) (ntt c) t h ≡ adjusted (recovered p A z c t) h
-  unfolding adjustedRows recovered
-  adjusted-all =
-      let R : ℕ → List ℕ = recoveredRow (p .l) A z c t in
-      let Y : List ℕ = build (p .k) R in
-      let f : (i : ℕ) → i < p .k → adjustedAt (p .l) seed (transformed (p .l) z) (ntt c) t h i ≡ block 512 i (adjusted Y h) =
-      λ (i : ℕ) (o : i < p .k).
+  pub adjusted-long : (h : List ℤ) → length (adjusted (recovered p A z c t) h) ≡ p .k * 512
+  adjusted-long h = length-adjusted (recovered p A z c t) h ∙ recovered-long
+
+module _ (p : Params) (seed A z c t : List ℕ) (e : matrix p seed ≡ some A) (wz : Words (p .l * 512) z) (wc : Words 512 c) (lt : length t ≡ p .k * 512) where
+  -- the code's row i
+  pub row-block : (i : ℕ) → i < p .k → recoveredBy (p .l) (rowEntry seed i) (transformed (p .l) z) (ntt c) (block 512 i t) ≡ block 512 i (recovered p A z c t)
+  unfolding recovered
+  row-block i o =
       let g : i * 512 + 512 ≤ p .k * 512 = inside i (p .k) 512 o in
-      ap (λ (v : List ℕ). adjusted v (blockZ i h)) (recovered-row (p .k) (p .l) seed A z c t e wz wc i o (scaled-words (block 512 i t) (block-long t i (omega (arith, g, lt))))
-      ∙ sym (block-build 512 (p .k) i R (row-long p A z c t) o))
-      ∙ sym (adjust-block Y h i) in
-      build-ext (p .k) (adjustedAt (p .l) seed (transformed (p .l) z) (ntt c) t h) (λ (i : ℕ). block 512 i (adjusted Y h)) f
-      ∙ blocks-all 512 (p .k) (adjusted Y h) (adjusted-long p A z c t h)
+      recovered-row (p .k) (p .l) seed A z c t e wz wc i o (scaled-words (block 512 i t) (block-long t i (omega (arith, g, lt))))
+      ∙ sym (block-build 512 (p .k) i (recoveredRow (p .l) A z c t) (row-long p A z c t) o)
+
+pub adjusted-all : (p : Params) (seed A z c t : List ℕ) (h : List ℤ) → matrix p seed ≡ some A → Words (p .l * 512) z → Words 512 c → length t ≡ p .k * 512
+    → adjustedRows (p .k) (p .l) seed (transformed (p .l) z) (ntt c) t h ≡ adjusted (recovered p A z c t) h
+unfolding adjustedRows
+adjusted-all p seed A z c t h e wz wc lt =
+    let Y : List ℕ = recovered p A z c t in
+    let f : (i : ℕ) → i < p .k → adjustedAt (p .l) seed (transformed (p .l) z) (ntt c) t h i ≡ block 512 i (adjusted Y h) =
+    λ (i : ℕ) (o : i < p .k). ap (λ (v : List ℕ). adjusted v (blockZ i h)) (row-block p seed A z c t e wz wc lt i o) ∙ sym (adjust-block Y h i) in
+    build-ext (p .k) (adjustedAt (p .l) seed (transformed (p .l) z) (ntt c) t h) (λ (i : ℕ). block 512 i (adjusted Y h)) f
+    ∙ blocks-all 512 (p .k) (adjusted Y h) (adjusted-long p A z c t h)
 
 -- the same of equal parts
 pub adjusted-parts : {v v′ s s′ x x′ t t′ : List ℕ} (k l : ℕ) (h : List ℤ) → v ≡ v′ → s ≡ s′ → x ≡ x′ → t ≡ t′ → adjustedRows k l v s x t h ≡ adjustedRows k l v′ s′ x′ t′ h

@@ -1,4 +1,4 @@
--- The questions of the calls on keys (01, "Questions put to a call"): what is known where none was answered with no, and the ends of a call.
+-- The checks of the calls on keys (01, "Questions put to a call"): what is known where none was answered with no, and the ends of a call.
 use mathlib.Core.Path.{_≡_, refl, sym, subst, _∙_}
 use mathlib.Core.Bool.{Bool, true, false}
 use mathlib.Core.List.{List}
@@ -24,19 +24,11 @@ use Rattle.signature.specs.Keys.{fullShare, expandOf, refreshOf}
 use Rattle.signature.specs.Checks.{ask, both, signingKeySized, expandedKeySized, publicKeyGood, fullShareGood, shareWordsGood, maskSeedSized}
 use Rattle.signature.specs.Opening.{Listed, opened, openedKey}
 use Rattle.signature.specs.KeyCalls.{Outcome, outcome, expandNo, expandCall, refreshNo, refreshCall}
-use Rattle.signature.proofs.Opened.{not-filled, opened-all}
-
-pub both-true : (a b : Bool) → both a b ≡ true → (a ≡ true) × (b ≡ true)
-both-true true b e = (refl, e)
-both-true false b e = let x : _≡_ {A = ℕ} 0 1 = cc in absurd (omega arith)
+use Rattle.signature.proofs.Checks.{asked, both-true, not-filled}
+use Rattle.signature.proofs.Opened.{opened-all}
 
 pub sizes : (x v y n : ℕ) → both (eqb x v) (eqb y n) ≡ true → (x ≡ v) × (y ≡ n)
 sizes x v y n e = let b = both-true (eqb x v) (eqb y n) e in (eqb-true x v (b .0), eqb-true y n (b .1))
-
--- a question whose whole is 0 was answered with yes
-yes-of : (n : ℕ) (b : Bool) (rest : ℕ) → ask (suc n) b rest ≡ 0 → (b ≡ true) × (rest ≡ 0)
-yes-of n true rest e = (refl, e)
-yes-of n false rest e = let x : ⊥ = omega arith in absurd x
 
 -- a record that was found is of at most 32 shares
 shares-few : (set d : ℕ) (e : Edition) (p : Params) → lookupOf set d e ≡ Selected.Found p → d ≤ 32
@@ -81,11 +73,11 @@ refreshable p key shares mask bytes words e =
     let n8 = ask 8 (expandedKeySized p bytes words) 0 in
     let n7 = ask 7 (maskSeedSized mask) n8 in
     let n5 = ask 5 (shareWordsGood shares) n7 in
-    let a3 = yes-of 2 (expandedKeySized p key shares) (ask 4 (publicKeyGood p key) n5) e in
-    let a4 = yes-of 3 (publicKeyGood p key) n5 (a3 .1) in
-    let a5 = yes-of 4 (shareWordsGood shares) n7 (a4 .1) in
-    let a7 = yes-of 6 (maskSeedSized mask) n8 (a5 .1) in
-    let a8 = yes-of 7 (expandedKeySized p bytes words) 0 (a7 .1) in
+    let a3 = asked 2 (expandedKeySized p key shares) (ask 4 (publicKeyGood p key) n5) e in
+    let a4 = asked 3 (publicKeyGood p key) n5 (a3 .1) in
+    let a5 = asked 4 (shareWordsGood shares) n7 (a4 .1) in
+    let a7 = asked 6 (maskSeedSized mask) n8 (a5 .1) in
+    let a8 = asked 7 (expandedKeySized p bytes words) 0 (a7 .1) in
     let s3 = sizes (length key) (p .«vk_bytes») (length shares) (p .l * (p .shares * 512)) (a3 .0) in
     let s8 = sizes (length bytes) (p .«vk_bytes») (length words) (p .l * (p .shares * 512)) (a8 .0) in
     record { key-long = s3 .0; shares-long = s3 .1; shares-low = all-below q shares (a5 .0); bytes-long = s8 .0; words-long = s8 .1 }
@@ -124,10 +116,10 @@ unfolding expandNo
 expandable p key bytes words e =
     let n8 = ask 8 (expandedKeySized p bytes words) 0 in
     let n5 = ask 5 (fullShareGood p key) n8 in
-    let a3 = yes-of 2 (signingKeySized p key) (ask 4 (publicKeyGood p key) n5) e in
-    let a4 = yes-of 3 (publicKeyGood p key) n5 (a3 .1) in
-    let a5 = yes-of 4 (fullShareGood p key) n8 (a4 .1) in
-    let a8 = yes-of 7 (expandedKeySized p bytes words) 0 (a5 .1) in
+    let a3 = asked 2 (signingKeySized p key) (ask 4 (publicKeyGood p key) n5) e in
+    let a4 = asked 3 (publicKeyGood p key) n5 (a3 .1) in
+    let a5 = asked 4 (fullShareGood p key) n8 (a4 .1) in
+    let a8 = asked 7 (expandedKeySized p bytes words) 0 (a5 .1) in
     let s8 = sizes (length bytes) (p .«vk_bytes») (length words) (p .l * (p .shares * 512)) (a8 .0) in
     record {
       key-long = eqb-true (length key) (p .«sk_bytes») (a3 .0);

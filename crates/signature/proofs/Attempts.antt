@@ -27,7 +27,7 @@ use Rattle.signature.specs.Keygen.{atS, atT, atX}
 use Rattle.signature.specs.Masked.{Noise, maskedNoise, behindProduct}
 use Rattle.signature.specs.Sign.{Public, Attempted, made, over, stuck, answer, Tapes, signedFields, finished, challenged, concluded, maskedResponse, refreshedKey, refreshedNoise, refreshedResponse, attempted, noiseAt, maskAt, signFrom}
 use Rattle.signature.specs.declared.challenge.Challenged.{Challenged}
-use Rattle.signature.proofs.Entries.{absurd-bool}
+use Rattle.signature.proofs.Checks.{absurd-bool}
 use Rattle.signature.proofs.Masking.{masked-words}
 
 -- ---- lines 4 to 16 on the work buffer: s₁ behind the commitment, s₂ before the response, where s and r are as they were, s₃ behind it

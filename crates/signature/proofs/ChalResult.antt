@@ -17,6 +17,7 @@ use Rattle.hash.specs.declared.params.Params.{Params}
 use Rattle.hash.specs.declared.params.Selected.{Selected}
 use Rattle.hash.proofs.Output.{output-length, output-bytes}
 use Rattle.hash.proofs.Rows.{found}
+use Rattle.ring.specs.Checks.{filled}
 use Rattle.signature.specs.Challenge.{draw, place, minusBit, sign, nz, weight, step, run, draws, challenge, chalPoly, ordered, chalHash, sampledChallenge, headed, chalHeld}
 use Rattle.signature.specs.declared.challenge.Challenged.{Challenged}
 
@@ -166,11 +167,11 @@ module _ (set : ℕ) (s : List ℕ) (out : List ℤ) (x : Selected) (is : x ≡ 
 
     module _ (room : length out ≡ 512) (r : Challenged) (held : r ≡ chalHeld (challenge (p .edition) (p .omega) s)) where
       pub sampled-none : r .ok ≡ false → (11, out) ≡ sampledChallenge set s out
-      unfolding sampledChallenge
+      unfolding sampledChallenge filled
       sampled-none h = rw (← is, known, eq-eqb _ _ room, held-none _ r held h)
 
       pub sampled-some : r .ok ≡ true → (0, r .poly) ≡ sampledChallenge set s out
-      unfolding sampledChallenge
+      unfolding sampledChallenge filled
       sampled-some h = rw (← is, known, eq-eqb _ _ room, held-some _ r held h)
 
       pub sampled-length : r .ok ≡ true → length out ≡ length (r .poly)

@@ -1,4 +1,4 @@
--- MaskCompress (000, Algorithm 14): the turns of its loops, and the definition over a record of the table.
+-- MaskCompress (000, Algorithm 14): the turns of its loops.
 use mathlib.Core.Path.{_≡_, refl, sym, ap, _∙_}
 use mathlib.Core.Bool.{true, false}
 use mathlib.Core.List.{List, [], _∷_}
@@ -7,7 +7,6 @@ use Prim.Native.Nat.{ℕ, zero, suc, _+_, _-_, _*_, _≤_, _<_}
 use native.Mathlib.Decide.{decLt}
 use native.Mathlib.Omega.{arith}
 use Rattle.hash.specs.declared.params.Edition.{Edition}
-use Rattle.hash.specs.declared.params.Params.{Params}
 use Rattle.ring.specs.Words.{addW, subW}
 use Rattle.ring.specs.Uniform.{heldOf}
 use Rattle.ring.specs.declared.uniform.Sampled.{Sampled}
@@ -15,10 +14,10 @@ use Rattle.sharing.specs.Blocks.{block, build}
 use Rattle.sharing.specs.Region.{sub, Wrote}
 use Rattle.sharing.proofs.Regions.{block-sub, wrote-value, wrote-turn, wrote-end}
 use Rattle.sharing.proofs.Turns.{source}
-use Rattle.signature.specs.Matrix.{buildAll, filled}
-use Rattle.signature.specs.Keys.{seedBytes, shareHeader, seededShare, exchanged, collected, compressed}
-use Rattle.signature.specs.Compress.{seededShareOf, collectedOf, collectedAt, compressedOf}
-use Rattle.signature.proofs.Entries.{absurd-bool, filled-some, held-ok, all-some}
+use Rattle.signature.specs.Matrix.{filled}
+use Rattle.signature.specs.Compress.{shareHeader, exchanged, seededShareOf, collectedOf, collectedAt, compressedOf}
+use Rattle.signature.proofs.Checks.{filled-some, not-filled, held-ok}
+use Rattle.signature.proofs.Entries.{all-some}
 
 -- ---- the headers
 
@@ -29,11 +28,6 @@ pub header-kat : (e : Edition) (i j : ℕ) → e ≡ Edition.Kat → (75 ∷ j �
 header-kat e i j h = ap (λ (x : Edition). shareHeader x i j) (sym h)
 
 -- ---- one polynomial
-
-held-not : (o : Option (List ℕ)) → heldOf o .ok ≡ false → o ≡ none
-unfolding heldOf
-held-not none e = refl
-held-not (some a) e = absurd-bool e
 
 exchanged-none : (s : List ℕ) (o : Option (List ℕ)) → exchanged s o none ≡ none
 exchanged-none s none = refl
@@ -84,7 +78,7 @@ module _ (e : Edition) (n : ℕ) (seeds : List ℕ) (j : ℕ) where
 
       pub collect-stop : y .ok ≡ false → y ≡ heldOf (collectedOf e n seeds (sub s at (d * 512)) j (d - 1))
       collect-stop t =
-          let g = held-not (seededShareOf e n seeds j i) (ap (λ (w : Sampled). w .ok) (sym h) ∙ t) in
+          let g = not-filled (seededShareOf e n seeds j i) (sym (held-ok (seededShareOf e n seeds j i)) ∙ ap (λ (w : Sampled). w .ok) (sym h) ∙ t) in
           h ∙ ap heldOf (g ∙ sym (lost (d - 1) i (sub s at (d * 512)) a (omega arith) g))
 
     pub collect-end : (i : ℕ) (x : List ℕ) → i ≡ d → collectedOf e n seeds (sub s at (d * 512)) j (i - 1) ≡ some x
@@ -120,29 +114,3 @@ module _ (e : Edition) (n : ℕ) (seeds : List ℕ) (at to l d : ℕ) (s₀ : Li
   full-end j s X p u g =
       let f = fullAt e n seeds d (sub s₀ at (l * (d * 512))) in
       wrote-value (sym (all-some l (collectedAt e n seeds d (sub s₀ at (l * (d * 512)))) X g .whole)) (wrote-end 512 f p u)
-
--- ---- over a record of the table
-
-module _ (p : Params) (seeds : List ℕ) where
-  pub seeded-share-is : (j i : ℕ) → seededShareOf (p .edition) (seedBytes p) seeds j i ≡ seededShare p seeds j i
-  unfolding seededShareOf seededShare
-  seeded-share-is j i = refl
-
-  pub collected-is : (xs : List ℕ) (j i : ℕ) → collectedOf (p .edition) (seedBytes p) seeds xs j i ≡ collected p seeds xs j i
-  unfolding collectedOf collected
-  collected-is xs j zero = refl
-  collected-is xs j (suc i) =
-      ap (λ (o : Option (List ℕ)). exchanged (block 512 (suc i) xs) o (seededShareOf (p .edition) (seedBytes p) seeds j (suc i))) (collected-is xs j i)
-      ∙ ap (exchanged (block 512 (suc i) xs) (collected p seeds xs j i)) (seeded-share-is j (suc i))
-
-  all-ext : (n : ℕ) (f g : ℕ → Option (List ℕ)) → ((i : ℕ) → f i ≡ g i) → buildAll n f ≡ buildAll n g
-  unfolding buildAll
-  all-ext zero f g h = refl
-  all-ext (suc n) f g h = cc (all-ext n f g h, h n)
-
-  pub compressed-is : (s : List ℕ) → compressedOf (p .edition) (seedBytes p) seeds (p .l) (p .shares) s ≡ compressed p seeds s
-  unfolding compressedOf compressed
-  compressed-is s =
-      all-ext (p .l) (collectedAt (p .edition) (seedBytes p) seeds (p .shares) s)
-      (λ (j : ℕ). collected p seeds (block (p .shares * 512) j s) j (p .shares - 1))
-      (λ (j : ℕ). collected-is (block (p .shares * 512) j s) j (p .shares - 1))

@@ -15,31 +15,10 @@ use Rattle.ring.proofs.Draws.{sampleQ-words}
 use Rattle.sharing.specs.Blocks.{block, build}
 use Rattle.sharing.proofs.Lists.{words-build, block-build}
 use Rattle.signature.specs.Matrix.{joinedTo, buildAll, matrixAt, matrixOf, matrixHeader, filled, rowEntry}
+use Rattle.signature.proofs.Checks.{absurd-bool}
 use Rattle.signature.proofs.Product.{block-of}
 
--- ---- is it there?
-
-pub absurd-bool : {C : Type 0} → true ≡ false → C
-absurd-bool e = let z : _≡_ {A = ℕ} 0 1 = cc in absurd (omega arith)
-
-pub filled-some : (o : Option (List ℕ)) → filled o ≡ true → o ≡ some (heldOf o .poly)
-unfolding filled heldOf
-filled-some none e = absurd-bool (sym e)
-filled-some (some a) e = refl
-
-pub some-filled : (o : Option (List ℕ)) (a : List ℕ) → o ≡ some a → filled o ≡ true
-unfolding filled
-some-filled o a e = ap filled e
-
-pub none-filled : (o : Option (List ℕ)) → o ≡ none → filled o ≡ false
-unfolding filled
-none-filled o e = ap filled e
-
--- .. as the sampler says it
-pub held-ok : (o : Option (List ℕ)) → heldOf o .ok ≡ filled o
-unfolding filled heldOf
-held-ok none = refl
-held-ok (some a) = refl
+-- ---- two of them
 
 joined-yes : (a b : Option (List ℕ)) → filled a ≡ true → filled b ≡ true → filled (joinedTo a b) ≡ true
 unfolding filled

@@ -3,8 +3,8 @@ use mathlib.Core.Path.{_≡_, sym, ap, _∙_}
 use mathlib.Core.List.{List, _++_}
 use Prim.Native.Nat.{ℕ, _+_, _-_, _≤_}
 use native.Mathlib.Omega.{arith}
-use lib.ListN.{length, take, drop}
-use lib.Seq.{take-at}
+use lib.ListN.{length, take, drop, replicate, length-replicate}
+use lib.Seq.{take-at, length-take-le}
 use borrow.Rule.Slice.PartMut.{midOf, postOf, putMid, same-len-mid, mid-len}
 use Rattle.hash.specs.Shake.{absorbed, stream, shake256}
 use Rattle.hash.proofs.Table.{length-table}
@@ -14,6 +14,11 @@ use Rattle.signature.specs.Bits.{repack}
 use Rattle.signature.specs.Recover.{keyHash, boundTo}
 use Rattle.signature.proofs.Packing.{length-repack}
 
+-- a part of an array that was just made
+pub front-long : {A : Type 0} (x : A) (n m : ℕ) → n ≤ m → length (take (n - 0) (replicate m x)) ≡ n
+front-long x n m h = let z : n - 0 ≡ n = omega arith in length-take-le (n - 0) (replicate m x) (omega (arith, length-replicate m x)) ∙ z
+
+-- a front that was written
 module _ {A : Type 0} (n : ℕ) (xs ys : List A) (h : n ≤ length xs) (e : length ys ≡ n) where
   zero-off : n - 0 ≡ n
   zero-off = omega arith

@@ -2,7 +2,7 @@
 use mathlib.Core.Path.{_≡_, refl, sym, ap, _∙_}
 use mathlib.Core.Bool.{Bool, true, false}
 use mathlib.Core.List.{List, _++_}
-use mathlib.Core.Option.{Option, some, none}
+use mathlib.Core.Option.{some, none}
 use Prim.Native.Nat.{ℕ, _+_, _-_, _*_, _/_, _^_, _≤_, _<_}
 use native.Mathlib.Nat.{mul-le-mul}
 use native.Mathlib.Omega.{arith}
@@ -13,29 +13,19 @@ use Rattle.hash.specs.declared.params.Params.{Params}
 use Rattle.hash.specs.declared.params.Selected.{Selected}
 use Rattle.ring.specs.Uniform.{heldOf}
 use Rattle.sharing.specs.Blocks.{zeros}
-use Rattle.sharing.specs.Masks.{maskStart}
 use Rattle.sharing.specs.Region.{sub}
 use Rattle.sharing.proofs.Regions.{length-sub}
 use Rattle.signature.specs.Bits.{repack}
 use Rattle.signature.specs.Checks.{both, workWords}
-use Rattle.signature.specs.Keys.{keygenBytes, vkSeed, noisePart, sharePart, keyShares, keyVector, compressed, keygenOf, publicKey}
+use Rattle.signature.specs.Keys.{keygenBytes, vkSeed, sharePart, keygenOf, publicKey}
 use Rattle.signature.specs.Keygen.{atT, atX, Small, keyOf}
 use Rattle.signature.specs.KeyCalls.{outcome, keygenNo, keygenMade, keygenCall}
 use Rattle.signature.specs.Opening.{Listed}
 use Rattle.signature.specs.Matrix.{matrix, filled}
-use Rattle.signature.proofs.Entries.{filled-some}
+use Rattle.signature.proofs.Checks.{both-true, filled-some, not-filled}
 use Rattle.signature.proofs.KeyMade.{fullOf, vectorOf, no-matrix, no-share, both-there}
 use Rattle.signature.proofs.KeyBytes.{key-bytes}
 use Rattle.signature.proofs.Sizes.{room, seed-long, share-part, share-long}
-
-filled-none : (o : Option (List ℕ)) → filled o ≡ false → o ≡ none
-unfolding filled
-filled-none none e = refl
-filled-none (some a) e = let z : _≡_ {A = ℕ} 0 1 = cc in absurd (omega arith)
-
-both-split : (a b : Bool) → both a b ≡ true → (a ≡ true) × (b ≡ true)
-both-split true b e = (refl, e)
-both-split false b e = let z : _≡_ {A = ℕ} 0 1 = cc in absurd (omega arith)
 
 module _ (p : Params) (seeds mask : List ℕ) where
   -- one of the two does not fill
@@ -43,8 +33,8 @@ module _ (p : Params) (seeds mask : List ℕ) where
   none-made = go (filled (matrix p (vkSeed p seeds))) refl
     where
       go : (b : Bool) → filled (matrix p (vkSeed p seeds)) ≡ b → both b (filled (fullOf p seeds mask)) ≡ false → keygenOf p seeds mask ≡ none
-      go true f e = no-share p seeds mask _ (filled-some (matrix p (vkSeed p seeds)) f) (filled-none (fullOf p seeds mask) e)
-      go false f e = no-matrix p seeds mask (filled-none (matrix p (vkSeed p seeds)) f)
+      go true f e = no-share p seeds mask _ (filled-some (matrix p (vkSeed p seeds)) f) (not-filled (fullOf p seeds mask) e)
+      go false f e = no-matrix p seeds mask (not-filled (matrix p (vkSeed p seeds)) f)
 
   module _ (out work : List ℕ) (r : Bool) (is : r ≡ both (filled (matrix p (vkSeed p seeds))) (filled (fullOf p seeds mask))) where
     pub unfilled : (w : List ℕ) → r ≡ false → length w ≡ length work → outcome 10 out (zeros (length w)) ≡ keygenMade (keygenOf p seeds mask) out work
@@ -56,7 +46,7 @@ module _ (p : Params) (seeds mask : List ℕ) where
         → k ≡ keyOf p seeds w → length w ≡ length work → outcome 0 k (zeros (length w)) ≡ keygenMade (keygenOf p seeds mask) out work
     unfolding keyOf
     made k w f parts e l =
-        let b = both-split (filled (matrix p (vkSeed p seeds))) (filled (fullOf p seeds mask)) (sym is ∙ f) in
+        let b = both-true (filled (matrix p (vkSeed p seeds))) (filled (fullOf p seeds mask)) (sym is ∙ f) in
         let A = heldOf (matrix p (vkSeed p seeds)) .poly in
         let x = heldOf (fullOf p seeds mask) .poly in
         let hA = filled-some (matrix p (vkSeed p seeds)) (b .0) in

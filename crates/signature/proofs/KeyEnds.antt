@@ -1,10 +1,8 @@
 -- Key generation's checks and its ends: what passing gives, and the outcome at each return.
 use Prim.Native.Nat.{ℕ, zero, suc}
 use mathlib.Core.Path.{_≡_, refl}
-use mathlib.Core.Bool.{Bool, true, false}
 use mathlib.Core.List.{List}
 use mathlib.Core.Option.{some, none}
-use native.Mathlib.Omega.{arith}
 use borrow.Author.Tests.{eqb-true, eq-eqb, ne-eqb}
 use lib.ListN.{length}
 use Rattle.hash.specs.Params.{lookupOf}
@@ -13,19 +11,12 @@ use Rattle.hash.specs.declared.params.Params.{Params}
 use Rattle.hash.specs.declared.params.Selected.{Selected}
 use Rattle.sharing.specs.Blocks.{zeros}
 use Rattle.signature.specs.Keys.{keygenBytes, keygenOf}
-use Rattle.signature.specs.Checks.{ask, both, workWords}
+use Rattle.signature.specs.Checks.{workWords}
 use Rattle.signature.specs.KeyCalls.{outcome, keygenNo, keygenCall}
 use Rattle.signature.specs.KeySizes.{keygenNoOf}
+use Rattle.signature.proofs.Checks.{asked, both-true}
 
 -- ---- the checks
-
-asked : (n : ℕ) (b : Bool) (rest : ℕ) → ask (suc n) b rest ≡ 0 → (b ≡ true) × (rest ≡ 0)
-asked n true rest e = (refl, e)
-asked n false rest e = absurd (omega (arith, e))
-
-both-true : (a b : Bool) → both a b ≡ true → (a ≡ true) × (b ≡ true)
-both-true true b e = (refl, e)
-both-true false b e = let x : _≡_ {A = ℕ} 0 1 = cc in absurd (omega arith)
 
 pub record Passed (p : Params) (seeds mask out work : List ℕ) : Type 0 where
   pub seeds-long : length seeds ≡ keygenBytes p

@@ -20,8 +20,9 @@ use Rattle.sharing.specs.declared.masks.MaskGen.{MaskGen}
 use Rattle.sharing.proofs.Lists.{block-words, words-build}
 use Rattle.sharing.proofs.Decode.{totals-words}
 use Rattle.signature.specs.Bits.{repack}
+use Rattle.signature.specs.Compress.{exchanged, collectedOf, compressedOf}
 use Rattle.signature.specs.Matrix.{matrix}
-use Rattle.signature.specs.Keys.{vkSeed, vkVector, publicKey, fullShare, seededShare, exchanged, collected, compressed, keygenBytes, noisePart, sharePart, keyShares, keyVector, keygenOf}
+use Rattle.signature.specs.Keys.{vkSeed, vkVector, publicKey, fullShare, seededShare, collected, compressed, keygenBytes, noisePart, sharePart, keyShares, keyVector, keygenOf}
 use Rattle.signature.proofs.Packing.{length-repack, repack-trip}
 use Rattle.signature.proofs.Entries.{all-some}
 use Rattle.signature.proofs.Rounded.{rounded-residues}
@@ -99,11 +100,11 @@ step s (some x) (some r) y e = record { x = x; r = r; left = refl; right = refl;
 module _ (p : Params) (seeds xs : List ℕ) (j : ℕ) where
   pub collected-step : (i : ℕ) (y : List ℕ) → collected p seeds xs j (suc i) ≡ some y
       → Step (block 512 (suc i) xs) (collected p seeds xs j i) (seededShare p seeds j (suc i)) y
-  unfolding collected
+  unfolding collectedOf
   collected-step i y e = step (block 512 (suc i) xs) (collected p seeds xs j i) (seededShare p seeds j (suc i)) y e
 
   pub collected-first : (y : List ℕ) → collected p seeds xs j 0 ≡ some y → y ≡ block 512 0 xs
-  unfolding collected
+  unfolding collectedOf
   collected-first y e = some-same y _ (sym e)
 
   pub collected-words : (n : ℕ) → Words (n * 512) xs → (i : ℕ) → i < n → (y : List ℕ) → collected p seeds xs j i ≡ some y → Words 512 y
@@ -115,7 +116,7 @@ module _ (p : Params) (seeds xs : List ℕ) (j : ℕ) where
 
 pub compressed-words : (p : Params) (seeds s x : List ℕ) → 1 ≤ p .shares → Words (p .l * (p .shares * 512)) s → compressed p seeds s ≡ some x
     → Words (p .l * 512) x
-unfolding compressed
+unfolding compressedOf
 compressed-words p seeds s x h w e =
     let d = p .shares in
     let f : ℕ → Option (List ℕ) = λ (j : ℕ). collected p seeds (block (d * 512) j s) j (d - 1) in

@@ -18,7 +18,9 @@ use Rattle.sharing.proofs.Lists.{zeros-words, block-words, block-left, build-ex
 use Rattle.sharing.proofs.Decode.{words-sum, total-build, totals-build}
 use Rattle.signature.specs.Bits.{repack}
 use Rattle.signature.specs.Matrix.{buildAll}
-use Rattle.signature.specs.Keys.{seedBytes, shareHeader, fullShare, seededShare, shareAt, decompressed, collected, compressed, keygenBytes, noisePart, sharePart, keyShares, keygenOf, expandOf}
+use Rattle.signature.specs.Compress.{shareHeader, seededShareOf, compressedOf}
+use Rattle.signature.specs.Keys.{seedBytes, fullShare, seededShare, shareAt, decompressed, collected, compressed, keygenBytes, noisePart, sharePart, keyShares, keygenOf, expandOf}
+use Rattle.signature.proofs.Checks.{held-is}
 use Rattle.signature.proofs.Entries.{All, all-some}
 use Rattle.signature.proofs.KeyMade.{Step, collected-step, collected-first, collected-words, key-words, share-part-long, made, expand-made}
 
@@ -68,12 +70,8 @@ unfolding heldOf
 held-words none h = words-zeros 512
 held-words (some f) h = h f refl
 
-held-is : (o : Option (List ℕ)) (f : List ℕ) → o ≡ some f → heldOf o .poly ≡ f
-unfolding heldOf
-held-is o f e = ap (λ (t : Option (List ℕ)). heldOf t .poly) e
-
 seed-words : (p : Params) (seeds : List ℕ) (j i : ℕ) → Words 512 (fromSeed p seeds j i)
-unfolding seededShare
+unfolding seededShareOf
 seed-words p seeds j i =
     held-words (seededShare p seeds j (suc i))
     (λ f e. sampleQ-words (shareHeader (p .edition) (suc i) j) (block (seedBytes p) (suc i - 1) seeds) f e)
@@ -110,7 +108,7 @@ module _ (p : Params) (seeds xs : List ℕ) (j n : ℕ) (w : Words (n * 512) xs)
 module _ (p : Params) (Z X s x : List ℕ) (h : 1 ≤ p .shares) (w : Words (p .l * (p .shares * 512)) s)
     (long : length Z ≡ (p .shares - 1) * (p .kappa / 8)) (e : compressed p Z s ≡ some x) (full : fullShare p (Z ++ X) ≡ x) where
   seeded-same : (j i : ℕ) → suc i < p .shares → seededShare p (Z ++ X) j (suc i) ≡ seededShare p Z j (suc i)
-  unfolding seededShare
+  unfolding seededShareOf
   seeded-same j i k = ap (sampleQ (shareHeader (p .edition) (suc i) j)) (block-left (p .kappa / 8) (p .shares - 1) (suc i - 1) Z X long (omega arith))
 
   given : ℕ → List ℕ
@@ -124,7 +122,7 @@ module _ (p : Params) (Z X s x : List ℕ) (h : 1 ≤ p .shares) (w : Words (p .
   last j = collected p Z (given j) j (p .shares - 1)
 
   all-last : All (p .l) last x
-  unfolding last given compressed
+  unfolding last given compressedOf
   all-last = all-some (p .l) last x e
 
   full-at : ℕ → List ℕ

@@ -24,8 +24,7 @@ use Rattle.signature.specs.Keys.{keyShares, keyVector, compressed}
 use Rattle.signature.specs.Compress.{compressedOf}
 use Rattle.signature.specs.Masked.{seeded, maskedNoise, transformed, rowsOf}
 use Rattle.signature.specs.Matrix.{matrix, matrixOf, filled}
-use Rattle.signature.proofs.Collected.{compressed-is}
-use Rattle.signature.proofs.Entries.{filled-some}
+use Rattle.signature.proofs.Checks.{filled-some}
 use Rattle.signature.proofs.Masking.{image-is}
 use Rattle.signature.proofs.Product.{transformed-each}
 
@@ -93,7 +92,7 @@ module _ (p : Params) (power : p .shares ≡ 2 ^ orderIndex (p .shares)) (tape s
 
       full : compressedOf (p .edition) (p .kappa / 8) shares (p .l) (p .shares) (sub s₂ (atS (p .shares)) (p .l * (p .shares * 512)))
           ≡ compressed p shares (keyShares p tape g)
-      full = ap (compressedOf (p .edition) (p .kappa / 8) shares (p .l) (p .shares)) kept ∙ compressed-is p shares (keyShares p tape g)
+      full = ap (compressedOf (p .edition) (p .kappa / 8) shares (p .l) (p .shares)) kept
 
       key-filled : c ≡ both (filled (matrix p seed)) (filled (compressed p shares (keyShares p tape g)))
       key-filled =

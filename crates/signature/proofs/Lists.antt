@@ -9,8 +9,8 @@ use native.Mathlib.Numerals.{add-one}
 use native.Mathlib.Decide.{le-ind, decLt, ℕ-discrete}
 use Rattle.signature.specs.declared.code.Got.the-variants.{Code, Bad}
 use lib.IntN.{ℤ, pos}
-use lib.ListN.{length, getD, take, drop, length-append}
-use lib.Seq.{sets}
+use lib.ListN.{length, getD, set, take, drop, length-append}
+use lib.Seq.{sets, take-suc-set}
 use Rattle.signature.specs.Code.{code, signedOf, codes, runOf, magOf, readCode, readCodes}
 use Rattle.signature.specs.Answers.{gotOf}
 use Rattle.signature.proofs.Strings.{sets-append}
@@ -60,6 +60,11 @@ got-bad at (some r) e = let x : _≡_ {A = ℕ} 0 1 = cc in absurd (omega arith)
 pub read-more : (w : ℕ) (t : List ℕ) (i j k : ℕ) (xs : List ℤ) (z : ℤ) → readCodes w i t ≡ some (xs, j) → readCode w (drop j t) ≡ some (z, k) → readCodes w (i + 1) t ≡ some (xs ++ (z ∷ []), j + k)
 unfolding readCodes
 read-more w t i j k xs z e f = rw (add-one, readCodes, e, f)
+
+-- a turn of the reader: number i, read behind j bits, goes into place i of out
+pub read-turn : (w : ℕ) (t : List ℕ) (i j k n : ℕ) (out : List ℤ) (z y : ℤ) → i < length out → y ≡ z → readCodes w i t ≡ some (take i out, j)
+    → readCode w (drop j t) ≡ some (z, k) → j + k ≡ n → readCodes w (i + 1) t ≡ some (take (i + 1) (set out i y), n)
+read-turn w t i j k n out z y h e f g s = rw (read-more w t i j k (take i out) z f g, s, e, add-one, take-suc-set out i z h)
 
 read-none : (w : ℕ) (t : List ℕ) (i j : ℕ) (xs : List ℤ) → readCodes w i t ≡ some (xs, j) → readCode w (drop j t) ≡ none → readCodes w (suc i) t ≡ none
 unfolding readCodes

@@ -18,12 +18,13 @@ use Rattle.sharing.proofs.Lists.{block-words, words-build}
 use Rattle.sharing.proofs.Regions.{put-back, wrote-put}
 use Rattle.signature.specs.Attempt.{keyFrom}
 use Rattle.signature.specs.Keys.{fullShare, seededShare, shareAt, decompressed, expandOf}
+use Rattle.signature.specs.Compress.{seededShareOf}
 use Rattle.signature.specs.Matrix.{filled}
 use Rattle.signature.specs.Opening.{openedAt, opened}
 use Rattle.signature.specs.SignCalls.{keySized, sharesGood, sharesOf}
 use Rattle.signature.proofs.Asked.{sizes}
-use Rattle.signature.proofs.Entries.{absurd-bool}
 use Rattle.signature.proofs.KeyMade.{some-same}
+use Rattle.signature.proofs.Checks.{absurd-bool}
 use Rattle.signature.proofs.Opened.{full-length, opened-all, tail-is}
 
 -- ---- the shares of a signing key are words
@@ -34,7 +35,7 @@ held-words none h = words-zeros 512
 held-words (some f) h = h f refl
 
 share-words : (p : Params) (part : List ℕ) → Below q (fullShare p part) → (j i : ℕ) → j < p .l → Words 512 (openedAt p part j i)
-unfolding shareAt seededShare heldOf
+unfolding shareAt seededShareOf heldOf
 share-words p part b j zero h = block-words (p .l) j (fullShare p part) (record { long = full-length p part; low = b }) h
 share-words p part b j (suc i) h = held-words (seededShare p part j (suc i)) (λ (f : List ℕ) e. sampleQ-words _ _ f e)
 

@@ -1,12 +1,10 @@
 -- Opening (000, Algorithm 15): polynomials that may not fill, one behind the other; parts of a key; the loops over shares.
 use mathlib.Core.Path.{_≡_, refl, sym, ap, subst, _∙_}
 use mathlib.Core.Bool.{Bool, true, false}
-use mathlib.Core.List.{List, _++_}
-use mathlib.Core.Option.{Option, some, none}
+use mathlib.Core.List.{List}
+use mathlib.Core.Option.{Option, some}
 use Prim.Native.Nat.{ℕ, zero, suc, _+_, _-_, _*_, _≤_, _<_}
-use native.Mathlib.Nat.{mul-le-mul}
-use native.Mathlib.Decide.{decLt}
-use native.Mathlib.Numerals.{add-one}
+use native.Mathlib.Nat.{mul-le-mul, mul-le-mul-right}
 use native.Mathlib.Omega.{arith}
 use lib.ListN.{length, take, drop, length-drop}
 use lib.Seq.{take-all}
@@ -18,8 +16,10 @@ use Rattle.sharing.specs.Blocks.{zeros, block, build}
 use Rattle.sharing.specs.Region.{sub, Wrote}
 use Rattle.sharing.proofs.Lists.{zeros-words, inside, build-ext}
 use Rattle.sharing.proofs.Regions.{wrote-start, wrote-turn, wrote-end}
-use Rattle.signature.specs.Matrix.{joinedTo, buildAll, filled}
+use Rattle.signature.specs.Matrix.{buildAll, filled}
 use Rattle.signature.specs.Bits.{repack}
+use Rattle.signature.proofs.Checks.{filled-some, some-filled, held-is, held-ok}
+use Rattle.signature.proofs.Entries.{All, all-some}
 use Rattle.signature.proofs.Packing.{length-repack}
 use Rattle.signature.specs.Keys.{seedBytes, fullShare, seededShare, shareAt, decompressed, expandOf}
 use Rattle.signature.specs.Opening.{Listed, partBytes, openedAt, opened, openedKey}
@@ -27,13 +27,10 @@ use Rattle.signature.specs.KeyCalls.{outcome}
 
 -- ---- the seeds of a key, and the words of an expanded one
 
+pub seed-in : (p : Params) (i : ℕ) → i < p .shares → i * seedBytes p ≤ (p .shares - 1) * seedBytes p
+seed-in p i l = let h : i ≤ p .shares - 1 = omega arith in mul-le-mul-right (seedBytes p) h
+
 module _ (p : Params) (h : Listed p) where
-  pub seeds-low : (p .shares - 1) * seedBytes p ≤ 992
-  seeds-low = let a : p .shares - 1 ≤ 31 = omega (arith, h .shares-low) in omega (arith, mul-le-mul a (h .seed-low))
-
-  pub seed-in : (i : ℕ) → 1 ≤ i → i < p .shares → (i - 1) * seedBytes p + seedBytes p ≤ (p .shares - 1) * seedBytes p
-  seed-in i k l = inside (i - 1) (p .shares - 1) (seedBytes p) (omega arith)
-
   pub words-few : p .l * (p .shares * 512) ≤ 114688
   words-few = let a : p .shares * 512 ≤ 16384 = omega (arith, h .shares-low) in omega (arith, mul-le-mul (h .columns-low) a)
 
@@ -47,74 +44,15 @@ tail-is xs a = take-all (length xs - a) (drop a xs) (omega (arith, length-drop a
 
 -- ---- what fills
 
-held-ok : (o : Option (List ℕ)) → heldOf o .ok ≡ filled o
-unfolding heldOf filled
-held-ok none = refl
-held-ok (some a) = refl
+module _ (f : ℕ → Option (List ℕ)) (n : ℕ) (h : filled (buildAll n f) ≡ true) where
+  all-there : All n f (heldOf (buildAll n f) .poly)
+  all-there = all-some n f (heldOf (buildAll n f) .poly) (filled-some (buildAll n f) h)
 
-joined-both : (a b : Option (List ℕ)) → filled (joinedTo a b) ≡ true → (filled a ≡ true) × (filled b ≡ true)
-unfolding filled
-joined-both none b e = (e, let x : _≡_ {A = ℕ} 0 1 = cc in absurd (omega arith))
-joined-both (some a) none e = (refl, e)
-joined-both (some a) (some b) e = (refl, refl)
+  fill-each : (i : ℕ) → i < n → filled (f i) ≡ true
+  fill-each i l = some-filled (f i) _ (all-there .here i l)
 
-both-joined : (a b : Option (List ℕ)) → filled a ≡ true → filled b ≡ true → filled (joinedTo a b) ≡ true
-unfolding filled
-both-joined none b e f = e
-both-joined (some a) none e f = f
-both-joined (some a) (some b) e f = refl
-
-none-joined : (a b : Option (List ℕ)) → filled a ≡ false → filled (joinedTo a b) ≡ false
-unfolding filled
-none-joined none b e = refl
-none-joined (some a) b e = let x : _≡_ {A = ℕ} 0 1 = cc in absurd (omega arith)
-
-joined-none : (a b : Option (List ℕ)) → filled b ≡ false → filled (joinedTo a b) ≡ false
-unfolding filled
-joined-none none b e = refl
-joined-none (some a) none e = refl
-joined-none (some a) (some b) e = let x : _≡_ {A = ℕ} 0 1 = cc in absurd (omega arith)
-
-joined-is : (a b : Option (List ℕ)) (xs : List ℕ) → a ≡ some xs → filled b ≡ true → joinedTo a b ≡ some (xs ++ heldOf b .poly)
-unfolding filled heldOf
-joined-is a none xs e f = let x : _≡_ {A = ℕ} 0 1 = cc in absurd (omega arith)
-joined-is a (some b) xs e f = rw e refl
-
-module _ (f : ℕ → Option (List ℕ)) where
-  pub fill-start : filled (buildAll 0 f) ≡ true
-  unfolding buildAll filled
-  fill-start = refl
-
-  pub fill-turn : (i : ℕ) → filled (buildAll i f) ≡ true → filled (f i) ≡ true → filled (buildAll (i + 1) f) ≡ true
-  unfolding buildAll
-  fill-turn i h g = ap (λ (k : ℕ). filled (buildAll k f)) (add-one i) ∙ both-joined (buildAll i f) (f i) h g
-
-  pub fill-stop : (i n : ℕ) → i < n → filled (f i) ≡ false → filled (buildAll n f) ≡ false
-  unfolding buildAll
-  fill-stop i zero l h = let x : ⊥ = omega arith in absurd x
-  fill-stop i (suc n) l h = go (decLt i n) (λ (m : i < n). fill-stop i n m h)
-    where
-      go : Dec (i < n) → (i < n → filled (buildAll n f) ≡ false) → filled (joinedTo (buildAll n f) (f n)) ≡ false
-      go (yes m) r = none-joined (buildAll n f) (f n) (r m)
-      go (no m) r = let e : i ≡ n = omega arith in joined-none (buildAll n f) (f n) (sym (ap (λ (k : ℕ). filled (f k)) e) ∙ h)
-
-  fill-each : (n : ℕ) → filled (buildAll n f) ≡ true → (i : ℕ) → i < n → filled (f i) ≡ true
-  fill-each n h i l = go (filled (f i)) (fill-stop i n l)
-    where
-      go : (b : Bool) → (b ≡ false → filled (buildAll n f) ≡ false) → b ≡ true
-      go true g = refl
-      go false g = sym (g refl) ∙ h
-
-  built : (n : ℕ) → filled (buildAll n f) ≡ true → buildAll n f ≡ some (build n (λ (i : ℕ). heldOf (f i) .poly))
-  unfolding buildAll build
-  built zero h = refl
-  built (suc n) h =
-      let b = joined-both (buildAll n f) (f n) h in
-      joined-is (buildAll n f) (f n) (build n (λ (i : ℕ). heldOf (f i) .poly)) (built n (b .0)) (b .1)
-
-held-some : (o : Option (List ℕ)) (xs : List ℕ) → o ≡ some xs → heldOf o .poly ≡ xs
-unfolding heldOf
-held-some o xs e = ap (λ (x : Option (List ℕ)). heldOf x .poly) e
+  built : buildAll n f ≡ some (build n (λ (i : ℕ). heldOf (f i) .poly))
+  built = filled-some (buildAll n f) h ∙ ap some (all-there .whole)
 
 module _ (p : Params) (part : List ℕ) where
   pub first-fills : (j : ℕ) → filled (buildAll 1 (shareAt p part j)) ≡ true
@@ -136,7 +74,7 @@ module _ (p : Params) (part : List ℕ) where
       let F : ℕ → Option (List ℕ) = λ (j : ℕ). buildAll (p .shares) (shareAt p part j) in
       built F (p .l) h
       ∙ ap some (build-ext (p .l) (λ (j : ℕ). heldOf (F j) .poly) (λ (j : ℕ). build (p .shares) (openedAt p part j))
-      (λ (j : ℕ) (l : j < p .l). held-some (F j) (build (p .shares) (openedAt p part j))
+      (λ (j : ℕ) (l : j < p .l). held-is (F j) (build (p .shares) (openedAt p part j))
       (built (shareAt p part j) (p .shares) (fill-each F (p .l) h j l))))
 
   pub share-fills : (j i : ℕ) (r : Sampled) → 1 ≤ i → r ≡ heldOf (seededShare p part j i) → filled (shareAt p part j i) ≡ r .ok
@@ -186,11 +124,6 @@ module _ (p : Params) (part : List ℕ) where
       sym (take-all (p .l * (p .shares * 512)) s (omega arith)) ∙ w .new
 
 -- ---- the key
-
-pub not-filled : (o : Option (List ℕ)) → filled o ≡ false → o ≡ none
-unfolding filled
-not-filled none e = refl
-not-filled (some a) e = let x : _≡_ {A = ℕ} 0 1 = cc in absurd (omega arith)
 
 module _ (p : Params) (h : Listed p) (key : List ℕ) (n : length key ≡ p .«sk_bytes») where
   pub vk-in : p .«vk_bytes» ≤ length key

@@ -10,9 +10,10 @@ use lib.Pow.{pow-pos, pow-add, pow-mono, shl-exact, shr-lt}
 use lib.Seq.{sets, take-all, length-take-le}
 use Rattle.hash.specs.Endian.{byteOf}
 use Rattle.hash.specs.Lists.{pasted}
+use Rattle.sharing.proofs.Lists.{inside}
 use Rattle.signature.specs.Bits.{bitsOf, fields, repack}
 use Rattle.signature.proofs.Strings.{length-bits, length-fields, bits-append, bits-cat, bits-low, sets-append}
-use Rattle.signature.proofs.Packing.{fields-more, packed, within}
+use Rattle.signature.proofs.Packing.{fields-more, packed}
 use Rattle.signature.proofs.Words.{stored}
 
 -- i numbers xs of w bits each: the bits `done` stand in the first j bytes of out, the others are the `have` bits of acc
@@ -51,7 +52,7 @@ module _ (w : ℕ) (xs l : List ℕ) where
         omega (arith, ap length (s .all-is), length-append (s .done) (bitsOf have acc), s .long, length-bits have acc)
 
     pub room : (n : ℕ) → i < length xs → length xs * w ≡ n * 8 → 64 ≤ have + w → j + 8 ≤ n
-    room n h e k = omega (arith, place (omega arith), within i (length xs) w h)
+    room n h e k = omega (arith, place (omega arith), inside i (length xs) w h)
 
     pub last-place : (n : ℕ) → i ≤ length xs → length xs ≤ i → length xs * w ≡ n * 8 → j * 8 + have ≡ n * 8
     last-place n h g e = let d : i ≡ length xs = omega arith in place h ∙ ap (λ (m : ℕ). m * w) d ∙ e

@@ -1,9 +1,9 @@
 -- Laws of packing: numbers of one width as numbers of another.
-use Prim.Native.Nat.{ℕ, zero, suc, _+_, _*_, _/_, _%_, _^_, _≤_, _<_}
+use Prim.Native.Nat.{ℕ, zero, suc, _+_, _*_, _/_, _%_, _^_, _<_}
 use mathlib.Core.Path.{_≡_, refl, sym, ap, _∙_}
 use mathlib.Core.List.{List, [], _∷_, _++_, append-nil, append-assoc}
 use native.Mathlib.Omega.{arith}
-use native.Mathlib.Nat.{mul-le-mul-right, mod-eq-of-lt, suc-mul, zero-mul, zero-add}
+use native.Mathlib.Nat.{mod-eq-of-lt, suc-mul, zero-mul, zero-add}
 use native.Mathlib.Numerals.{add-one}
 use lib.ListN.{length, getD, set, take, drop, length-take, length-drop, take-append-drop}
 use lib.Seq.{take-at, drop-at, take-suc, take-suc-set, drop-drop, sets, sets-eq, drop-length, length-take-le}
@@ -59,9 +59,6 @@ chop-suc w (suc n) l =
 
 pub unpack-more : (w : ℕ) (l out : List ℕ) (i v : ℕ) → i < length out → take i out ≡ chop w i l → v ≡ valOf (take w (drop (i * w) l)) → take (i + 1) (set out i v) ≡ chop w (i + 1) l
 unpack-more w l out i v h e f = rw (add-one, take-suc-set out i v h, chop-suc, ← e, ← f)
-
-pub within : (i n w : ℕ) → i < n → i * w + w ≤ n * w
-within i n w h = omega (arith, mul-le-mul-right w h, suc-mul i w)
 
 -- ---- there and back
 

@@ -18,8 +18,8 @@ use Rattle.signature.specs.Checks.{ask, sameBytes, writtenAs, properFiel
 use Rattle.signature.specs.Form.{Fields, hashBytes, write, read}
 use Rattle.signature.specs.Verify.{verifyMatrix, verifyFields}
 use Rattle.signature.proofs.Canonical.{accepted, refused, read-sized}
-use Rattle.signature.proofs.Entries.{absurd-bool}
 use Rattle.signature.proofs.Parsed.{read-true, read-false}
+use Rattle.signature.proofs.Checks.{absurd-bool}
 use Rattle.signature.proofs.SameBytes.{same-refl, same-eq}
 
 -- what the writer makes of the fields read

@@ -9,8 +9,8 @@ use borrow.Author.Tests.{eqb-true, eq-eqb, ne-eqb}
 use lib.Dec.{eqb}
 use lib.ListN.{length, getD, drop, drop-of-length-le}
 use lib.Seq.{drop-cons}
+use Rattle.signature.proofs.Checks.{absurd-bool}
 use Rattle.signature.specs.Checks.{both, sameBytes}
-use Rattle.signature.proofs.Entries.{absurd-bool}
 
 pub same-refl : (a : List ℕ) → sameBytes a a ≡ true
 unfolding sameBytes

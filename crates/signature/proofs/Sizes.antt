@@ -2,7 +2,7 @@
 use mathlib.Core.Path.{_≡_, sym, ap, subst, _∙_}
 use mathlib.Core.List.{List}
 use Prim.Native.Nat.{ℕ, _+_, _-_, _*_, _/_, _≤_}
-use native.Mathlib.Nat.{mul-le-mul}
+use native.Mathlib.Nat.{le-refl, mul-le-mul}
 use native.Mathlib.Omega.{arith}
 use lib.ListN.{length, take, drop, length-drop}
 use lib.Seq.{take-all, length-take-le}
@@ -56,6 +56,10 @@ module _ (p : Params) (h : Small p) where
   pub room : (n : ℕ) → n ≡ workWords p → (atS (p .shares) + p .l * (p .shares * 512) ≤ n) × (atT (p .l) (p .shares) + p .k * 512 ≤ n)
       × (atX (p .k) (p .l) (p .shares) + p .l * 512 ≤ n)
   room n e = let m = h .columns-rows in (omega arith, omega arith, omega arith)
+
+  -- a sharing has a polynomial or more
+  pub share-room : p .l * 512 ≤ p .l * (p .shares * 512)
+  share-room = let m = h .shares-pos in let n : 512 ≤ p .shares * 512 = omega arith in mul-le-mul (le-refl (p .l)) n
 
   -- the tape's two parts
   pub tape-first : (n : ℕ) → n ≡ noiseBytes p → p .l * p .rep * p .shares * (p .kappa / 8) ≤ n

@@ -25,8 +25,7 @@ use Rattle.signature.specs.Keygen.{Small}
 use Rattle.signature.specs.Masked.{Noise, seeded, explicit}
 use Rattle.signature.specs.Sign.{Tapes, noiseAt, maskAt}
 use Rattle.signature.specs.SignCalls.{tapesGood}
-use Rattle.signature.proofs.Asked.{both-true}
-use Rattle.signature.proofs.Entries.{absurd-bool}
+use Rattle.signature.proofs.Checks.{absurd-bool, both-true}
 use Rattle.signature.proofs.Sizes.{tape-low}
 
 -- a part of n words from a n on is block a

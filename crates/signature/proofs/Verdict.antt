@@ -14,8 +14,8 @@ use Rattle.signature.specs.Form.{Fields}
 use Rattle.signature.specs.Keys.{vkVector}
 use Rattle.signature.specs.Matrix.{filled}
 use Rattle.signature.specs.Recover.{muOf}
+use Rattle.signature.proofs.Checks.{absurd-bool}
 use Rattle.signature.specs.Verify.{recomputed, verifyMatrix, verifyChallenge}
-use Rattle.signature.proofs.Entries.{absurd-bool}
 
 held-some : (o : Option (List ℤ)) → chalHeld o .ok ≡ true → o ≡ some (chalHeld o .poly)
 unfolding chalHeld

@@ -4,6 +4,8 @@ use mathlib.Core.Bool.{Bool, true, false}
 use mathlib.Core.List.{List}
 use Prim.Native.Nat.{ℕ, _+_, _*_, _/_, _^_, _≤_, _<_}
 use native.Mathlib.Omega.{arith}
+use borrow.Author.Tests.{lt-leb}
+use lib.ListN.{length}
 use Rattle.hash.specs.Params.{lookupOf}
 use Rattle.hash.specs.declared.params.Edition.{Edition}
 use Rattle.hash.specs.declared.params.Params.{Params}
@@ -75,3 +77,14 @@ verify-no-shares e set vk msg sig h = sym (ap (λ (x : Selected). verifyFor x vk
 pub verify-found : (e : Edition) (set : ℕ) (vk msg sig : List ℕ) (p : Params) → lookupOf set 1 e ≡ Selected.Found p → verifyOf p vk msg sig ≡ verifyCall e set vk msg sig
 unfolding verifyCall
 verify-found e set vk msg sig p h = sym (ap (λ (x : Selected). verifyFor x vk msg sig) h)
+
+-- of a message that is too long (check 9) only that is known, and nothing of the signature
+module _ (e : Edition) (set : ℕ) (vk m n s t : List ℕ) (a : 4096 < length m) (b : 4096 < length n) where
+  pub long-message : verifyCall e set vk m s ≡ verifyCall e set vk n t
+  unfolding verifyCall verifyOf
+  long-message = go (lookupOf set 1 e) refl
+    where
+      go : (x : Selected) → lookupOf set 1 e ≡ x → verifyCall e set vk m s ≡ verifyCall e set vk n t
+      go Selected.NoSet h = rw h
+      go Selected.NoShares h = rw h
+      go (Selected.Found p) h = rw (h, lt-leb _ _ a, lt-leb _ _ b)

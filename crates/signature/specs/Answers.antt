@@ -11,6 +11,7 @@ use Rattle.hash.specs.Lists.{pick}
 use Rattle.signature.specs.Code.{readCodes}
 use Rattle.signature.specs.Form.{Fields}
 use Rattle.signature.specs.Bounds.{within, squares}
+use Rattle.signature.specs.Sign.{Attempted, made, over, stuck}
 use Rattle.signature.specs.declared.bounds.Norm.{Norm}
 use Rattle.signature.specs.declared.code.Got.{Got}
 use Rattle.signature.specs.declared.code.Next.{Next}
@@ -61,3 +62,11 @@ normOf most v zs = pick (within most zs) (Norm.Square (squares v zs)) Norm.Over
 -- `checkBounds` over the hint's limit, B_inf and 2^-64 B_2^2
 unfoldable pub boundsOf : ℕ → ℕ → ℕ → List ℤ → List ℤ → Bool
 boundsOf limit most all h z = pick (within limit h) (pick (within most z) (leb (2 ^ 24 * squares 0 h + squares 32 z) all) false) false
+
+-- ---- the end of an attempt
+
+-- whether it was made, and the signature's buffer before and after
+abbrev pub FinishedAs : Attempted → Bool → List ℕ → List ℕ → Type 0
+FinishedAs (made b) r xs ys = (r ≡ true) × (ys ≡ b)
+FinishedAs over r xs ys = (r ≡ false) × (ys ≡ xs)
+FinishedAs stuck r xs ys = ⊥

@@ -14,6 +14,7 @@ use Rattle.hash.specs.Shake.{absorbFrom, finish, rate, stream, shake256}
 use Rattle.hash.specs.declared.params.Edition.{Edition}
 use Rattle.hash.specs.declared.params.Params.{Params}
 use Rattle.hash.specs.declared.params.Selected.{Selected}
+use Rattle.ring.specs.Checks.{ask, polynomialSized, filled, answered}
 use Rattle.signature.specs.declared.challenge.Challenged.{Challenged}
 
 -- ---- Algorithm 10 over a stream of bytes
@@ -56,7 +57,7 @@ run e s w (suc n) = pick (eqb (weight (run e s w n)) w) (run e s w n) (step e (r
 abbrev pub draws : ℕ → ℕ
 draws n = min 1088 (n / 2)
 
--- the challenge polynomial of a stream, if w positions are taken in time (question 11)
+-- the challenge polynomial of a stream, if w positions are taken in time (check 11)
 unfoldable pub challenge : Edition → ℕ → List ℕ → Option (List ℤ)
 challenge e w s = pick (eqb (weight (run e s w (draws (length s)))) w) (some (run e s w (draws (length s)))) none
 
@@ -73,19 +74,20 @@ ordered Edition.Kat w mu = mu ++ w
 unfoldable pub chalHash : Params → List ℕ → List ℕ → List ℕ
 chalHash p w mu = shake256 ((104 ∷ p .k ∷ 0 ∷ 0 ∷ 0 ∷ 0 ∷ 0 ∷ 0 ∷ []) ++ ordered (p .edition) w mu) (p .kappa / 4)
 
--- ---- the sampler over lent bytes: questions 1, 8 and 11
+-- ---- the sampler over lent bytes: checks 1, 8 and 11
 
-abbrev answered : Option (List ℤ) → List ℤ → ℕ × List ℤ
-answered none out = (11, out)
-answered (some c) out = (0, c)
+abbrev pub sampledNo : Params → List ℕ → List ℤ → ℕ
+sampledNo p s out = ask 8 (polynomialSized out) (ask 11 (filled (challenge (p .edition) (p .omega) s)) 0)
 
-abbrev asked : Selected → List ℕ → List ℤ → ℕ × List ℤ
-asked (Selected.Found p) s out = pick (eqb (length out) 512) (answered (challenge (p .edition) (p .omega) s) out) (8, out)
-asked Selected.NoSet s out = (1, out)
-asked Selected.NoShares s out = (1, out)
+-- the set is looked up with any share count: nothing here depends on it
+abbrev sampledFor : Selected → List ℕ → List ℤ → ℕ × List ℤ
+sampledFor Selected.NoSet s out = (1, out)
+sampledFor Selected.NoShares s out = (1, out)
+sampledFor (Selected.Found p) s out = answered (sampledNo p s out) (challenge (p .edition) (p .omega) s) out
 
+-- the status, and what out holds afterwards
 unfoldable pub sampledChallenge : ℕ → List ℕ → List ℤ → ℕ × List ℤ
-sampledChallenge set s out = asked (lookupOf set 1 Edition.Printed) s out
+sampledChallenge set s out = sampledFor (lookupOf set 1 Edition.Printed) s out
 
 -- ---- the map of taken positions: bit p of eight words, and the ones of all of them
 

@@ -1,23 +1,16 @@
--- The checks of paper 01 ("Questions put to a call"), each by its number. The first no decides, and its number is the status.
+-- The checks of paper 01 ("Questions put to a call"), each by its number. The first no decides, and its number is the status (`ask`).
 use mathlib.Core.Bool.{Bool, true, false}
 use mathlib.Core.List.{List, [], _∷_}
 use mathlib.Core.Option.{Option, some, none}
 use Prim.Native.Nat.{ℕ, _+_, _*_}
 use lib.Dec.{eqb, leb}
 use lib.ListN.{length, drop}
-use Rattle.hash.specs.Lists.{pick}
 use Rattle.hash.specs.declared.params.Params.{Params}
+pub use Rattle.ring.specs.Checks.{ask, both}
 use Rattle.ring.specs.Words.{q, allBelow}
 use Rattle.sharing.specs.Noise.{noiseBytes}
 use Rattle.signature.specs.Form.{Fields, write, read}
 use Rattle.signature.specs.Keys.{vkVector, fullShare, keygenBytes}
-
--- check n: with a no the status is n, with a yes it is that of the checks that follow
-abbrev pub ask : ℕ → Bool → ℕ → ℕ
-ask n b rest = pick b rest n
-
-abbrev pub both : Bool → Bool → Bool
-both a b = pick a b false
 
 -- 1. Is the set 128, 192 or 256?   2. Is d one of the six?
 -- The look-up in the parameter table puts these two (lookupOf: NoSet, NoShares).
@@ -62,7 +55,7 @@ signSeedsSized p n noise masks = both (eqb (length noise) (n * noiseBytes p)) (e
 abbrev pub signNoiseGood : Params → ℕ → List ℕ → List ℕ → Bool
 signNoiseGood p n noise masks = both (eqb (length noise) (n * ((p .l + p .k) * p .shares * 512))) (both (allBelow q noise) (eqb (length masks) (n * 32)))
 
--- 8. Is each result buffer exactly its size, and the work buffer exactly 512 (2 l d + 4 d + 2 k + 8) words?
+-- 8. Is each result buffer exactly its size, and the work buffer exactly 512 (2 l d + 4 d + 2 k + 8) words? (Samplers: polynomialSized.)
 abbrev pub workWords : Params → ℕ
 workWords p = 512 * (2 * p .l * p .shares + 4 * p .shares + 2 * p .k + 8)
 
@@ -77,7 +70,7 @@ abbrev pub messageSized : List ℕ → Bool
 messageSized m = leb (length m) 4096
 
 -- 10. Did every uniform polynomial fill within 777 draws?   11. Did the challenge fill within 1088 draws?
--- The samplers put these two: they give none where the answer is no.
+-- The samplers give none where the answer is no (filled).
 
 -- 12. Did some allowed attempt pass the bounds (2.4.4) and fit the signature length?
 -- `finished` of Sign.antt puts it to each attempt: `checkBounds`, and `write`, which gives none where the bits do not fit.

@@ -1,20 +1,18 @@
 -- Keys: byte forms (000, 2.5.2 and 2.5.3), MaskCompress and MaskDecompress (Algorithms 14 and 15), KeyGen (Algorithm 1).
-use mathlib.Core.List.{List, [], _∷_, _++_}
+use mathlib.Core.List.{List, _++_}
 use mathlib.Core.Option.{Option, some, none}
 use Prim.Native.Nat.{ℕ, zero, suc, _+_, _-_, _*_, _/_}
 use lib.ListN.{take, drop}
-use Rattle.hash.specs.declared.params.Edition.{Edition}
 use Rattle.hash.specs.declared.params.Params.{Params}
-use Rattle.ring.specs.Words.{addW, subW}
 use Rattle.ring.specs.Transform.{ntt}
 use Rattle.ring.specs.Round.{roundT}
-use Rattle.ring.specs.Uniform.{sampleQ}
 use Rattle.sharing.specs.Blocks.{block, build, totals, each}
 use Rattle.sharing.specs.Encoding.{refreshed}
 use Rattle.sharing.specs.Masks.{masks, maskStart}
 use Rattle.sharing.specs.Noise.{noiseBytes}
 use Rattle.sharing.specs.declared.masks.MaskGen.{MaskGen}
 use Rattle.signature.specs.Bits.{repack}
+use Rattle.signature.specs.Compress.{seededShareOf, collectedOf, compressedOf}
 use Rattle.signature.specs.Matrix.{buildAll, matrix}
 use Rattle.signature.specs.Masked.{seeded, maskedNoise, maskedImage}
 
@@ -37,14 +35,9 @@ publicKey p seed t = seed ++ repack 7 8 (p .k * 448) t
 unfoldable pub fullShare : Params → List ℕ → List ℕ
 fullShare p part = repack 8 49 (p .l * 512) (drop ((p .shares - 1) * seedBytes p) part)
 
--- the header of share i of polynomial j: as printed, and in the response files
-abbrev pub shareHeader : Edition → ℕ → ℕ → List ℕ
-shareHeader Edition.Printed i j = 75 ∷ i ∷ j ∷ 0 ∷ 0 ∷ 0 ∷ 0 ∷ 0 ∷ []
-shareHeader Edition.Kat i j = 75 ∷ j ∷ i ∷ 0 ∷ 0 ∷ 0 ∷ 0 ∷ 0 ∷ []
-
 -- share i, from 1, of polynomial j, expanded from its seed
-unfoldable pub seededShare : Params → List ℕ → ℕ → ℕ → Option (List ℕ)
-seededShare p seeds j i = sampleQ (shareHeader (p .edition) i j) (block (seedBytes p) (i - 1) seeds)
+abbrev pub seededShare : Params → List ℕ → ℕ → ℕ → Option (List ℕ)
+seededShare p seeds j i = seededShareOf (p .edition) (seedBytes p) seeds j i
 
 -- Algorithm 15: polynomial by polynomial, the full share first
 unfoldable pub shareAt : Params → List ℕ → ℕ → ℕ → Option (List ℕ)
@@ -54,18 +47,12 @@ shareAt p part j (suc i) = seededShare p part j (suc i)
 unfoldable pub decompressed : Params → List ℕ → Option (List ℕ)
 decompressed p part = buildAll (p .l) (λ (j : ℕ). buildAll (p .shares) (shareAt p part j))
 
--- Algorithm 14 at polynomial j, of the sharing xs: x := s_0, then x - r + s_i for the shares i from 1
-abbrev pub exchanged : List ℕ → Option (List ℕ) → Option (List ℕ) → Option (List ℕ)
-exchanged s none r = none
-exchanged s (some x) none = none
-exchanged s (some x) (some r) = some (addW (subW x r) s)
+-- Algorithm 14: at polynomial j, of the sharing xs, up to share i; and of all polynomials
+abbrev pub collected : Params → List ℕ → List ℕ → ℕ → ℕ → Option (List ℕ)
+collected p seeds xs j i = collectedOf (p .edition) (seedBytes p) seeds xs j i
 
-unfoldable pub collected : Params → List ℕ → List ℕ → ℕ → ℕ → Option (List ℕ)
-collected p seeds xs j zero = some (block 512 0 xs)
-collected p seeds xs j (suc i) = exchanged (block 512 (suc i) xs) (collected p seeds xs j i) (seededShare p seeds j (suc i))
-
-unfoldable pub compressed : Params → List ℕ → List ℕ → Option (List ℕ)
-compressed p seeds s = buildAll (p .l) (λ (j : ℕ). collected p seeds (block (p .shares * 512) j s) j (p .shares - 1))
+abbrev pub compressed : Params → List ℕ → List ℕ → Option (List ℕ)
+compressed p seeds s = compressedOf (p .edition) (seedBytes p) seeds (p .l) (p .shares) s
 
 -- ---- Algorithm 1
 

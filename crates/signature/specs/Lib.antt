@@ -17,5 +17,6 @@ pub mod Opening
 pub mod Recover
 pub mod Sign
 pub mod SignCalls
+pub mod SignSteps
 pub mod Table
 pub mod Verify

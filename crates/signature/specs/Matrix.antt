@@ -1,9 +1,10 @@
 -- ExpandA (000, Algorithm 6), and polynomials that may not fill, one behind the other.
-use mathlib.Core.Bool.{Bool, true, false}
+use mathlib.Core.Bool.{Bool}
 use mathlib.Core.List.{List, [], _∷_, _++_}
 use mathlib.Core.Option.{Option, some, none}
-use Prim.Native.Nat.{ℕ, zero, suc, _+_}
+use Prim.Native.Nat.{ℕ, zero, suc}
 use Rattle.hash.specs.declared.params.Params.{Params}
+unfoldable pub use Rattle.ring.specs.Checks.{filled}
 use Rattle.ring.specs.Uniform.{sampleQ, heldOf}
 
 abbrev pub joinedTo : Option (List ℕ) → Option (List ℕ) → Option (List ℕ)
@@ -11,7 +12,7 @@ joinedTo none b = none
 joinedTo (some a) none = none
 joinedTo (some a) (some b) = some (a ++ b)
 
--- f 0, .. f (n - 1), if all of them are there (question 10)
+-- f 0, .. f (n - 1), if all of them are there (check 10)
 unfoldable pub buildAll : ℕ → (ℕ → Option (List ℕ)) → Option (List ℕ)
 buildAll zero f = some []
 buildAll (suc n) f = joinedTo (buildAll n f) (f n)
@@ -28,11 +29,6 @@ matrixOf k l seed = buildAll k (λ (i : ℕ). buildAll l (matrixAt seed i))
 
 abbrev pub matrix : Params → List ℕ → Option (List ℕ)
 matrix p seed = matrixOf (p .k) (p .l) seed
-
--- is the list there?
-unfoldable pub filled : Option (List ℕ) → Bool
-filled none = false
-filled (some a) = true
 
 -- do all l entries of row i fill, and entry m of it: zero where it does not
 abbrev pub rowFills : List ℕ → ℕ → ℕ → Bool

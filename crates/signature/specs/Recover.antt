@@ -67,3 +67,10 @@ blockZ i h = take 512 (drop (i * 512) h)
 -- w' of all rows, y from the code's rows
 unfoldable pub adjustedRows : ℕ → ℕ → List ℕ → List ℕ → List ℕ → List ℕ → List ℤ → List ℕ
 adjustedRows k l seed Z C t h = build k (λ (i : ℕ). adjusted (recoveredBy l (rowEntry seed i) Z C (block 512 i t)) (blockZ i h))
+
+-- the hint of all rows, of the rounded w and of y from the code's rows: row i before it is centred, and the whole
+unfoldable pub hintRow : ℕ → List ℕ → List ℕ → List ℕ → List ℕ → List ℕ → ℕ → List ℕ
+hintRow l seed Z C t w i = zipTo sub31 (block 512 i w) (roundW (recoveredBy l (rowEntry seed i) Z C (block 512 i t)))
+
+unfoldable pub hintRows : ℕ → ℕ → List ℕ → List ℕ → List ℕ → List ℕ → List ℕ → List ℤ
+hintRows k l seed Z C t w = centredAll 31 (build k (hintRow l seed Z C t w))

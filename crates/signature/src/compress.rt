@@ -7,9 +7,8 @@ ghost use lib.ListN.{length};
 ghost use Rattle.ring.specs.Words.{q, addW, subW, Below, Words};
 ghost use Rattle.ring.specs.Uniform.{heldOf};
 ghost use Rattle.sharing.specs.Region.{sub, Wrote};
-ghost use Rattle.signature.specs.Keys.{shareHeader};
 ghost use Rattle.signature.specs.Matrix.{filled};
-ghost use Rattle.signature.specs.Compress.{seededShareOf, collectedOf, compressedOf};
+ghost use Rattle.signature.specs.Compress.{shareHeader, seededShareOf, collectedOf, compressedOf};
 use hash::params::Edition;
 use ring::poly::add;
 use ring::poly::sub;
@@ -19,7 +18,7 @@ use sharing::region::load;
 use sharing::region::store_at;
 
 // The header of share i of polynomial j, in both editions.
-pub(crate) fn share_header(edition: Edition, i: usize, j: usize) -> [u8; 8]
+fn share_header(edition: Edition, i: usize, j: usize) -> [u8; 8]
     requires { ⌜ (i < 256) × (j < 256) ⌝ }
     ensures { λ r. ⌜ r ≡ shareHeader edition i j ⌝ }
 {

@@ -14,10 +14,11 @@ ghost use Rattle.sharing.specs.Masks.{masks, maskStart};
 ghost use Rattle.signature.specs.Bits.{repack};
 ghost use Rattle.signature.specs.Checks.{both};
 ghost use Rattle.signature.specs.Matrix.{buildAll, filled};
-ghost use Rattle.signature.specs.Keys.{fullShare, shareHeader, seededShare, shareAt, decompressed};
+ghost use Rattle.signature.specs.Keys.{fullShare, seededShare, shareAt, decompressed};
 ghost use Rattle.signature.specs.Opening.{Listed, partBytes, openedAt, opened, openedKey};
 ghost use Rattle.signature.specs.KeyCalls.{outcome, expandNo, expandCall, refreshNo, refreshCall};
 use crate::bits::unpack;
+use crate::compress::seeded_share;
 use hash::params::Edition;
 use hash::params::Params;
 use hash::params::Selected;
@@ -25,7 +26,6 @@ use hash::params::lookup;
 use ring::poly::all_below;
 use ring::poly::copy_into;
 use ring::uniform::Sampled;
-use ring::uniform::sample_q;
 use sharing::encoding::zero_encoding_at;
 use sharing::masks::MaskGen;
 use sharing::masks::start;
@@ -62,7 +62,7 @@ pub(crate) fn public_key_good(key: &[u8], n: usize, k: usize) -> bool
 }
 
 // Questions 3 and 8, of an expanded key: are there vk bytes and n words?
-fn sized(vk: usize, n: usize, bytes: &[u8], words: &[u64]) -> bool
+pub(crate) fn sized(vk: usize, n: usize, bytes: &[u8], words: &[u64]) -> bool
     ensures { λ r. ⌜ r ≡ both (eqb (length (now (bytes .entry))) vk) (eqb (length (now (words .entry))) n) ⌝ }
 {
     if bytes.len() != vk {
@@ -163,28 +163,13 @@ pub fn refresh_key(
     }
 }
 
-// The header of share i of polynomial j (000, Algorithm 15, in both editions).
-fn share_header(edition: Edition, i: usize, j: usize) -> [u8; 8]
-    requires { ⌜ (i < 256) × (j < 256) ⌝ }
-    ensures { λ r. ⌜ r ≡ shareHeader edition i j ⌝ }
-{
-    match edition {
-        Edition::Printed => [75u8, i as u8, j as u8, 0, 0, 0, 0, 0],
-        Edition::Kat => [75u8, j as u8, i as u8, 0, 0, 0, 0, 0],
-    }
-}
-
 // Share i, from 1, of polynomial j, expanded from its seed.
-fn seeded_share(p: Params, part: &[u8], j: usize, i: usize) -> Sampled
+fn seeded_at(p: Params, part: &[u8], j: usize, i: usize) -> Sampled
     requires { ⌜ Listed p × (length (now part) ≡ partBytes p) × (j < p .l) × (1 ≤ i) × (i < p .shares) ⌝ }
     ensures { λ r. ⌜ (r ≡ heldOf (seededShare p (now (part .entry)) j i)) × Words 512 (r .poly) ⌝ }
 {
-    let n = p.kappa / 8;
-    let a = (i - 1) * n;
-    let e = a + n;
     let edition = p.edition;
-    let header = share_header(edition, i, j);
-    sample_q(&header, &part[a..e])
+    seeded_share(edition, part, p.kappa / 8, i, j)
 }
 
 // Question 10 for polynomial j: do all of its seeded shares fill?
@@ -194,7 +179,7 @@ fn polynomial_fills(p: Params, part: &[u8], j: usize) -> bool
 {
     let d = p.shares;
     for i in 1..d {
-        let x = seeded_share(p, part, j, i);
+        let x = seeded_at(p, part, j, i);
         if !x.ok {
             return false;
         }
@@ -226,7 +211,7 @@ fn full_share(p: Params, part: &[u8], out: &mut [u64])
 }
 
 // Question 5: are the words of the full share below q?
-fn full_share_good(p: Params, part: &[u8]) -> bool
+pub(crate) fn full_share_good(p: Params, part: &[u8]) -> bool
     requires { ⌜ Listed p × (length (now part) ≡ partBytes p) ⌝ }
     ensures { λ r. ⌜ r ≡ allBelow q (fullShare p (now (part .entry))) ⌝ }
 {
@@ -245,7 +230,7 @@ fn share_at(p: Params, part: &[u8], full: &[u64], j: usize, i: usize) -> [u64; 5
     if i == 0 {
         return load(full, j * 512);
     }
-    let s = seeded_share(p, part, j, i);
+    let s = seeded_at(p, part, j, i);
     s.poly
 }
 

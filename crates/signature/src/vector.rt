@@ -22,7 +22,19 @@ pub(crate) fn ntt_vector(s: &mut [u64], at: usize, n: usize)
     }
 }
 
-// And back.
+// The transforms of the n polynomials from `from` on, put at `to`, before them.
+pub(crate) fn ntt_to(s: &mut [u64], from: usize, to: usize, n: usize)
+    requires { ⌜ (to + n * 512 ≤ from) × (from + n * 512 ≤ length (now s)) × Below q (now s) ⌝ }
+    ensures { λ _. ⌜ Wrote 0 to (n * 512) (transformed n (sub (now (s .entry)) from (n * 512))) (now (s .entry)) (now (s .exit)) ⌝ }
+{
+    for i in 0..n {
+        let p = load(s, from + i * 512);
+        let t = ntt(p);
+        store_at(s, to + i * 512, &t);
+    }
+}
+
+// And back, in place.
 pub(crate) fn intt_vector(s: &mut [u64], at: usize, n: usize)
     requires { ⌜ (at + n * 512 ≤ length (now s)) × Below q (now s) ⌝ }
     ensures { λ _. ⌜ Wrote 0 at (n * 512) (untransformed n (sub (now (s .entry)) at (n * 512))) (now (s .entry)) (now (s .exit)) ⌝ }

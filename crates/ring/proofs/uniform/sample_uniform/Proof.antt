@@ -2,7 +2,7 @@ use Prim.Native.Nat.{ℕ}
 use mathlib.Core.Path.{ap, _∙_}
 use mathlib.Core.List.{List}
 use native.Mathlib.Omega.{arith}
-use Rattle.ring.proofs.Draws.{filled, unfilled, refused, answered-none, answered-some}
+use Rattle.ring.proofs.Draws.{fills, unfilled, refused, answered-none, answered-some}
 use borrow.Author.Needs.{needs}
 use Rattle.ring.proofs.uniform.sample_uniform.Statement.{statement}
 use Rattle.ring.proofs.uniform.sample_uniform.Tie as tie
@@ -23,7 +23,7 @@ returns-3 c =
     let m = g .before .before in
     ap (λ (o : List ℕ). (0, o)) (c .before .before .copy-into .ensures)
     ∙ answered-some _ _ _ (m .before .if1 .left)
-    (filled _ _ _ _ _ (g .gather .ensures) (omega (arith, m .least .ensures)) (t .if2 .left))
+    (fills _ _ _ _ _ (g .gather .ensures) (omega (arith, m .least .ensures)) (t .if2 .left))
 
 pub sample-uniform-spec : {M : Type 1} → statement M
 sample-uniform-spec =

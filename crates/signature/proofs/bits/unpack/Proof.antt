@@ -4,8 +4,9 @@ use native.Mathlib.Omega.{arith}
 use borrow.Author.Needs.{needs}
 use lib.ListN.{length, take, length-set}
 use lib.Seq.{take-all}
+use Rattle.sharing.proofs.Lists.{inside}
 use Rattle.signature.specs.Bits.{fields, chop, repack}
-use Rattle.signature.proofs.Packing.{within, unpack-more}
+use Rattle.signature.proofs.Packing.{unpack-more}
 use Rattle.signature.proofs.bits.unpack.Statement.{statement}
 use Rattle.signature.proofs.bits.unpack.Tie as tie
 
@@ -22,12 +23,12 @@ loop-holds c = search needs
 mul-get-bits : tie.Need-mul-get-bits Inv-loop μ-loop
 mul-get-bits c =
     let l = c .before .loop in
-    omega (arith, within (l .i) (length (l .out)) (c .before .before .before .before .args .w) (c .loop-test .taken), ap (λ (n : ℕ). n * c .before .before .before .before .args .w) (l .inv .1))
+    omega (arith, inside (l .i) (length (l .out)) (c .before .before .before .before .args .w) (c .loop-test .taken), ap (λ (n : ℕ). n * c .before .before .before .before .args .w) (l .inv .1))
 
 get-bits-requires : tie.Need-get-bits-requires Inv-loop μ-loop
 get-bits-requires c κs =
     let l = c .before .loop in
-    omega (arith, within (l .i) (length (l .out)) (c .before .before .before .before .args .w) (c .loop-test .taken), ap (λ (n : ℕ). n * c .before .before .before .before .args .w) (l .inv .1))
+    omega (arith, inside (l .i) (length (l .out)) (c .before .before .before .before .args .w) (c .loop-test .taken), ap (λ (n : ℕ). n * c .before .before .before .before .args .w) (l .inv .1))
 
 loop-less : tie.Need-loop-less Inv-loop μ-loop
 loop-less c = simp length-set (omega arith)

@@ -1,14 +1,11 @@
 use Prim.Native.Nat.{ℕ, _+_, _*_, _-_, _<_, _≤_}
 use mathlib.Core.Path.{_≡_, refl, sym, ap, _∙_}
-use mathlib.Core.List.{List}
 use mathlib.Core.Option.{some, none}
 use native.Mathlib.Omega.{arith}
 use native.Mathlib.Nat.{sub-self}
 use borrow.Author.Needs.{needs}
-use lib.IntN.{ℤ}
-use lib.ListN.{length, set, take, drop, length-set, length-drop}
-use lib.Seq.{take-all, drop-drop, take-suc-set}
-use native.Mathlib.Numerals.{add-one}
+use lib.ListN.{length, take, drop, length-set, length-drop}
+use lib.Seq.{take-all, drop-drop}
 use mir.Syntax.{w64}
 use mir.Val.{SFits, toZ, ofZ}
 use mir.ValLaws.{toZ-ofZ}
@@ -16,7 +13,7 @@ use Rattle.signature.specs.Bits.{fields}
 use Rattle.signature.specs.Code.{readCode, readCodes}
 use Rattle.signature.proofs.Strings.{length-fields}
 use Rattle.signature.specs.declared.code.Next.the-variants.{At}
-use Rattle.signature.proofs.Lists.{got-code, got-bad, read-more, none-left, read-le}
+use Rattle.signature.proofs.Lists.{got-code, got-bad, read-turn, none-left, read-le}
 use Rattle.signature.proofs.code.get_codes.Statement.{statement}
 use Rattle.signature.proofs.code.get_codes.Tie as tie
 
@@ -59,7 +56,6 @@ loop-again c =
     let p : a .at + (l .k - a .at) ≡ l .k = omega arith in
     let q = drop-drop (l .k - a .at) (a .at) (fields 8 (a .buf .now)) ∙ ap (λ (n : ℕ). drop n (fields 8 (a .buf .now))) p in
     let d : readCode (a .w) (drop (l .k - a .at) t) ≡ some (z, f .0) = ap (readCode (a .w)) q ∙ f .1 in
-    let m = read-more (a .w) t (l .i) (l .k - a .at) (f .0) (take (l .i) (l .out)) z (l .inv .4) d in
     let r = read-le (a .w) (drop (l .k) (fields 8 (a .buf .now))) z (f .0) (f .1) in
     let n : length (drop (l .k) (fields 8 (a .buf .now))) ≡ length (a .buf .now) * 8 - l .k = length-drop (l .k) (fields 8 (a .buf .now)) ∙ ap (λ (k : ℕ). k - l .k) (length-fields 8 (a .buf .now)) in
     let s : SFits w64 z = search needs in
@@ -70,8 +66,7 @@ loop-again c =
       length-set (l .out) (l .i) _ ∙ l .inv .1,
       omega (arith, f .2),
       omega (arith, f .2),
-      m ∙ ap (λ (y : List ℤ). some (y, l .k - a .at + f .0)) (sym (ap (λ (v : ℤ). take (l .i + 1) (set (l .out) (l .i) v)) e ∙ ap (λ (v : ℕ). take v (set (l .out) (l .i) z)) (add-one (l .i)) ∙ take-suc-set (l .out) (l .i) z h))
-          ∙ ap (λ (v : ℕ). some (take (l .i + 1) (set (l .out) (l .i) (toZ w64 (ofZ w64 z))), v)) x,
+      read-turn (a .w) t (l .i) (l .k - a .at) (f .0) (next - a .at) (l .out) z _ h e (l .inv .4) d x,
     )
 
 returns-2 : tie.Need-returns-2 Inv-loop μ-loop

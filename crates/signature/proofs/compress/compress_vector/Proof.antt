@@ -8,7 +8,8 @@ use Rattle.sharing.proofs.Regions.{wrote-start}
 use Rattle.signature.specs.Compress.{collectedAt, compressedOf}
 use Rattle.signature.proofs.Collected.{fullAt, full-ok, full-turn, full-end}
 use borrow.Author.Tests.{not-true, not-false}
-use Rattle.signature.proofs.Entries.{absurd-bool, all-none, all-more, all-not, some-filled}
+use Rattle.signature.proofs.Checks.{not-there}
+use Rattle.signature.proofs.Entries.{all-none, all-more, all-not}
 use Rattle.signature.specs.Matrix.{buildAll, filled}
 use Rattle.sharing.proofs.Lists.{inside}
 use borrow.Author.Needs.{needs}
@@ -66,7 +67,7 @@ returns c =
     let t : l .j < b .l = c .before .before .before .before .loop-test .taken in
     let e = full-ok (b .edition) (b .n) (b .seeds .now) (b .at) (b .to) (b .l) (b .d) (b .s .now) (a .pre .3) (l .j) (l .s) (c .before .before .collect .result) t (l .inv .2) (c .before .before .collect .ensures .0) in
     let no : filled (compressedOf (b .edition) (b .n) (b .seeds .now) (b .l) (b .d) (sub (b .s .now) (b .at) (b .l * (b .d * 512)))) ≡ false = all-not (b .l) (l .j) (collectedAt (b .edition) (b .n) (b .seeds .now) (b .d) (sub (b .s .now) (b .at) (b .l * (b .d * 512)))) t (e ∙ not-true _ (c .if1 .taken)) in
-    ((sym no, l .inv .2 .long, l .inv .2 .low), λ X m. absurd-bool (sym (some-filled _ X m) ∙ no))
+    ((sym no, l .inv .2 .long, l .inv .2 .low), λ X m. not-there _ X m no)
 
 store-at-requires : tie.Need-store-at-requires Inv-loop μ-loop
 store-at-requires c κs =

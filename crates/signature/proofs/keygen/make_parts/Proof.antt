@@ -3,7 +3,7 @@ use mathlib.Core.Bool.{true, false}
 use Prim.Native.Nat.{_*_, _/_}
 use native.Mathlib.Omega.{arith}
 use borrow.Author.Tests.{not-true, not-false}
-use Rattle.signature.proofs.Entries.{absurd-bool, some-filled}
+use Rattle.signature.proofs.Checks.{not-there}
 use Rattle.signature.proofs.KeySteps.{both-no, made-parts}
 use Rattle.signature.proofs.Sizes.{same-le, cleared, fits-low, part-all, first-low, room, tape-first, tape-second}
 use Rattle.sharing.specs.Masks.{maskStart}
@@ -85,7 +85,7 @@ returns c =
     let e : c .before .before .before .public-vector .result ≡ false = not-true _ (c .if1 .taken) in
     let g = maskStart (b .mask-seed .now) in
     let no = sym (z .0 .0) ∙ e in
-    ((both-no p (b .seed .now) (b .tape .now) (b .shares .now) g no, z .0 .1 ∙ s .0 .long ∙ w .long, z .0 .2), λ A X m k. absurd-bool (sym (some-filled _ A m) ∙ no))
+    ((both-no p (b .seed .now) (b .tape .now) (b .shares .now) g no, z .0 .1 ∙ s .0 .long ∙ w .long, z .0 .2), λ A X m k. not-there _ A m no)
 
 mul-compress-vector : tie.Need-mul-compress-vector
 mul-compress-vector c =

@@ -3,7 +3,7 @@ use mathlib.Core.Bool.{true, false}
 use Prim.Native.Nat.{_+_, _*_}
 use native.Mathlib.Omega.{arith}
 use borrow.Author.Tests.{not-true, not-false}
-use Rattle.signature.proofs.Entries.{absurd-bool, some-filled}
+use Rattle.signature.proofs.Checks.{not-there}
 use Rattle.signature.proofs.KeySteps.{rounded-made}
 use borrow.Author.Needs.{needs}
 use Rattle.signature.proofs.keygen.public_vector.Statement.{statement}
@@ -20,7 +20,7 @@ returns c =
     let z = c .before .before .before .before .image-seeds .ensures .0 in
     let e : c .before .before .before .before .image-seeds .result .ok ≡ false = not-true _ (c .if1 .taken) in
     let no = sym (z .0) ∙ e in
-    ((sym no, z .1, z .2), λ A m. absurd-bool (sym (some-filled _ A m) ∙ no))
+    ((sym no, z .1, z .2), λ A m. not-there _ A m no)
 
 round-t-vector-requires : tie.Need-round-t-vector-requires
 round-t-vector-requires c κs =

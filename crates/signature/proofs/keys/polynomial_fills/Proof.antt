@@ -5,7 +5,8 @@ use native.Mathlib.Omega.{arith}
 use borrow.Author.Tests.{not-true, not-false}
 use Rattle.signature.specs.Matrix.{buildAll, filled}
 use Rattle.signature.specs.Keys.{shareAt}
-use Rattle.signature.proofs.Opened.{first-fills, fill-turn, fill-stop, share-fills}
+use Rattle.signature.proofs.Entries.{all-more, all-not}
+use Rattle.signature.proofs.Opened.{first-fills, share-fills}
 use borrow.Author.Needs.{needs}
 use Rattle.signature.proofs.keys.polynomial_fills.Statement.{statement}
 use Rattle.signature.proofs.keys.polynomial_fills.Tie as tie
@@ -22,8 +23,8 @@ loop-holds c =
     let a = c .before in
     (omega arith, a .pre .0 .shares-pos, refl, first-fills (a .args .p) (a .args .part .now) (a .args .j))
 
-seeded-share-requires : tie.Need-seeded-share-requires Inv-loop μ-loop
-seeded-share-requires c κs =
+seeded-at-requires : tie.Need-seeded-at-requires Inv-loop μ-loop
+seeded-at-requires c κs =
     let a = c .before .before .before in
     (a .pre .0, a .pre .1, a .pre .2, c .before .loop .inv .0, c .loop-test .taken)
 
@@ -31,19 +32,19 @@ returns : tie.Need-returns Inv-loop μ-loop
 returns c =
     let a = c .before .before .before .before .before .before .args in
     let l = c .before .before .before .before .loop in
-    let r = c .before .before .seeded-share in
-    sym (fill-stop (shareAt (a .p) (a .part .now) (a .j)) (l .i) (a .p .shares) (c .before .before .before .loop-test .taken)
+    let r = c .before .before .seeded-at in
+    sym (all-not (a .p .shares) (l .i) (shareAt (a .p) (a .part .now) (a .j)) (c .before .before .before .loop-test .taken)
     (share-fills (a .p) (a .part .now) (a .j) (l .i) (r .result) (l .inv .0) (r .ensures .0) ∙ not-true _ (c .if1 .taken)))
 
 loop-again : tie.Need-loop-again Inv-loop μ-loop
 loop-again c =
     let a = c .before .before .before .before .before .before .args in
     let l = c .before .before .before .before .loop in
-    let r = c .before .before .seeded-share in (
+    let r = c .before .before .seeded-at in (
       omega arith,
       omega arith,
       refl,
-      fill-turn (shareAt (a .p) (a .part .now) (a .j)) (l .i) (l .inv .3)
+      all-more (l .i) (shareAt (a .p) (a .part .now) (a .j)) (l .inv .3)
           (share-fills (a .p) (a .part .now) (a .j) (l .i) (r .result) (l .inv .0) (r .ensures .0) ∙ not-false _ (c .if1 .left)),
     )
 
@@ -56,5 +57,5 @@ returns-2 c =
 
 pub polynomial-fills-spec : {M : Type 1} → statement M
 polynomial-fills-spec =
-    tie.close (tie.spec Inv-loop μ-loop loop-holds seeded-share-requires returns (λ c. search needs) (λ c. search needs)
+    tie.close (tie.spec Inv-loop μ-loop loop-holds seeded-at-requires returns (λ c. search needs) (λ c. search needs)
     loop-again returns-2)

@@ -13,7 +13,7 @@ returns c =
 returns-2 : tie.Need-returns-2
 returns-2 c =
     let b = c .before .before .before .before .before .args in
-    let r = c .before .seeded-share in
+    let r = c .before .seeded-at in
     (share-opens (b .p) (b .part .now) (b .j) (b .i) (r .result) (c .before .before .if1 .left) (r .ensures .0), r .ensures .1)
 
 pub share-at-spec : {M : Type 1} → statement M

@@ -5,7 +5,7 @@ use native.Mathlib.Omega.{arith}
 use borrow.Author.Tests.{not-true, not-false}
 use Rattle.signature.specs.Matrix.{buildAll, filled}
 use Rattle.signature.specs.Keys.{shareAt, decompressed}
-use Rattle.signature.proofs.Opened.{fill-start, fill-turn, fill-stop}
+use Rattle.signature.proofs.Entries.{all-none, all-more, all-not}
 use borrow.Author.Needs.{needs}
 use Rattle.signature.proofs.keys.shares_fill.Statement.{statement}
 use Rattle.signature.proofs.keys.shares_fill.Tie as tie
@@ -20,7 +20,7 @@ abbrev μ-loop : tie.MeasureT-loop
 loop-holds : tie.Need-loop-holds Inv-loop μ-loop
 loop-holds c =
     let a = c .before .args in
-    (omega arith, refl, fill-start (λ (k : ℕ). buildAll (a .p .shares) (shareAt (a .p) (a .part .now) k)))
+    (omega arith, refl, all-none (λ (k : ℕ). buildAll (a .p .shares) (shareAt (a .p) (a .part .now) k)))
 
 polynomial-fills-requires : tie.Need-polynomial-fills-requires Inv-loop μ-loop
 polynomial-fills-requires c κs =
@@ -31,7 +31,7 @@ returns : tie.Need-returns Inv-loop μ-loop
 unfolding decompressed
 returns c =
     let a = c .before .before .before .before .before .args in
-    sym (fill-stop (λ (k : ℕ). buildAll (a .p .shares) (shareAt (a .p) (a .part .now) k)) (c .before .before .before .loop .j) (a .p .l) (c .before .before .loop-test .taken)
+    sym (all-not (a .p .l) (c .before .before .before .loop .j) (λ (k : ℕ). buildAll (a .p .shares) (shareAt (a .p) (a .part .now) k)) (c .before .before .loop-test .taken)
     (sym (c .before .polynomial-fills .ensures) ∙ not-true _ (c .if1 .taken)))
 
 loop-again : tie.Need-loop-again Inv-loop μ-loop
@@ -39,7 +39,7 @@ loop-again c =
     let a = c .before .before .before .before .before .args in (
       omega arith,
       refl,
-      fill-turn (λ (k : ℕ). buildAll (a .p .shares) (shareAt (a .p) (a .part .now) k)) (c .before .before .before .loop .j) (c .before .before .before .loop .inv .2)
+      all-more (c .before .before .before .loop .j) (λ (k : ℕ). buildAll (a .p .shares) (shareAt (a .p) (a .part .now) k)) (c .before .before .before .loop .inv .2)
           (sym (c .before .polynomial-fills .ensures) ∙ not-false _ (c .if1 .left)),
     )
 

@@ -5,10 +5,10 @@ use lib.ListN.{length}
 use borrow.Author.Tests.{not-true, not-false}
 use Rattle.sharing.specs.Region.{sub}
 use Rattle.sharing.proofs.Regions.{length-sub, wrote-value}
-use Rattle.signature.proofs.Entries.{absurd-bool, some-filled}
 use Rattle.signature.proofs.Loads.{part-loaded, part-value}
 use borrow.Author.Needs.{needs}
 use Rattle.signature.proofs.load.load_part.Statement.{statement}
+use Rattle.signature.proofs.Checks.{absurd-bool, some-filled}
 use Rattle.signature.proofs.load.load_part.Tie as tie
 
 returns : tie.Need-returns

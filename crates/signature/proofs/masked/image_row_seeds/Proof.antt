@@ -4,7 +4,7 @@ use native.Mathlib.Omega.{arith}
 use Rattle.sharing.specs.Noise.{seedNoise}
 use Rattle.signature.specs.Matrix.{rowEntry}
 use borrow.Author.Tests.{not-true, not-false}
-use Rattle.signature.proofs.Entries.{absurd-bool}
+use Rattle.signature.proofs.Checks.{absurd-bool}
 use Rattle.signature.proofs.Images.{image-made}
 use borrow.Author.Needs.{needs}
 use Rattle.signature.proofs.masked.image_row_seeds.Statement.{statement}

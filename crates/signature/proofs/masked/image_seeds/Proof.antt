@@ -12,7 +12,8 @@ use Rattle.sharing.proofs.Turns.{skip-turn}
 use Rattle.sharing.proofs.Added.{skip-start, seeds-inside}
 use Rattle.signature.specs.Matrix.{buildAll, matrixAt, matrixOf, filled}
 use borrow.Author.Tests.{not-true, not-false}
-use Rattle.signature.proofs.Entries.{absurd-bool, all-none, all-more, all-not, some-filled}
+use Rattle.signature.proofs.Checks.{not-there}
+use Rattle.signature.proofs.Entries.{all-none, all-more, all-not}
 use Rattle.signature.proofs.Images.{imaged, image-turn, image-end}
 use borrow.Author.Needs.{needs}
 use Rattle.signature.proofs.masked.image_seeds.Statement.{statement}
@@ -56,7 +57,7 @@ returns c =
     let z = c .before .before .before .before .image-row-seeds .ensures .0 in
     let e : c .before .before .before .before .image-row-seeds .result .ok ≡ false = not-true _ (c .if1 .taken) in
     let no : filled (matrixOf (b .k) (b .l) (b .seed .now)) ≡ false = all-not (b .k) (l .i) (λ j. buildAll (b .l) (matrixAt (b .seed .now) j)) (c .before .before .before .before .before .before .loop-test .taken) (sym (z .0) ∙ e) in
-    ((e ∙ sym no, z .1 ∙ l .inv .2 .long, z .2), λ A m. absurd-bool (sym (some-filled _ A m) ∙ no))
+    ((e ∙ sym no, z .1 ∙ l .inv .2 .long, z .2), λ A m. not-there _ A m no)
 
 loop-again : tie.Need-loop-again Inv-loop μ-loop
 loop-again c =

@@ -5,7 +5,7 @@ use native.Mathlib.Omega.{arith}
 use Rattle.sharing.specs.Region.{sub}
 use Rattle.signature.specs.Matrix.{rowEntry}
 use borrow.Author.Tests.{not-true, not-false}
-use Rattle.signature.proofs.Entries.{absurd-bool}
+use Rattle.signature.proofs.Checks.{absurd-bool}
 use Rattle.signature.proofs.Rows.{row-back}
 use borrow.Author.Needs.{needs}
 use Rattle.signature.proofs.masked.row_at.Statement.{statement}

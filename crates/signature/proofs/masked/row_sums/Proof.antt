@@ -9,7 +9,8 @@ use Rattle.sharing.specs.Region.{sub, Wrote}
 use Rattle.sharing.proofs.Lists.{inside}
 use Rattle.signature.specs.Matrix.{buildAll, matrixAt, filled, rowEntry}
 use Rattle.signature.specs.Masked.{rowSum}
-use Rattle.signature.proofs.Entries.{absurd-bool, held-ok, all-none, all-more, all-not}
+use Rattle.signature.proofs.Checks.{absurd-bool, held-ok}
+use Rattle.signature.proofs.Entries.{all-none, all-more, all-not}
 use Rattle.signature.proofs.Rows.{row-first, row-turn, row-all}
 use borrow.Author.Needs.{needs}
 use Rattle.signature.proofs.masked.row_sums.Statement.{statement}

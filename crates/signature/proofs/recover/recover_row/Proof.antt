@@ -4,7 +4,6 @@ use Prim.Native.Nat.{_+_, _*_}
 use native.Mathlib.Omega.{arith}
 use borrow.Author.Tests.{not-true, not-false}
 use Rattle.signature.specs.Matrix.{rowEntry}
-use Rattle.signature.proofs.Entries.{absurd-bool}
 use Rattle.signature.proofs.Recovered.{recover-made}
 use borrow.Author.Needs.{needs}
 use Rattle.signature.proofs.recover.recover_row.Statement.{statement}
@@ -13,6 +12,7 @@ use Rattle.signature.proofs.recover.recover_row.Reads as reads
 use Rattle.signature.proofs.recover.recover_row.Lts as lts
 use Rattle.sharing.proofs.region.sub_at.Reads as sub-at-reads
 use Rattle.signature.proofs.masked.row_at.Reads as row-at-reads
+use Rattle.signature.proofs.Checks.{absurd-bool}
 use Rattle.signature.proofs.recover.scaled_product.Reads as scaled-product-reads
 
 row-at-requires : tie.Need-row-at-requires

@@ -15,7 +15,7 @@ use Rattle.sharing.proofs.Regions.{put-back, length-put, length-sub}
 use Rattle.signature.specs.Matrix.{buildAll, matrixAt, matrixOf, filled, rowEntry}
 use Rattle.signature.specs.Recover.{add31, blockZ, recoveredBy, adjustedRows}
 use Rattle.signature.proofs.Adjusted.{adjustedAt, sub-residues, length-subZ, part-small, adjust-turn}
-use Rattle.signature.proofs.Entries.{absurd-bool, all-none, all-more, all-not}
+use Rattle.signature.proofs.Entries.{all-none, all-more, all-not}
 use Rattle.signature.proofs.Rounded.{below-up}
 use borrow.Author.Needs.{needs}
 use Rattle.signature.proofs.verify.adjust_rows.Statement.{statement}
@@ -25,6 +25,7 @@ use Rattle.signature.proofs.verify.adjust_rows.Lts as lts
 use Rattle.ring.proofs.poly.round_w.Reads as round-w-reads
 use Rattle.sharing.proofs.region.load.Reads as load-reads
 use Rattle.signature.proofs.recover.recover_row.Reads as recover-row-reads
+use Rattle.signature.proofs.Checks.{absurd-bool}
 use Rattle.signature.proofs.residues.adjust.Reads as adjust-reads
 
 abbrev Inv-loop : tie.InvT-loop

@@ -17,7 +17,6 @@ use Rattle.signature.specs.Masked.{transformed}
 use Rattle.signature.specs.Matrix.{matrix, matrixOf, filled}
 use Rattle.signature.specs.Recover.{adjustedRows}
 use Rattle.signature.proofs.Adjusted.{adjusted-all, adjusted-parts}
-use Rattle.signature.proofs.Entries.{some-filled}
 use Rattle.signature.proofs.Fronts.{unpacked-in, unpacked-is}
 use Rattle.signature.proofs.Packing.{length-repack}
 use Rattle.signature.proofs.Reduced.{length-residues}
@@ -30,6 +29,7 @@ use Rattle.ring.proofs.poly.from_signed.Reads as from-signed-reads
 use Rattle.ring.proofs.poly.ntt.Reads as ntt-reads
 use Rattle.signature.proofs.bits.unpack.Reads as unpack-reads
 use Rattle.signature.proofs.verify.adjust_rows.Reads as adjust-rows-reads
+use Rattle.signature.proofs.Checks.{some-filled}
 use Rattle.signature.proofs.verify.place.Reads as place-reads
 
 mul-m : tie.Need-mul-m

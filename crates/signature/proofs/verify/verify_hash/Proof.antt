@@ -20,7 +20,6 @@ use Rattle.signature.specs.Matrix.{matrix, filled}
 use Rattle.signature.specs.Recover.{recovered, adjusted, boundTo}
 use Rattle.signature.specs.Verify.{recomputed, verifyMatrix}
 use Rattle.signature.proofs.Adjusted.{adjusted-long}
-use Rattle.signature.proofs.Entries.{filled-some}
 use Rattle.signature.proofs.Fronts.{front-in, front-is, digest-in, digest-is, bound-in, bound-is}
 use Rattle.signature.proofs.Verdict.{verdict-matrix, verdict-challenge, verdict-hash, hash-parts}
 use borrow.Author.Needs.{needs}
@@ -32,6 +31,7 @@ use Rattle.signature.proofs.challenge.chal_hash.Reads as chal-hash-read
 use Rattle.signature.proofs.challenge.chal_poly.Reads as chal-poly-reads
 use Rattle.signature.proofs.verify.bind.Reads as bind-reads
 use Rattle.signature.proofs.verify.recompute.Reads as recompute-reads
+use Rattle.signature.proofs.Checks.{filled-some}
 use Rattle.signature.proofs.verify.same_bytes.Reads as same-bytes-reads
 
 mul-n : tie.Need-mul-n

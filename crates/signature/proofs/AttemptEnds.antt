@@ -1,0 +1,166 @@
+-- One attempt as the code tells its end, from what lines 4 to 16 left and lines 17 to 20 made of it; then the attempts in order.
+use mathlib.Core.Path.{_≡_, refl, sym, ap, subst, _∙_}
+use mathlib.Core.Bool.{Bool, true, false}
+use mathlib.Core.List.{List, []}
+use mathlib.Core.Option.{Option, some, none}
+use Prim.Native.Nat.{ℕ, suc, _+_, _-_, _*_, _/_, _<_}
+use native.Mathlib.Omega.{arith}
+use lib.Dec.{lit<}
+use lib.ListN.{length, take}
+use Rattle.hash.specs.Shake.{absorbed, stream}
+use Rattle.hash.specs.declared.params.Params.{Params}
+use Rattle.hash.proofs.Table.{length-table}
+use Rattle.ring.specs.Words.{Below}
+use Rattle.ring.specs.Uniform.{heldOf}
+use Rattle.sharing.specs.Region.{sub}
+use Rattle.sharing.specs.declared.masks.MaskGen.{MaskGen}
+use Rattle.signature.specs.Answers.{FinishedAs}
+use Rattle.signature.specs.Attempt.{Committed, Answered, commitmentOf}
+use Rattle.signature.specs.Challenge.{chalHash}
+use Rattle.signature.specs.Keygen.{atS, atT, atX}
+use Rattle.signature.specs.Keys.{vkSeed}
+use Rattle.signature.specs.Masked.{Noise}
+use Rattle.signature.specs.Matrix.{matrix, filled}
+use Rattle.signature.specs.Recover.{muOf}
+use Rattle.signature.specs.Sign.{Attempted, made, over, stuck, Answer, answer, Tapes, signedFields, finished, refreshedKey, attempted, noiseAt, maskAt, signFrom}
+use Rattle.signature.specs.SignCalls.{signMade}
+use Rattle.signature.specs.SignSteps.{publicBy, EndedAs, kept}
+use Rattle.signature.specs.declared.challenge.Challenged.{Challenged}
+use Rattle.signature.specs.declared.sign.AttemptEnd.{AttemptEnd}
+use Rattle.signature.proofs.Attempts.{left-stuck, left-on, sign-pass, sign-stuck, sign-next, sign-none}
+use Rattle.signature.proofs.Checks.{absurd-bool, filled-some}
+use Rattle.signature.proofs.Rounded.{rounded-residues}
+
+-- the matrix seed is the front of the public key
+pub seed-front : (p : Params) (vk : List ℕ) → take (p .kappa / 8 - 0) vk ≡ vkSeed p vk
+unfolding vkSeed
+seed-front p vk = let e : p .kappa / 8 - 0 ≡ p .kappa / 8 = omega arith in ap (λ (n : ℕ). take n vk) e
+
+-- lines 4 to 16, with each matrix: S is the seed, x the generator behind line 7
+pub answered-all : (p : Params) (vk mu : List ℕ) (N : Noise) (g x : MaskGen) (S s₀ s₁ hash ys : List ℕ) (o : Challenged) → S ≡ vkSeed p vk
+    → ((A : List ℕ) → matrix p S ≡ some A → Committed p N g A x s₀ s₁)
+    → ((M : Noise) (h : MaskGen) (A s : List ℕ) → Committed p M h A x s s₁ → Answered p M h A mu (sub s (atS (p .shares)) (p .l * (p .shares * 512))) o hash ys)
+    → (A : List ℕ) → matrix p (vkSeed p vk) ≡ some A → Answered p N g A mu (sub s₀ (atS (p .shares)) (p .l * (p .shares * 512))) o hash ys
+answered-all p vk mu N g x S s₀ s₁ hash ys o e z v A h = v N g A s₀ (z A (ap (matrix p) e ∙ h))
+
+-- ---- lines 17 to 20, by their answer
+
+told-made : (X : Attempted) (r : Bool) (xs ys : List ℕ) → FinishedAs X r xs ys → r ≡ true → X ≡ made ys
+told-made (made b) r xs ys f e = ap made (sym (f .1))
+told-made over r xs ys f e = absurd-bool (sym e ∙ f .0)
+told-made stuck r xs ys f e = absurd f
+
+told-over : (X : Attempted) (r : Bool) (xs ys : List ℕ) → FinishedAs X r xs ys → r ≡ false → (X ≡ over) × (ys ≡ xs)
+told-over (made b) r xs ys f e = absurd-bool (sym (f .0) ∙ e)
+told-over over r xs ys f e = (refl, f .1)
+told-over stuck r xs ys f e = absurd f
+
+-- ---- one attempt: o is the challenge, ys the work buffer behind line 16
+
+module _ (p : Params) (vk mu : List ℕ) (N : Noise) (g : MaskGen) (s hash ys : List ℕ) (o : Challenged)
+    (fill : filled (matrix p (vkSeed p vk)) ≡ true)
+    (u : (A : List ℕ) → matrix p (vkSeed p vk) ≡ some A → Answered p N g A mu s o hash ys) where
+  abbrev entries : List ℕ
+  entries = heldOf (matrix p (vkSeed p vk)) .poly
+
+  there : matrix p (vkSeed p vk) ≡ some entries
+  there = filled-some (matrix p (vkSeed p vk)) fill
+
+  pub hash-long : length hash ≡ p .kappa / 4
+  unfolding chalHash
+  hash-long = ap (λ (l : List ℕ). length l) (u entries there .hash-is) ∙ length-table (stream (absorbed _)) (p .kappa / 4)
+
+  pub commitment-low : Below 31 (sub ys (atT (p .l) (p .shares)) (p .k * 512))
+  commitment-low =
+      let w = commitmentOf p N g entries in
+      subst (Below 31) (sym (u entries there .commitment)) (rounded-residues 44 31 (length w) (lit< tt) w refl .low)
+
+  pub ended-stuck : o .ok ≡ false → (A : List ℕ) → matrix p (vkSeed p vk) ≡ some A → attempted p (publicBy p vk mu A) N g s ≡ stuck
+  ended-stuck e A h = left-stuck p (publicBy p vk mu A) N g s hash ys o (u A h) e
+
+  -- H is the challenge hash as lines 17 to 20 read it, r their answer, xs and zs the signature's buffer before and after
+  module _ (ok : o .ok ≡ true) (H : List ℕ) (same : H ≡ hash) (r : Bool) (xs zs : List ℕ)
+      (f : (A m : List ℕ) → matrix p (vkSeed p vk) ≡ some A
+      → FinishedAs (finished p (signedFields p (publicBy p vk m A) (sub ys (atT (p .l) (p .shares)) (p .k * 512)) H (sub ys (atX (p .k) (p .l) (p .shares)) (p .l * 512)) (o .poly))) r xs zs) where
+    finished-at : (A : List ℕ) → matrix p (vkSeed p vk) ≡ some A → FinishedAs (attempted p (publicBy p vk mu A) N g s) r xs zs
+    finished-at A e =
+        subst (λ (X : Attempted). FinishedAs X r xs zs) (sym (left-on p (publicBy p vk mu A) N g s hash ys o (u A e) ok))
+        (subst
+        (λ (x : List ℕ). FinishedAs (finished p (signedFields p (publicBy p vk mu A) (sub ys (atT (p .l) (p .shares)) (p .k * 512)) x (sub ys (atX (p .k) (p .l) (p .shares)) (p .l * 512)) (o .poly))) r xs zs)
+        same (f A mu e))
+
+    pub ended-made : r ≡ true → (A : List ℕ) → matrix p (vkSeed p vk) ≡ some A → attempted p (publicBy p vk mu A) N g s ≡ made zs
+    ended-made e A h = told-made (attempted p (publicBy p vk mu A) N g s) r xs zs (finished-at A h) e
+
+    pub ended-over : r ≡ false → (A : List ℕ) → matrix p (vkSeed p vk) ≡ some A → attempted p (publicBy p vk mu A) N g s ≡ over
+    ended-over e A h = told-over (attempted p (publicBy p vk mu A) N g s) r xs zs (finished-at A h) e .0
+
+    pub over-same : r ≡ false → zs ≡ xs
+    over-same e = told-over (attempted p (publicBy p vk mu entries) N g s) r xs zs (finished-at entries there) e .1
+
+-- ---- the attempts in order, with the shares s₀ at first
+
+module _ (p : Params) (vk mu msg : List ℕ) (T : Tapes) (n : ℕ) (s₀ out : List ℕ) (is : mu ≡ muOf p vk msg) where
+  all-some : (m : Option (List ℕ)) → filled m ≡ true → (X : Answer)
+      → ((A : List ℕ) → m ≡ some A → signFrom p (publicBy p vk mu A) T n 0 s₀ ≡ X) → signMade p vk msg T n m (some s₀) ≡ X
+  unfolding filled
+  all-some none f X h = absurd-bool (sym f)
+  all-some (some A) f X h = ap (λ (y : List ℕ). signFrom p (publicBy p vk y A) T n 0 s₀) (sym is) ∙ h A refl
+
+  all-none : (m : Option (List ℕ)) → m ≡ none → signMade p vk msg T n m (some s₀) ≡ answer 10 0 []
+  all-none m e = ap (λ (o : Option (List ℕ)). signMade p vk msg T n o (some s₀)) e
+
+  -- behind a attempts the shares are s
+  module _ (a : ℕ) (s : List ℕ)
+      (i : (A : List ℕ) → matrix p (vkSeed p vk) ≡ some A → signFrom p (publicBy p vk mu A) T n 0 s₀ ≡ signFrom p (publicBy p vk mu A) T (n - a) a s) where
+    -- check 12
+    pub all-over : (xs : List ℕ) → xs ≡ out → filled (matrix p (vkSeed p vk)) ≡ true → n - a ≡ 0
+        → answer 12 a xs ≡ kept (signMade p vk msg T n (matrix p (vkSeed p vk)) (some s₀)) out
+    all-over xs o f z =
+        ap (answer 12 a) o
+        ∙ ap (λ (X : Answer). kept X out)
+        (sym (all-some (matrix p (vkSeed p vk)) f (answer 12 a []) (λ (A : List ℕ) h. i A h ∙ sign-none p (publicBy p vk mu A) T (n - a) a s z)))
+
+    -- attempt number a + 1 told r, and left k and ys
+    module _ (l : a < n) (r : AttemptEnd) (k xs ys : List ℕ) (o : xs ≡ out)
+        (w : EndedAs r (matrix p (vkSeed p vk)) (λ (A : List ℕ). attempted p (publicBy p vk mu A) (noiseAt p T a) (maskAt T a) s) (refreshedKey p (noiseAt p T a) (maskAt T a) s) k xs ys) where
+      abbrev Told : AttemptEnd → Type 0
+      Told x = EndedAs x (matrix p (vkSeed p vk)) (λ (A : List ℕ). attempted p (publicBy p vk mu A) (noiseAt p T a) (maskAt T a) s) (refreshedKey p (noiseAt p T a) (maskAt T a) s) k xs ys
+
+      more : n - a ≡ suc (n - (a + 1))
+      more = omega (arith, l)
+
+      pub all-pass : r ≡ AttemptEnd.Made → answer 0 (a + 1) ys ≡ kept (signMade p vk msg T n (matrix p (vkSeed p vk)) (some s₀)) out
+      all-pass t =
+          let v = subst Told t w in
+          ap (λ (X : Answer). kept X out)
+          (sym (all-some (matrix p (vkSeed p vk)) (v .0) (answer 0 (a + 1) ys) (λ (A : List ℕ) h. i A h ∙ sign-pass p (publicBy p vk mu A) T (n - a) (n - (a + 1)) a s more ys (v .1 A h))))
+
+      -- check 11
+      pub all-stuck : r ≡ AttemptEnd.Stuck → answer 11 (a + 1) ys ≡ kept (signMade p vk msg T n (matrix p (vkSeed p vk)) (some s₀)) out
+      all-stuck t =
+          let v = subst Told t w in
+          ap (answer 11 (a + 1)) (v .2 ∙ o)
+          ∙ ap (λ (X : Answer). kept X out)
+          (sym (all-some (matrix p (vkSeed p vk)) (v .0) (answer 11 (a + 1) []) (λ (A : List ℕ) h. i A h ∙ sign-stuck p (publicBy p vk mu A) T (n - a) (n - (a + 1)) a s more (v .1 A h))))
+
+      -- check 10
+      pub all-unfilled : r ≡ AttemptEnd.Unfilled → answer 10 0 ys ≡ kept (signMade p vk msg T n (matrix p (vkSeed p vk)) (some s₀)) out
+      all-unfilled t =
+          let v = subst Told t w in
+          ap (answer 10 0) (v .1 ∙ o) ∙ ap (λ (X : Answer). kept X out) (sym (all-none (matrix p (vkSeed p vk)) (v .0)))
+
+-- the next attempt begins with the shares k
+module _ (p : Params) (vk mu : List ℕ) (T : Tapes) (n a : ℕ) (s₀ s out : List ℕ)
+    (i : (A : List ℕ) → matrix p (vkSeed p vk) ≡ some A → signFrom p (publicBy p vk mu A) T n 0 s₀ ≡ signFrom p (publicBy p vk mu A) T (n - a) a s)
+    (l : a < n) (r : AttemptEnd) (k xs ys : List ℕ) (o : xs ≡ out)
+    (w : EndedAs r (matrix p (vkSeed p vk)) (λ (A : List ℕ). attempted p (publicBy p vk mu A) (noiseAt p T a) (maskAt T a) s) (refreshedKey p (noiseAt p T a) (maskAt T a) s) k xs ys) where
+  pub all-next : r ≡ AttemptEnd.Over → (ys ≡ out) × (filled (matrix p (vkSeed p vk)) ≡ true)
+      × ((A : List ℕ) → matrix p (vkSeed p vk) ≡ some A → signFrom p (publicBy p vk mu A) T n 0 s₀ ≡ signFrom p (publicBy p vk mu A) T (n - (a + 1)) (a + 1) k)
+  all-next t =
+      let v =
+      subst
+      (λ (x : AttemptEnd). EndedAs x (matrix p (vkSeed p vk)) (λ (A : List ℕ). attempted p (publicBy p vk mu A) (noiseAt p T a) (maskAt T a) s) (refreshedKey p (noiseAt p T a) (maskAt T a) s) k xs ys)
+      t w in
+      let more : n - a ≡ suc (n - (a + 1)) = omega (arith, l) in
+      (v .3 ∙ o, v .0, λ (A : List ℕ) h. i A h ∙ sign-next p (publicBy p vk mu A) T (n - a) (n - (a + 1)) a s more k (v .2) (v .1 A h))

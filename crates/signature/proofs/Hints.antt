@@ -1,0 +1,75 @@
+-- The hint h = w - y, row by row, and as the definition has it.
+use mathlib.Core.Path.{_≡_, sym, ap, subst, _∙_}
+use mathlib.Core.List.{List, _++_}
+use mathlib.Core.Option.{some}
+use Prim.Native.Nat.{ℕ, _+_, _-_, _*_, _≤_, _<_}
+use native.Mathlib.Numerals.{add-one}
+use native.Mathlib.Omega.{arith}
+use borrow.Rule.Slice.PartMut.{putMid, same-len-mid, mid-len}
+use lib.IntN.{ℤ}
+use lib.ListN.{length, take, drop}
+use Rattle.hash.specs.declared.params.Params.{Params}
+use Rattle.ring.specs.Words.{Below, Words, zipTo}
+use Rattle.ring.specs.Transform.{ntt}
+use Rattle.ring.specs.Round.{roundW}
+use Rattle.ring.proofs.Sums.{below-take, below-drop, length-zip}
+use Rattle.sharing.specs.Blocks.{block, build}
+use Rattle.sharing.specs.Region.{sub}
+use Rattle.sharing.proofs.Lists.{build-ext, blocks-all}
+use Rattle.sharing.proofs.Regions.{block-sub}
+use Rattle.signature.specs.Masked.{transformed}
+use Rattle.signature.specs.Matrix.{matrix, rowEntry}
+use Rattle.signature.specs.Recover.{sub31, centredAll, hintOf, recovered, recoveredBy, hintRow, hintRows}
+use Rattle.signature.proofs.Adjusted.{take-put, zip-block, round-block, row-block}
+use Rattle.signature.proofs.Centred.{centred-append}
+
+-- polynomial i of w, below p as all of w
+pub part-below : (p : ℕ) (xs : List ℕ) (a k i : ℕ) → i < k → Below p (sub xs a (k * 512)) → Below p (sub xs (a + i * 512) 512)
+unfolding block
+part-below p xs a k i h b =
+    subst (Below p) (block-sub 512 k i xs a h) (below-take p 512 (drop (i * 512) (sub xs a (k * 512))) (below-drop p (i * 512) (sub xs a (k * 512)) b))
+
+-- X put at row i of h
+module _ (i : ℕ) (h X : List ℤ) (b : i * 512 + 512 ≤ length h) (n : length X ≡ 512) where
+  all : i * 512 + 512 - i * 512 ≡ 512
+  all = omega arith
+
+  pub hint-long : length (putMid (i * 512) (i * 512 + 512 - i * 512) h X) ≡ length h
+  hint-long = same-len-mid (i * 512) (i * 512 + 512 - i * 512) h X (n ∙ sym (mid-len (i * 512) (i * 512 + 512) h b ∙ all))
+
+  -- a row more: v is row i of w, r row i of y
+  pub hint-turn : (l : ℕ) (seed Z C t w v r : List ℕ) → take (i * 512) h ≡ centredAll 31 (build i (hintRow l seed Z C t w))
+      → X ≡ centredAll 31 (zipTo sub31 v (roundW r)) → v ≡ block 512 i w → r ≡ recoveredBy l (rowEntry seed i) Z C (block 512 i t)
+      → take ((i + 1) * 512) (putMid (i * 512) (i * 512 + 512 - i * 512) h X) ≡ centredAll 31 (build (i + 1) (hintRow l seed Z C t w))
+  unfolding build hintRow
+  hint-turn l seed Z C t w v r e x f g =
+      let F : ℕ → List ℕ = hintRow l seed Z C t w in
+      let o : (i + 1) * 512 ≡ i * 512 + 512 = omega arith in
+      let y : X ≡ centredAll 31 (F i) =
+      x ∙ ap (λ (u : List ℕ). centredAll 31 (zipTo sub31 u (roundW r))) f ∙ ap (λ (u : List ℕ). centredAll 31 (zipTo sub31 (block 512 i w) (roundW u))) g in
+      ap (λ (m : ℕ). take m (putMid (i * 512) (i * 512 + 512 - i * 512) h X)) o
+      ∙ ap (λ (m : ℕ). take (i * 512 + 512) (putMid (i * 512) m h X)) all
+      ∙ take-put h X (i * 512) 512 b n
+      ∙ ap (λ (u : List ℤ). u ++ X) e
+      ∙ ap (λ (u : List ℤ). centredAll 31 (build i F) ++ u) y
+      ∙ sym (centred-append 31 (build i F) (F i))
+      ∙ ap (λ (m : ℕ). centredAll 31 (build m F)) (sym (add-one i))
+
+-- all rows are the definition's
+pub hint-all : (p : Params) (seed A z c t w : List ℕ) → matrix p seed ≡ some A → Words (p .l * 512) z → Words 512 c → length t ≡ p .k * 512
+    → length w ≡ p .k * 512 → hintRows (p .k) (p .l) seed (transformed (p .l) z) (ntt c) t w ≡ hintOf w (recovered p A z c t)
+unfolding hintRows hintRow hintOf
+hint-all p seed A z c t w e wz wc lt lw =
+    let Y : List ℕ = recovered p A z c t in
+    let F : ℕ → List ℕ = hintRow (p .l) seed (transformed (p .l) z) (ntt c) t w in
+    let D : List ℕ = zipTo sub31 w (roundW Y) in
+    let f : (i : ℕ) → i < p .k → F i ≡ block 512 i D =
+    λ (i : ℕ) (o : i < p .k).
+    ap (λ (v : List ℕ). zipTo sub31 (block 512 i w) (roundW v)) (row-block p seed A z c t e wz wc lt i o)
+    ∙ ap (zipTo sub31 (block 512 i w)) (sym (round-block Y i))
+    ∙ sym (zip-block sub31 w (roundW Y) i) in
+    ap (centredAll 31) (build-ext (p .k) F (λ (i : ℕ). block 512 i D) f ∙ blocks-all 512 (p .k) D (length-zip sub31 w (roundW Y) ∙ lw))
+
+-- the same of equal parts
+pub hint-parts : {v v′ s s′ x x′ t t′ w w′ : List ℕ} (k l : ℕ) → v ≡ v′ → s ≡ s′ → x ≡ x′ → t ≡ t′ → w ≡ w′ → hintRows k l v s x t w ≡ hintRows k l v′ s′ x′ t′ w′
+hint-parts k l a b c d e = cc (a, b, c, d, e)

@@ -1,0 +1,82 @@
+use mathlib.Core.Path.{_≡_, sym, ap, subst, _∙_}
+use mathlib.Core.List.{List}
+use Prim.Native.Nat.{ℕ, _+_, _-_, _*_, _^_, _<_}
+use native.Mathlib.Omega.{arith}
+use lib.Dec.{lit<}
+use lib.ListN.{length, take, drop}
+use borrow.Author.Tests.{not-true, not-false}
+use Rattle.ring.specs.Words.{q, Below}
+use Rattle.ring.specs.Round.{residues}
+use Rattle.ring.specs.Uniform.{heldOf}
+use Rattle.sharing.specs.Region.{sub}
+use Rattle.sharing.proofs.Regions.{length-sub, sub-words}
+use Rattle.signature.specs.Answers.{FinishedAs}
+use Rattle.signature.specs.Form.{Fields}
+use Rattle.signature.specs.Keygen.{atT, atX}
+use Rattle.signature.specs.Keys.{vkSeed, vkVector}
+use Rattle.signature.specs.Matrix.{matrix}
+use Rattle.signature.specs.Recover.{centredAll, recovered}
+use Rattle.signature.specs.Sign.{finished}
+use Rattle.signature.proofs.Finished.{hint-small, hint-length, response-small, response-length, fields-are}
+use Rattle.signature.proofs.Sizes.{room}
+use borrow.Author.Needs.{needs}
+use Rattle.signature.proofs.fields.finish_with.Statement.{statement}
+use Rattle.signature.proofs.Checks.{absurd-bool, filled-some}
+use Rattle.signature.proofs.fields.finish_with.Tie as tie
+
+centred-into-requires : tie.Need-centred-into-requires
+centred-into-requires c κs = let a = c .before .before .before .before .before .before .before in
+    let b = a .args in
+    let p = b .p in
+    let x = atX (p .k) (p .l) (p .shares) in
+    let e : p .l * 512 ≡ x + p .l * 512 - x = omega arith in
+    let w = sub-words (b .work .now) x (p .l * 512) (room p (a .pre .0 .1) (length (b .work .now)) (a .pre .0 .2) .2) (a .pre .0 .3) in
+    subst (λ (j : ℕ). (length (b .z .now) ≡ length (take j (drop x (b .work .now)))) × Below q (take j (drop x (b .work .now))) × (0 < q) × (q < 2 ^ 62)) e
+    (a .pre .1 .1 .1 ∙ sym (w .long), w .low, lit< tt, lit< tt)
+
+returns : tie.Need-returns
+returns c = let a = c .before .before .before .before .before .before .before .before .before .before .before .before .before .before .before .before in
+    absurd-bool (sym (a .pre .1 .0 .2) ∙ sym (c .before .before .before .before .make-hint .ensures .0 .0) ∙ not-true _ (c .if1 .taken))
+
+write-fields-requires : tie.Need-write-fields-requires
+write-fields-requires c κs = let a = c .before .before .before .before .before .before .before .before .before .before .before .before .before .before .before .before .before .before .before in
+    let b = a .args in
+    let p = b .p in
+    let T = a .pre .0 .0 in
+    let R = room p (a .pre .0 .1) (length (b .work .now)) (a .pre .0 .2) in
+    let x = atX (p .k) (p .l) (p .shares) in
+    let z = sub-words (b .work .now) x (p .l * 512) (R .2) (a .pre .0 .3) in
+    let e : x + p .l * 512 - x ≡ p .l * 512 = omega arith in
+    let f = c .before .before .before .before .before .before .before .before .before .before .before .centred-into .ensures ∙ ap (λ (j : ℕ). centredAll q (take j (drop x (b .work .now)))) e in
+    let M = matrix p (vkSeed p (b .vk .now)) in
+    let v = sub (b .work .now) x (p .l * 512) in
+    let y = recovered p (heldOf M .poly) v (residues q (b .c)) (vkVector p (b .vk .now)) in
+    let w = sub (b .work .now) (atT (p .l) (p .shares)) (p .k * 512) in
+    let h = c .before .before .before .before .before .before .before .make-hint .ensures .1 .1 (heldOf M .poly) (filled-some M (a .pre .1 .0 .2)) in (
+      (T, a .pre .1 .0 .3, omega (arith, hint-length w y h, length-sub (b .work .now) (atT (p .l) (p .shares)) (p .k * 512) (R .1), T .rows-low), omega (arith, response-length v f, z .long, T .columns-low), a .pre .1 .1 .2),
+      (hint-small w y h (a .pre .0 .4), response-small v f (z .low)),
+    )
+
+returns-2 : tie.Need-returns-2
+returns-2 c = let a = c .before .before .before .before .before .before .before .before .before .before .before .before .before .before .before .before .before .before .before .before .before .before in
+    let b = a .args in
+    let p = b .p in
+    let x = atX (p .k) (p .l) (p .shares) in
+    let e : x + p .l * 512 - x ≡ p .l * 512 = omega arith in
+    let f = c .before .before .before .before .before .before .before .before .before .before .before .before .before .before .centred-into .ensures ∙ ap (λ (j : ℕ). centredAll q (take j (drop x (b .work .now)))) e in
+    let m = c .before .before .before .before .before .before .before .before .before .before .make-hint .ensures in (
+      (m .0 .1, m .0 .2, m .1 .0 (not-false _ (c .before .before .before .before .before .before .if1 .left))),
+      (λ (A mu : List ℕ) g.
+          subst (λ (y : Fields). FinishedAs (finished p y) (c .before .before .write-fields .result) (b .out .now) (c .before .before .write-fields .last .1 .1 .1 .1 .0))
+          (fields-are p (record { matrix = A; vector = vkVector p (b .vk .now); mu = mu }) (sub (b .work .now) (atT (p .l) (p .shares)) (p .k * 512)) (b .hash .now) (sub (b .work .now) x (p .l * 512)) (b .c) _ _ (m .1 .1 A g) f)
+          (c .before .before .write-fields .ensures)),
+    )
+
+pub finish-with-spec : {M : Type 1} → statement M
+finish-with-spec =
+    tie.close (tie.spec (λ c. search needs) (λ c. search needs) (λ c. search needs) (λ c. search needs)
+    (λ c. search needs) (λ c. search needs) (λ c. search needs) (λ c. search needs) (λ c. search needs)
+    (λ c. search needs) (λ c. search needs) (λ c. search needs) (λ c. search needs) (λ c. search needs)
+    (λ c. search needs) (λ c. search needs) (λ c. search needs) centred-into-requires (λ c κs. search needs)
+    (λ c. search needs) (λ c. search needs) (λ c. search needs) returns write-fields-requires (λ c. search needs)
+    (λ c. search needs) (λ c. search needs) (λ c. search needs) returns-2)

@@ -1,0 +1,197 @@
+use Rattle.ring.specs.Uniform.{heldOf}
+use Rattle.signature.proofs.Fronts.{front-in, front-is}
+use Rattle.signature.proofs.Checks.{filled-some, not-filled}
+use Rattle.signature.proofs.Attempts.{left-key}
+use Rattle.signature.proofs.AttemptEnds.{seed-front, answered-all, hash-long, commitment-low, ended-stuck, ended-made, ended-over, over-same}
+use Rattle.signature.specs.SignSteps.{publicBy}
+use Rattle.signature.specs.Sign.{noiseAt, maskAt}
+use Rattle.signature.specs.Matrix.{matrix, filled}
+use Rattle.signature.specs.Keys.{vkSeed}
+use Rattle.signature.specs.Keygen.{atS}
+use Rattle.signature.specs.Attempt.{tapesOf}
+use Rattle.sharing.specs.Region.{sub}
+use borrow.Rule.Slice.PartMut.{midOf, mid-len}
+use borrow.Author.Tests.{not-true, not-false}
+use lib.ListN.{length, replicate}
+use native.Mathlib.Omega.{arith}
+use Prim.Native.Nat.{ℕ, _-_, _*_, _/_}
+use mathlib.Core.List.{List}
+use mathlib.Core.Path.{_≡_, refl, sym, ap, _∙_}
+use borrow.Author.Needs.{needs}
+use Rattle.signature.proofs.sign.attempt.Statement.{statement}
+use Rattle.signature.proofs.sign.attempt.Tie as tie
+use Rattle.signature.proofs.sign.attempt.Reads as reads
+use Rattle.signature.proofs.sign.attempt.Lts as lts
+use Rattle.signature.proofs.attempt.answer.Reads as answer-reads
+use Rattle.signature.proofs.commit.commit.Reads as commit-reads
+use Rattle.signature.proofs.fields.finish.Reads as finish-reads
+
+sub-commit : tie.Need-sub-commit
+sub-commit c = search needs
+
+part-commit-start : tie.Need-part-commit-start
+part-commit-start c = search needs
+
+part-commit-end : tie.Need-part-commit-end
+part-commit-end c = search needs
+
+commit-requires : tie.Need-commit-requires
+commit-requires c κs = search needs
+
+same-length : tie.Need-same-length
+same-length c = search needs
+
+returns : tie.Need-returns
+returns c =
+    let b = c .before .before .before .before .before .before .before .before .before .before .before .before .before .before .before .before .args in
+    let z = c .before .before .before .before .commit .ensures in
+    let e = ap (λ (l : List ℕ). filled (matrix (b .p) l)) (sym (seed-front (b .p) (b .vk .now))) in
+    ((z .0 .1, z .0 .2), (not-filled (matrix (b .p) (vkSeed (b .p) (b .vk .now))) (e ∙ sym (z .0 .0) ∙ not-true _ (c .if1 .taken)), refl))
+
+sub-answer : tie.Need-sub-answer
+sub-answer c = search needs
+
+part-hash-start : tie.Need-part-hash-start
+part-hash-start c = search needs
+
+part-hash-end : tie.Need-part-hash-end
+part-hash-end c =
+    let h = c .before .before .before .before .before .before .before .before .before .before .before .before .before .before .before .before .before .pre .0 .0 .hash-low in
+    omega (arith, h)
+
+answer-requires : tie.Need-answer-requires
+answer-requires c κs =
+    let a = c .before .before .before .before .before .before .before .before .before .before .before .before .before .before .before .before .before .before in
+    let z = c .before .before .before .before .before .before .commit .ensures in
+    let n = a .args .p .kappa / 4 in
+    let o : n - 0 ≡ n = omega arith in
+    (a .pre .0 .1, z .0 .1 ∙ a .pre .0 .2, z .0 .2, mid-len 0 n (replicate 64 0) (a .pre .0 .0 .hash-low) ∙ o)
+
+same-length-2 : tie.Need-same-length-2
+same-length-2 c = search needs
+
+returns-2 : tie.Need-returns-2
+returns-2 c =
+    let b = c .before .before .before .before .before .before .before .before .before .before .before .before .before .before .before .before .before .before .before .before .before .before .before .before .args in
+    let p = b .p in
+    let z = c .before .before .before .before .before .before .before .before .before .before .before .before .commit .ensures in
+    let v = c .before .before .before .before .before .answer .ensures in
+    let T = tapesOf (b .explicit) (b .seeds .now) (b .noise .now) (b .mask-seeds .now) in
+    let e = seed-front p (b .vk .now) in
+    let fill = ap (λ (l : List ℕ). filled (matrix p l)) (sym e) ∙ sym (z .0 .0) ∙ not-false _ (c .before .before .before .before .before .before .before .before .if1 .left) in
+    let u = answered-all p (b .vk .now) (b .mu .now) (noiseAt p T (b .a)) (maskAt T (b .a)) _ _ (b .work .now) _ _ _ _ e (z .1) (v .1) in
+    ((v .0 .0 ∙ z .0 .1, v .0 .1), (fill, ended-stuck p (b .vk .now) (b .mu .now) (noiseAt p T (b .a)) (maskAt T (b .a)) (sub (b .work .now) (atS (p .shares)) (p .l * (p .shares * 512))) _ _ _ fill u (not-true _ (c .if2 .taken)), refl))
+
+sub-finish : tie.Need-sub-finish
+sub-finish c = search needs
+
+part-finish-start : tie.Need-part-finish-start
+part-finish-start c = search needs
+
+part-finish-end : tie.Need-part-finish-end
+part-finish-end c =
+    let a = c .before .before .before .before .before .before .before .before .before .before .before .before .before .before .before .before .before .before .before .before .before .before .before .before .before .before .before in
+    let b = a .args in
+    let p = b .p in
+    let z = c .before .before .before .before .before .before .before .before .before .before .before .before .before .before .before .commit .ensures in
+    let v = c .before .before .before .before .before .before .before .before .answer .ensures in
+    let T = tapesOf (b .explicit) (b .seeds .now) (b .noise .now) (b .mask-seeds .now) in
+    let e = seed-front p (b .vk .now) in
+    let fill = ap (λ (l : List ℕ). filled (matrix p l)) (sym e) ∙ sym (z .0 .0) ∙ not-false _ (c .before .before .before .before .before .before .before .before .before .before .before .if1 .left) in
+    let u = answered-all p (b .vk .now) (b .mu .now) (noiseAt p T (b .a)) (maskAt T (b .a)) _ _ (b .work .now) _ _ _ _ e (z .1) (v .1) in
+    front-in (p .kappa / 4) (replicate 64 0) (c .before .before .before .before .before .before .before .before .answer .last .1 .1 .1 .0) (a .pre .0 .0 .hash-low) (hash-long p (b .vk .now) (b .mu .now) (noiseAt p T (b .a)) (maskAt T (b .a)) (sub (b .work .now) (atS (p .shares)) (p .l * (p .shares * 512))) _ _ _ fill u)
+
+finish-requires : tie.Need-finish-requires
+finish-requires c κs =
+    let a = c .before .before .before .before .before .before .before .before .before .before .before .before .before .before .before .before .before .before .before .before .before .before .before .before .before .before .before .before .before in
+    let b = a .args in
+    let p = b .p in
+    let z = c .before .before .before .before .before .before .before .before .before .before .before .before .before .before .before .before .before .commit .ensures in
+    let v = c .before .before .before .before .before .before .before .before .before .before .answer .ensures in
+    let T = tapesOf (b .explicit) (b .seeds .now) (b .noise .now) (b .mask-seeds .now) in
+    let s = sub (b .work .now) (atS (p .shares)) (p .l * (p .shares * 512)) in
+    let e = seed-front p (b .vk .now) in
+    let fill = ap (λ (l : List ℕ). filled (matrix p l)) (sym e) ∙ sym (z .0 .0) ∙ not-false _ (c .before .before .before .before .before .before .before .before .before .before .before .before .before .if1 .left) in
+    let u = answered-all p (b .vk .now) (b .mu .now) (noiseAt p T (b .a)) (maskAt T (b .a)) _ _ (b .work .now) _ _ _ _ e (z .1) (v .1) in
+    let n = hash-long p (b .vk .now) (b .mu .now) (noiseAt p T (b .a)) (maskAt T (b .a)) s _ _ _ fill u in
+    let w = commitment-low p (b .vk .now) (b .mu .now) (noiseAt p T (b .a)) (maskAt T (b .a)) s _ _ _ fill u in
+    let H = front-is (p .kappa / 4) (replicate 64 0) (c .before .before .before .before .before .before .before .before .before .before .answer .last .1 .1 .1 .0) (a .pre .0 .0 .hash-low) n in
+    ((a .pre .0 .0, a .pre .0 .1, v .0 .0 ∙ z .0 .1 ∙ a .pre .0 .2, v .0 .1, w), (a .pre .1 .0 .0, a .pre .1 .0 .1, fill, ap (λ (l : List ℕ). length l) H ∙ n, a .pre .1 .0 .2))
+
+same-length-3 : tie.Need-same-length-3
+same-length-3 c = search needs
+
+same-length-4 : tie.Need-same-length-4
+same-length-4 c = search needs
+
+returns-3 : tie.Need-returns-3
+returns-3 c =
+    let a = c .before .before .before .before .before .before .before .before .before .before .before .before .before .before .before .before .before .before .before .before .before .before .before .before .before .before .before .before .before .before .before .before .before .before .before in
+    let b = a .args in
+    let p = b .p in
+    let z = c .before .before .before .before .before .before .before .before .before .before .before .before .before .before .before .before .before .before .before .before .before .before .before .commit .ensures in
+    let v = c .before .before .before .before .before .before .before .before .before .before .before .before .before .before .before .before .answer .ensures in
+    let f = c .before .before .before .before .before .finish .ensures in
+    let T = tapesOf (b .explicit) (b .seeds .now) (b .noise .now) (b .mask-seeds .now) in
+    let s = sub (b .work .now) (atS (p .shares)) (p .l * (p .shares * 512)) in
+    let e = seed-front p (b .vk .now) in
+    let fill = ap (λ (l : List ℕ). filled (matrix p l)) (sym e) ∙ sym (z .0 .0) ∙ not-false _ (c .before .before .before .before .before .before .before .before .before .before .before .before .before .before .before .before .before .before .before .if1 .left) in
+    let u = answered-all p (b .vk .now) (b .mu .now) (noiseAt p T (b .a)) (maskAt T (b .a)) _ _ (b .work .now) _ _ _ _ e (z .1) (v .1) in
+    let n = hash-long p (b .vk .now) (b .mu .now) (noiseAt p T (b .a)) (maskAt T (b .a)) s _ _ _ fill u in
+    let H = front-is (p .kappa / 4) (replicate 64 0) (c .before .before .before .before .before .before .before .before .before .before .before .before .before .before .before .before .answer .last .1 .1 .1 .0) (a .pre .0 .0 .hash-low) n in
+    ((f .0 .0 ∙ v .0 .0 ∙ z .0 .1, f .0 .1), (fill, ended-made p (b .vk .now) (b .mu .now) (noiseAt p T (b .a)) (maskAt T (b .a)) s _ _ _ fill u (not-false _ (c .before .before .before .before .before .before .before .before .before .before .before .if2 .left)) _ H _ _ _ (f .1) (c .if3 .taken)))
+
+same-length-5 : tie.Need-same-length-5
+same-length-5 c = search needs
+
+same-length-6 : tie.Need-same-length-6
+same-length-6 c = search needs
+
+returns-4 : tie.Need-returns-4
+returns-4 c =
+    let a = c .before .before .before .before .before .before .before .before .before .before .before .before .before .before .before .before .before .before .before .before .before .before .before .before .before .before .before .before .before .before .before .before .before .before .before in
+    let b = a .args in
+    let p = b .p in
+    let z = c .before .before .before .before .before .before .before .before .before .before .before .before .before .before .before .before .before .before .before .before .before .before .before .commit .ensures in
+    let v = c .before .before .before .before .before .before .before .before .before .before .before .before .before .before .before .before .answer .ensures in
+    let f = c .before .before .before .before .before .finish .ensures in
+    let T = tapesOf (b .explicit) (b .seeds .now) (b .noise .now) (b .mask-seeds .now) in
+    let N = noiseAt p T (b .a) in
+    let g = maskAt T (b .a) in
+    let s = sub (b .work .now) (atS (p .shares)) (p .l * (p .shares * 512)) in
+    let e = seed-front p (b .vk .now) in
+    let fill = ap (λ (l : List ℕ). filled (matrix p l)) (sym e) ∙ sym (z .0 .0) ∙ not-false _ (c .before .before .before .before .before .before .before .before .before .before .before .before .before .before .before .before .before .before .before .if1 .left) in
+    let u = answered-all p (b .vk .now) (b .mu .now) (noiseAt p T (b .a)) (maskAt T (b .a)) _ _ (b .work .now) _ _ _ _ e (z .1) (v .1) in
+    let n = hash-long p (b .vk .now) (b .mu .now) N g s _ _ _ fill u in
+    let H = front-is (p .kappa / 4) (replicate 64 0) (c .before .before .before .before .before .before .before .before .before .before .before .before .before .before .before .before .answer .last .1 .1 .1 .0) (a .pre .0 .0 .hash-low) n in
+    let ok = not-false _ (c .before .before .before .before .before .before .before .before .before .before .before .if2 .left) in
+    let A = heldOf (matrix p (vkSeed p (b .vk .now))) .poly in
+    let k = left-key p (publicBy p (b .vk .now) (b .mu .now) A) N g s _ _ _ (u A (filled-some (matrix p (vkSeed p (b .vk .now))) fill)) ok in
+    ((f .0 .0 ∙ v .0 .0 ∙ z .0 .1, f .0 .1), (fill, ended-over p (b .vk .now) (b .mu .now) N g s _ _ _ fill u ok _ H _ _ _ (f .1) (c .if3 .left), f .0 .2 ∙ k, over-same p (b .vk .now) (b .mu .now) N g s _ _ _ fill u ok _ H _ _ _ (f .1) (c .if3 .left)))
+
+pub attempt-spec : {M : Type 1} → statement M
+attempt-spec =
+    tie.close
+    (tie.spec
+    sub-commit
+    part-commit-start
+    part-commit-end
+    commit-requires
+    same-length
+    returns
+    sub-answer
+    part-hash-start
+    part-hash-end
+    answer-requires
+    same-length-2
+    returns-2
+    sub-finish
+    part-finish-start
+    part-finish-end
+    finish-requires
+    same-length-3
+    same-length-4
+    returns-3
+    same-length-5
+    same-length-6
+    returns-4)

@@ -1,0 +1,194 @@
+use Rattle.signature.proofs.Tapes.{tapes-within}
+use Rattle.signature.proofs.AttemptEnds.{all-over, all-pass, all-stuck, all-unfilled, all-next}
+use Rattle.signature.specs.SignSteps.{publicBy}
+use Rattle.signature.specs.Sign.{signFrom}
+use Rattle.signature.specs.Matrix.{matrix, filled}
+use Rattle.signature.specs.Keys.{vkSeed}
+use Rattle.signature.specs.Keygen.{atS}
+use Rattle.signature.specs.Attempt.{tapesOf}
+use Rattle.sharing.specs.Region.{sub}
+use Rattle.ring.specs.Words.{q, Below}
+use lib.ListN.{length}
+use native.Mathlib.Omega.{arith}
+use Prim.Native.Nat.{ℕ, _+_, _-_, _*_, _≤_}
+use mathlib.Core.Option.{some}
+use mathlib.Core.List.{List}
+use mathlib.Core.Bool.{true}
+use mathlib.Core.Path.{_≡_, refl, sym, ap, _∙_}
+use borrow.Author.Needs.{needs}
+use Rattle.signature.proofs.sign.attempt_all.Statement.{statement}
+use Rattle.signature.proofs.sign.attempt_all.Tie as tie
+use Rattle.signature.proofs.sign.attempt_all.Reads as reads
+use Rattle.signature.proofs.sign.attempt_all.Lts as lts
+use Rattle.signature.proofs.sign.attempt.Reads as attempt-reads
+
+abbrev Inv-loop : tie.InvT-loop
+Inv-loop work₀ p vk mu explicit seeds noise mask-seeds n out₀ a₀ work out a =
+    (a ≤ n) × (length work ≡ length work₀) × Below q work × (out ≡ out₀) × (1 ≤ a → filled (matrix p (vkSeed p vk)) ≡ true)
+    × ((A : List ℕ) → matrix p (vkSeed p vk) ≡ some A
+    → signFrom p (publicBy p vk mu A) (tapesOf explicit seeds noise mask-seeds) n 0 (sub work₀ (atS (p .shares)) (p .l * (p .shares * 512)))
+    ≡ signFrom p (publicBy p vk mu A) (tapesOf explicit seeds noise mask-seeds) (n - a) a (sub work (atS (p .shares)) (p .l * (p .shares * 512))))
+
+abbrev μ-loop : tie.MeasureT-loop
+μ-loop work₀ p vk mu explicit seeds noise mask-seeds n out₀ a₀ work out a = n - a
+
+loop-holds : tie.Need-loop-holds Inv-loop μ-loop
+loop-holds c =
+    let a = c .before .before .before .before .before .before .before in
+    let b = a .args in
+    let p = b .p in
+    let e : b .n ≡ b .n - 0 = omega arith in
+    (omega arith, refl, a .pre .0 .3, refl, λ o. absurd (omega (arith, o)), λ (A : List ℕ) h. ap (λ (m : ℕ). signFrom p (publicBy p (b .vk .now) (b .mu .now) A) (tapesOf (b .explicit) (b .seeds .now) (b .noise .now) (b .mask-seeds .now)) m 0 (sub (b .work .now) (atS (p .shares)) (p .l * (p .shares * 512)))) e)
+
+attempt-requires : tie.Need-attempt-requires Inv-loop μ-loop
+attempt-requires c κs =
+    let a = c .before .before .before .before .before .before .before .before .before .before .before in
+    let b = a .args in
+    let i = c .before .before .before .loop .inv in
+    let T = tapesOf (b .explicit) (b .seeds .now) (b .noise .now) (b .mask-seeds .now) in
+    let w = tapes-within (b .p) (b .n) (c .before .before .before .loop .a) (c .before .before .loop-test .taken) (a .pre .1 .1 .1) T (a .pre .1 .1 .2) in
+    ((a .pre .0 .0, a .pre .0 .1, i .1 ∙ a .pre .0 .2, i .2), ((a .pre .1 .0 .0, a .pre .1 .0 .1, ap (λ (l : List ℕ). length l) (i .3) ∙ a .pre .1 .0 .2), w))
+
+enum-told : tie.Need-enum-told Inv-loop μ-loop
+enum-told c = search needs
+
+add-t18 : tie.Need-add-t18 Inv-loop μ-loop
+add-t18 c = search needs
+
+cast-t19 : tie.Need-cast-t19 Inv-loop μ-loop
+cast-t19 c =
+    let b = c .before .before .before .before .before .before .before .before .before .before .before .before .before .before .before .before .before .before in
+    omega (arith, c .before .before .before .before .before .before .before .before .before .loop-test .taken, b .pre .1 .1 .1)
+
+same-length : tie.Need-same-length Inv-loop μ-loop
+same-length c = search needs
+
+same-length-2 : tie.Need-same-length-2 Inv-loop μ-loop
+same-length-2 c = search needs
+
+returns : tie.Need-returns Inv-loop μ-loop
+returns c =
+    let a = c .before .before .before .before .before .before .before .before .before .before .before .before .before .before .before .before .before .before in
+    let b = a .args in
+    let i = c .before .before .before .before .before .before .before .before .before .before .loop .inv in
+    let v = c .before .before .before .before .before .before .attempt .ensures in
+    let T = tapesOf (b .explicit) (b .seeds .now) (b .noise .now) (b .mask-seeds .now) in
+    (v .0 .0 ∙ i .1, λ (msg : List ℕ) e. all-pass (b .p) (b .vk .now) (b .mu .now) msg T (b .n) _ (b .out .now) e (c .before .before .before .before .before .before .before .before .before .before .loop .a) _ (i .5) (c .before .before .before .before .before .before .before .before .before .loop-test .taken) _ _ _ _ (i .3) (v .1) (c .enum-told .given .1))
+
+enum-told-2 : tie.Need-enum-told-2 Inv-loop μ-loop
+enum-told-2 c = search needs
+
+add-a : tie.Need-add-a Inv-loop μ-loop
+add-a c = search needs
+
+loop-less : tie.Need-loop-less Inv-loop μ-loop
+loop-less c = omega (arith, c .before .before .before .before .before .before .before .before .before .loop-test .taken)
+
+loop-again : tie.Need-loop-again Inv-loop μ-loop
+loop-again c =
+    let a = c .before .before .before .before .before .before .before .before .before .before .before .before .before .before .before .before .before .before in
+    let b = a .args in
+    let i = c .before .before .before .before .before .before .before .before .before .before .loop .inv in
+    let v = c .before .before .before .before .before .before .attempt .ensures in
+    let T = tapesOf (b .explicit) (b .seeds .now) (b .noise .now) (b .mask-seeds .now) in
+    let n = all-next (b .p) (b .vk .now) (b .mu .now) T (b .n) (c .before .before .before .before .before .before .before .before .before .before .loop .a) _ _ (b .out .now) (i .5) (c .before .before .before .before .before .before .before .before .before .loop-test .taken) _ _ _ _ (i .3) (v .1) (c .enum-told2 .given .1) in
+    (omega (arith, c .before .before .before .before .before .before .before .before .before .loop-test .taken), v .0 .0 ∙ i .1, v .0 .1, n .0, λ o. n .1, n .2)
+
+enum-told-3 : tie.Need-enum-told-3 Inv-loop μ-loop
+enum-told-3 c = search needs
+
+add-t20 : tie.Need-add-t20 Inv-loop μ-loop
+add-t20 c = search needs
+
+cast-t21 : tie.Need-cast-t21 Inv-loop μ-loop
+cast-t21 c =
+    let b = c .before .before .before .before .before .before .before .before .before .before .before .before .before .before .before .before .before .before in
+    omega (arith, c .before .before .before .before .before .before .before .before .before .loop-test .taken, b .pre .1 .1 .1)
+
+same-length-3 : tie.Need-same-length-3 Inv-loop μ-loop
+same-length-3 c = search needs
+
+same-length-4 : tie.Need-same-length-4 Inv-loop μ-loop
+same-length-4 c = search needs
+
+returns-2 : tie.Need-returns-2 Inv-loop μ-loop
+returns-2 c =
+    let a = c .before .before .before .before .before .before .before .before .before .before .before .before .before .before .before .before .before .before in
+    let b = a .args in
+    let i = c .before .before .before .before .before .before .before .before .before .before .loop .inv in
+    let v = c .before .before .before .before .before .before .attempt .ensures in
+    let T = tapesOf (b .explicit) (b .seeds .now) (b .noise .now) (b .mask-seeds .now) in
+    (v .0 .0 ∙ i .1, λ (msg : List ℕ) e. all-stuck (b .p) (b .vk .now) (b .mu .now) msg T (b .n) _ (b .out .now) e (c .before .before .before .before .before .before .before .before .before .before .loop .a) _ (i .5) (c .before .before .before .before .before .before .before .before .before .loop-test .taken) _ _ _ _ (i .3) (v .1) (c .enum-told3 .given .1))
+
+enum-told-4 : tie.Need-enum-told-4 Inv-loop μ-loop
+enum-told-4 c = search needs
+
+same-length-5 : tie.Need-same-length-5 Inv-loop μ-loop
+same-length-5 c = search needs
+
+same-length-6 : tie.Need-same-length-6 Inv-loop μ-loop
+same-length-6 c = search needs
+
+returns-3 : tie.Need-returns-3 Inv-loop μ-loop
+returns-3 c =
+    let a = c .before .before .before .before .before .before .before .before .before .before .before .before .before .before .before .before .before .before in
+    let b = a .args in
+    let i = c .before .before .before .before .before .before .before .before .before .before .loop .inv in
+    let v = c .before .before .before .before .before .before .attempt .ensures in
+    let T = tapesOf (b .explicit) (b .seeds .now) (b .noise .now) (b .mask-seeds .now) in
+    (v .0 .0 ∙ i .1, λ (msg : List ℕ) e. all-unfilled (b .p) (b .vk .now) (b .mu .now) msg T (b .n) _ (b .out .now) e (c .before .before .before .before .before .before .before .before .before .before .loop .a) _ (i .5) (c .before .before .before .before .before .before .before .before .before .loop-test .taken) _ _ _ _ (i .3) (v .1) (c .enum-told4 .given .1))
+
+cast-t22 : tie.Need-cast-t22 Inv-loop μ-loop
+cast-t22 c =
+    let b = c .before .before .before .before .before .before .before .before .before in
+    let i = c .before .loop .inv in
+    omega (arith, i .0, b .pre .1 .1 .1)
+
+same-length-7 : tie.Need-same-length-7 Inv-loop μ-loop
+same-length-7 c = search needs
+
+same-length-8 : tie.Need-same-length-8 Inv-loop μ-loop
+same-length-8 c = search needs
+
+returns-4 : tie.Need-returns-4 Inv-loop μ-loop
+returns-4 c =
+    let a = c .before .before .before .before .before .before .before .before .before in
+    let b = a .args in
+    let i = c .before .loop .inv in
+    let T = tapesOf (b .explicit) (b .seeds .now) (b .noise .now) (b .mask-seeds .now) in
+    let z : b .n - c .before .loop .a ≡ 0 = omega (arith, c .loop-test .left) in
+    let m : 1 ≤ c .before .loop .a = omega (arith, c .loop-test .left, a .pre .1 .1 .0) in
+    (i .1, λ (msg : List ℕ) e. all-over (b .p) (b .vk .now) (b .mu .now) msg T (b .n) _ (b .out .now) e (c .before .loop .a) _ (i .5) _ (i .3) (i .4 m) z)
+
+pub attempt-all-spec : {M : Type 1} → statement M
+attempt-all-spec =
+    tie.close
+    (tie.spec
+    Inv-loop
+    μ-loop
+    loop-holds
+    attempt-requires
+    enum-told
+    add-t18
+    cast-t19
+    same-length
+    same-length-2
+    returns
+    enum-told-2
+    add-a
+    loop-less
+    loop-again
+    enum-told-3
+    add-t20
+    cast-t21
+    same-length-3
+    same-length-4
+    returns-2
+    enum-told-4
+    same-length-5
+    same-length-6
+    returns-3
+    cast-t22
+    same-length-7
+    same-length-8
+    returns-4)

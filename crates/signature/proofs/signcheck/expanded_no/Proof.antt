@@ -1,0 +1,71 @@
+use Rattle.signature.proofs.Checks.{no-here, yes-here}
+use mathlib.Core.Path.{refl, sym, _∙_}
+use Rattle.signature.proofs.Opened.{words-few}
+use Rattle.signature.proofs.Asked.{sizes}
+use Rattle.signature.specs.SignSteps.{keyNo}
+use Rattle.signature.specs.Keys.{vkVector}
+use borrow.Author.Tests.{not-true, not-false}
+use lib.ListN.{length}
+use native.Mathlib.Omega.{arith}
+use Prim.Native.Nat.{_*_}
+use borrow.Author.Needs.{needs}
+use Rattle.signature.proofs.signcheck.expanded_no.Statement.{statement}
+use Rattle.signature.proofs.signcheck.expanded_no.Tie as tie
+use Rattle.signature.proofs.signcheck.expanded_no.Reads as reads
+use Rattle.signature.proofs.signcheck.expanded_no.Lts as lts
+use Rattle.ring.proofs.poly.all_below.Reads as all-below-reads
+use Rattle.signature.proofs.keys.public_key_good.Reads as public-key-good-reads
+use Rattle.signature.proofs.keys.sized.Reads as sized-reads
+
+mul-n : tie.Need-mul-n
+mul-n c = search needs
+
+mul-n-2 : tie.Need-mul-n-2
+mul-n-2 c = omega (arith, words-few (c .before .before .before .before .args .p) (c .before .before .before .before .pre))
+
+sized-requires : tie.Need-sized-requires
+sized-requires c κs = search needs
+
+returns : tie.Need-returns
+unfolding keyNo
+returns c = no-here 3 _ (sym (c .before .sized .ensures) ∙ not-true _ (c .if1 .taken))
+
+public-key-good-requires : tie.Need-public-key-good-requires
+public-key-good-requires c κs =
+    let a = c .before .before .before .before .before .before .before in
+    let p = a .args .p in
+    let s = sizes (length (a .args .key .now)) (p .«vk_bytes») (length (a .args .words .now)) (p .l * (p .shares * 512)) (sym (c .before .before .sized .ensures) ∙ not-false _ (c .before .if1 .left)) in
+    (omega (arith, s .0, a .pre .vk), a .pre .rows-low)
+
+returns-2 : tie.Need-returns-2
+unfolding keyNo vkVector
+returns-2 c = yes-here 3 (sym (c .before .before .before .before .sized .ensures) ∙ not-false _ (c .before .before .before .if1 .left)) (no-here 4 _ (sym (c .before .public-key-good .ensures) ∙ not-true _ (c .if2 .taken)))
+
+all-below-requires : tie.Need-all-below-requires
+all-below-requires c κs = search needs
+
+returns-3 : tie.Need-returns-3
+unfolding keyNo vkVector
+returns-3 c =
+    yes-here 3 (sym (c .before .before .before .before .before .before .sized .ensures) ∙ not-false _ (c .before .before .before .before .before .if1 .left))
+    (yes-here 4 (sym (c .before .before .before .public-key-good .ensures) ∙ not-false _ (c .before .before .if2 .left)) (no-here 5 _ (sym (c .before .all-below .ensures) ∙ not-true _ (c .if3 .taken))))
+
+returns-4 : tie.Need-returns-4
+unfolding keyNo vkVector
+returns-4 c =
+    yes-here 3 (sym (c .before .before .before .before .before .before .sized .ensures) ∙ not-false _ (c .before .before .before .before .before .if1 .left))
+    (yes-here 4 (sym (c .before .before .before .public-key-good .ensures) ∙ not-false _ (c .before .before .if2 .left)) (yes-here 5 (sym (c .before .all-below .ensures) ∙ not-false _ (c .if3 .left)) refl))
+
+pub expanded-no-spec : {M : Type 1} → statement M
+expanded-no-spec =
+    tie.close
+    (tie.spec
+    mul-n
+    mul-n-2
+    sized-requires
+    returns
+    public-key-good-requires
+    returns-2
+    all-below-requires
+    returns-3
+    returns-4)

@@ -1,0 +1,69 @@
+use Rattle.signature.proofs.Checks.{no-here, yes-here}
+use mathlib.Core.Path.{refl, sym, ap, _∙_}
+use Rattle.signature.proofs.Opened.{tail-is}
+use Rattle.signature.specs.SignSteps.{keyNo}
+use Rattle.signature.specs.Keys.{vkVector, fullShare}
+use Rattle.ring.specs.Words.{q, allBelow}
+use borrow.Author.Tests.{not-true, not-false, eq-eqb, ne-eqb}
+use Prim.Native.Nat.{ℕ}
+use mathlib.Core.List.{List}
+use borrow.Author.Needs.{needs}
+use Rattle.signature.proofs.signcheck.packed_no.Statement.{statement}
+use Rattle.signature.proofs.signcheck.packed_no.Tie as tie
+use Rattle.signature.proofs.signcheck.packed_no.Reads as reads
+use Rattle.signature.proofs.signcheck.packed_no.Lts as lts
+use Rattle.signature.proofs.keys.full_share_good.Reads as full-share-good-reads
+use Rattle.signature.proofs.keys.public_key_good.Reads as public-key-good-reads
+
+returns : tie.Need-returns
+unfolding keyNo
+returns c = no-here 3 _ (ne-eqb _ _ (c .if1 .taken))
+
+public-key-good-requires : tie.Need-public-key-good-requires
+public-key-good-requires c κs = search needs
+
+returns-2 : tie.Need-returns-2
+unfolding keyNo vkVector
+returns-2 c = yes-here 3 (eq-eqb _ _ (c .before .before .before .if1 .left)) (no-here 4 _ (sym (c .before .public-key-good .ensures) ∙ not-true _ (c .if2 .taken)))
+
+sub-full-share-good : tie.Need-sub-full-share-good
+sub-full-share-good c = search needs
+
+part-full-share-good-start : tie.Need-part-full-share-good-start
+part-full-share-good-start c = search needs
+
+part-full-share-good-end : tie.Need-part-full-share-good-end
+part-full-share-good-end c = search needs
+
+full-share-good-requires : tie.Need-full-share-good-requires
+full-share-good-requires c κs = search needs
+
+returns-3 : tie.Need-returns-3
+unfolding keyNo vkVector
+returns-3 c =
+    let a = c .before .before .before .before .before .before .before .before .before .args in
+    yes-here 3 (eq-eqb _ _ (c .before .before .before .before .before .before .if1 .left))
+    (yes-here 4 (sym (c .before .before .before .before .public-key-good .ensures) ∙ not-false _ (c .before .before .before .if2 .left))
+    (no-here 5 _ (sym (c .before .full-share-good .ensures ∙ ap (λ (l : List ℕ). allBelow q (fullShare (a .p) l)) (tail-is (a .key .now) (a .p .«vk_bytes»))) ∙ not-true _ (c .if3 .taken))))
+
+returns-4 : tie.Need-returns-4
+unfolding keyNo vkVector
+returns-4 c =
+    let a = c .before .before .before .before .before .before .before .before .before .args in
+    yes-here 3 (eq-eqb _ _ (c .before .before .before .before .before .before .if1 .left))
+    (yes-here 4 (sym (c .before .before .before .before .public-key-good .ensures) ∙ not-false _ (c .before .before .before .if2 .left))
+    (yes-here 5 (sym (c .before .full-share-good .ensures ∙ ap (λ (l : List ℕ). allBelow q (fullShare (a .p) l)) (tail-is (a .key .now) (a .p .«vk_bytes»))) ∙ not-false _ (c .if3 .left)) refl))
+
+pub packed-no-spec : {M : Type 1} → statement M
+packed-no-spec =
+    tie.close
+    (tie.spec
+    returns
+    public-key-good-requires
+    returns-2
+    sub-full-share-good
+    part-full-share-good-start
+    part-full-share-good-end
+    full-share-good-requires
+    returns-3
+    returns-4)

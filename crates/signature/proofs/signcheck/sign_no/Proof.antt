@@ -1,0 +1,32 @@
+use Rattle.signature.proofs.SignChecks.{no-key, no-call}
+use Rattle.signature.specs.Attempt.{keyFrom, tapesOf}
+use mathlib.Core.Path.{_∙_}
+use borrow.Author.Needs.{needs}
+use Rattle.signature.proofs.signcheck.sign_no.Statement.{statement}
+use Rattle.signature.proofs.signcheck.sign_no.Tie as tie
+use Rattle.signature.proofs.signcheck.sign_no.Reads as reads
+use Rattle.signature.proofs.signcheck.sign_no.Lts as lts
+use Rattle.signature.proofs.signcheck.call_no.Reads as call-no-reads
+use Rattle.signature.proofs.signcheck.key_no.Reads as key-no-reads
+
+key-no-requires : tie.Need-key-no-requires
+key-no-requires c κs = search needs
+
+returns : tie.Need-returns
+returns c =
+    let a = c .before .before .before .before .before .before .before .before .before .before .args in
+    no-key (a .p) (keyFrom (a .packed) (a .key .now) (a .words .now)) (a .attempts) (a .message .now) (tapesOf (a .explicit) (a .seeds .now) (a .noise .now) (a .mask-seeds .now)) (a .out .now) (a .work .now)
+    (c .before .key-no .result) (c .before .key-no .ensures) (c .if1 .taken)
+
+call-no-requires : tie.Need-call-no-requires
+call-no-requires c κs = search needs
+
+returns-2 : tie.Need-returns-2
+returns-2 c =
+    let a = c .before .before .before .before .before .before .before .before .before .before .before .args in
+    c .call-no .ensures
+    ∙ no-call (a .p) (keyFrom (a .packed) (a .key .now) (a .words .now)) (a .attempts) (a .message .now) (tapesOf (a .explicit) (a .seeds .now) (a .noise .now) (a .mask-seeds .now)) (a .out .now) (a .work .now)
+    (c .before .before .key-no .result) (c .before .before .key-no .ensures) (c .before .if1 .left)
+
+pub sign-no-spec : {M : Type 1} → statement M
+sign-no-spec = tie.close (tie.spec key-no-requires returns call-no-requires returns-2)

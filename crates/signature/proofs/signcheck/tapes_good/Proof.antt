@@ -1,0 +1,88 @@
+use Rattle.signature.proofs.Tapes.{fits-mid, words-size, seeds-size}
+use Rattle.signature.proofs.Sizes.{tape-low}
+use Rattle.signature.proofs.SignChecks.{tapes-masks, tapes-noise, tapes-words, tapes-seeds}
+use native.Mathlib.Omega.{arith}
+use mathlib.Core.Path.{_∙_}
+use borrow.Author.Needs.{needs}
+use Rattle.signature.proofs.signcheck.tapes_good.Statement.{statement}
+use Rattle.signature.proofs.signcheck.tapes_good.Tie as tie
+use Rattle.signature.proofs.signcheck.tapes_good.Reads as reads
+use Rattle.signature.proofs.signcheck.tapes_good.Lts as lts
+use Rattle.ring.proofs.poly.all_below.Reads as all-below-reads
+
+mul-if1 : tie.Need-mul-if1
+mul-if1 c = search needs
+
+returns : tie.Need-returns
+returns c =
+    let a = c .before .before .before .before .args in
+    tapes-masks (a .p) (a .n) (a .seeds .now) (a .noise .now) (a .mask-seeds .now) (a .explicit) (c .if1 .taken)
+
+add-c : tie.Need-add-c
+add-c c = search needs
+
+mul-c : tie.Need-mul-c
+mul-c c =
+    let m = tape-low (c .before .before .before .before .before .before .args .p) (c .before .before .before .before .before .before .pre .0) .0 in
+    fits-mid _ (omega (arith, m))
+
+mul-if3 : tie.Need-mul-if3
+mul-if3 c =
+    let s = words-size (c .before .before .before .before .before .before .before .args .p) (c .before .before .before .before .before .before .before .pre .0) (c .before .before .before .before .before .before .before .args .n) (c .before .before .before .before .before .before .before .pre .1) in
+    fits-mid _ (omega (arith, s .0))
+
+mul-if3-2 : tie.Need-mul-if3-2
+mul-if3-2 c =
+    let s = words-size (c .before .before .before .before .before .before .before .args .p) (c .before .before .before .before .before .before .before .pre .0) (c .before .before .before .before .before .before .before .args .n) (c .before .before .before .before .before .before .before .pre .1) in
+    fits-mid _ (omega (arith, s .1))
+
+returns-2 : tie.Need-returns-2
+returns-2 c =
+    let a = c .before .before .before .before .before .before .before .before .args in
+    tapes-noise (a .p) (a .n) (a .seeds .now) (a .noise .now) (a .mask-seeds .now) (a .explicit) (c .before .if2 .taken) (c .if3 .taken)
+
+all-below-requires : tie.Need-all-below-requires
+all-below-requires c κs = search needs
+
+returns-3 : tie.Need-returns-3
+returns-3 c =
+    let a = c .before .before .before .before .before .before .before .before .before .args in
+    c .all-below .ensures ∙ tapes-words (a .p) (a .n) (a .seeds .now) (a .noise .now) (a .mask-seeds .now) (c .before .before .before .before .before .if1 .left) (a .explicit) (c .before .before .if2 .taken) (c .before .if3 .left)
+
+mul-result : tie.Need-mul-result
+mul-result c =
+    let m = tape-low (c .before .before .before .before .before .before .before .before .args .p) (c .before .before .before .before .before .before .before .before .pre .0) .1 in
+    fits-mid _ (omega (arith, m))
+
+mul-result-2 : tie.Need-mul-result-2
+mul-result-2 c =
+    let s = seeds-size (c .before .before .before .before .before .before .before .before .before .args .p) (c .before .before .before .before .before .before .before .before .before .pre .0) (c .before .before .before .before .before .before .before .before .before .args .n) (c .before .before .before .before .before .before .before .before .before .pre .1) in
+    fits-mid _ (omega (arith, s .0))
+
+mul-result-3 : tie.Need-mul-result-3
+mul-result-3 c =
+    let s = seeds-size (c .before .before .before .before .before .before .before .before .before .args .p) (c .before .before .before .before .before .before .before .before .before .pre .0) (c .before .before .before .before .before .before .before .before .before .args .n) (c .before .before .before .before .before .before .before .before .before .pre .1) in
+    fits-mid _ (omega (arith, s .1))
+
+returns-4 : tie.Need-returns-4
+returns-4 c =
+    let a = c .before .before .before .before .before .before .before .before .before .args in
+    tapes-seeds (a .p) (a .n) (a .seeds .now) (a .noise .now) (a .mask-seeds .now) (c .before .before .before .before .before .if1 .left) (a .explicit) (c .before .before .if2 .left)
+
+pub tapes-good-spec : {M : Type 1} → statement M
+tapes-good-spec =
+    tie.close
+    (tie.spec
+    mul-if1
+    returns
+    add-c
+    mul-c
+    mul-if3
+    mul-if3-2
+    returns-2
+    all-below-requires
+    returns-3
+    mul-result
+    mul-result-2
+    mul-result-3
+    returns-4)

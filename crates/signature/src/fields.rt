@@ -1,0 +1,167 @@
+// The end of a signing attempt (000, Algorithm 2, lines 17 to 20): the hint, the bounds, and the signature. The work buffer is laid out as
+// specs/Keygen.antt says: w, rounded, at atT, and z at atX; r is free.
+ghost use mathlib.Core.Path.{_≡_};
+ghost use mathlib.Core.Bool.{true};
+ghost use mathlib.Core.List.{List};
+ghost use mathlib.Core.Option.{some};
+ghost use Prim.Native.Nat.{ℕ, _+_, _*_, _^_, _≤_, _<_};
+ghost use lib.IntN.{pos, natAbs};
+ghost use lib.ListN.{length, getD};
+ghost use Rattle.ring.specs.Words.{q, Below, Words, zipTo};
+ghost use Rattle.ring.specs.Round.{roundW, residues};
+ghost use Rattle.sharing.specs.Region.{sub};
+ghost use Rattle.signature.specs.Answers.{fieldsOf, FinishedAs};
+ghost use Rattle.signature.specs.Checks.{workWords};
+ghost use Rattle.signature.specs.Form.{hashBytes};
+ghost use Rattle.signature.specs.Keygen.{atS, atT, atX, Small};
+ghost use Rattle.signature.specs.Keys.{vkSeed, vkVector};
+ghost use Rattle.signature.specs.Matrix.{matrix, matrixOf, filled};
+ghost use Rattle.signature.specs.Recover.{sub31, centredAll, hintOf, recovered, hintRows};
+ghost use Rattle.signature.specs.Sign.{finished, signedFields};
+ghost use Rattle.signature.specs.Table.{Tabled};
+use crate::bits::unpack;
+use crate::bounds::check_bounds;
+use crate::form::bit_count;
+use crate::form::write;
+use crate::recover::recover_row;
+use crate::residues::centred_into;
+use crate::residues::hint_into;
+use crate::vector::ntt_to;
+use hash::params::Params;
+use ring::poly::from_signed;
+use ring::poly::ntt;
+use ring::poly::round_w;
+use sharing::region::load;
+
+// The modulus q (000, Tables 2 to 4).
+const Q: u64 = 549824583172097;
+
+// Line 18 for one row: y is at `row`, the rounded w at `at`.
+fn hint_row(s: &[u64], row: usize, at: usize, out: &mut [i64])
+    requires { ⌜ (row + 512 ≤ length (now s)) × (at + 512 ≤ length (now s)) × Below q (now s) × Below 31 (sub (now s) at 512) × (length (now out) ≡ 512) ⌝ }
+    ensures { λ _. ⌜ now (out .exit) ≡ centredAll 31 (zipTo sub31 (sub (now (s .entry)) at 512) (roundW (sub (now (s .entry)) row 512))) ⌝ }
+{
+    let y = round_w(load(s, row));
+    hint_into(load(s, at), y, out);
+}
+
+// Lines 17 and 18, row by row: each row of y at `row`; z, transformed, is at `at`, w at `wat`; c is transformed. False where the matrix does
+// not fill.
+fn hint_rows(
+    work: &mut [u64],
+    row: usize,
+    at: usize,
+    wat: usize,
+    seed: &[u8],
+    k: usize,
+    l: usize,
+    c: [u64; 512],
+    t: &[u64],
+    hint: &mut [i64],
+) -> bool
+    requires { ⌜ (row + 512 ≤ at) × (row + 512 ≤ wat) × (at + l * 512 ≤ length (now work)) × (wat + k * 512 ≤ length (now work)) × Below q (now work) ⌝ }
+    requires { ⌜ (k ≤ 9) × (l ≤ 7) × Words 512 c × (length (now t) ≡ k * 512) × Below 125 (now t) × Below 31 (sub (now work) wat (k * 512)) × (length (now hint) ≡ k * 512) ⌝ }
+    ensures { λ r. ⌜ (r ≡ filled (matrixOf k l (now (seed .entry)))) × (length (now (work .exit)) ≡ length (now (work .entry))) × Below q (now (work .exit)) ⌝ }
+    ensures { λ r. ⌜ (r ≡ true → (b j : ℕ) → row + 512 ≤ b → sub (now (work .exit)) b j ≡ sub (now (work .entry)) b j) ⌝ }
+    ensures { λ r. ⌜ (r ≡ true → now (hint .exit) ≡ hintRows k l (now (seed .entry)) (sub (now (work .entry)) at (l * 512)) c (now (t .entry)) (sub (now (work .entry)) wat (k * 512))) ⌝ }
+{
+    for i in 0..k {
+        let a = i * 512;
+        let e = a + 512;
+        if !recover_row(work, row, at, seed, i, l, c, load(t, a)) {
+            return false;
+        }
+        hint_row(work, row, wat + a, &mut hint[a..e]);
+    }
+    true
+}
+
+// Lines 17 and 18: the hint. z, transformed, goes to r's front, the rows of y to the row's place.
+fn make_hint(work: &mut [u64], p: Params, vk: &[u8], c: [i8; 512], hint: &mut [i64]) -> bool
+    requires { ⌜ Tabled p × Small p × (length (now work) ≡ workWords p) × Below q (now work) × Below 31 (sub (now work) (atT (p .l) (p .shares)) (p .k * 512)) ⌝ }
+    requires { ⌜ (length (now vk) ≡ p .«vk_bytes») × Below 125 (vkVector p (now vk)) × (length (now hint) ≡ p .k * 512) ⌝ }
+    ensures { λ r. ⌜ (r ≡ filled (matrix p (vkSeed p (now (vk .entry))))) × (length (now (work .exit)) ≡ length (now (work .entry))) × Below q (now (work .exit)) ⌝ }
+    ensures { λ r. ⌜ (r ≡ true → sub (now (work .exit)) (atS (p .shares)) (p .l * (p .shares * 512)) ≡ sub (now (work .entry)) (atS (p .shares)) (p .l * (p .shares * 512))) ⌝ }
+    ensures { λ r. ⌜ ((A : List ℕ) → matrix p (vkSeed p (now (vk .entry))) ≡ some A → now (hint .exit) ≡ hintOf (sub (now (work .entry)) (atT (p .l) (p .shares)) (p .k * 512)) (recovered p A (sub (now (work .entry)) (atX (p .k) (p .l) (p .shares)) (p .l * 512)) (residues q c) (vkVector p (now (vk .entry))))) ⌝ }
+{
+    let k = p.k;
+    let l = p.l;
+    let d = p.shares;
+    let n = p.kappa / 8;
+    let m = k * 512;
+    let e = n + k * 448;
+    let at = 4 * (d * 512) + 4096 + l * (d * 512);
+    let wat = at + l * (d * 512);
+    let mut t = [0u64; 4608];
+    unpack(&vk[n..e], 7, &mut t[0..m]);
+    ntt_to(work, wat + m, at, l);
+    let x = ntt(from_signed(c));
+    hint_rows(work, d * 512, at, wat, &vk[0..n], k, l, x, &t[0..m], hint)
+}
+
+// Lines 19 and 20: the signature of the fields, where they pass the bounds and fit. Else out stays as it was.
+fn write_fields(p: Params, hash: &[u8], hint: &[i64], z: &[i64], out: &mut [u8]) -> bool
+    requires { ⌜ Tabled p × (length (now hash) ≡ hashBytes p) × (length (now hint) ≤ 4608) × (length (now z) ≤ 4608) × (length (now out) ≡ p .«sig_bytes») ⌝ }
+    requires { ⌜ ((i : ℕ) → natAbs (getD (now hint) i (pos 0)) < 2 ^ 50) ⌝ }
+    requires { ⌜ ((i : ℕ) → natAbs (getD (now z) i (pos 0)) < 2 ^ 50) ⌝ }
+    ensures { λ r. ⌜ FinishedAs (finished p (fieldsOf (now (hash .entry)) (now (hint .entry)) (now (z .entry)))) r (now (out .entry)) (now (out .exit)) ⌝ }
+{
+    if !check_bounds(hint, z, p.hint_limit, p.binf, p.b22) {
+        return false;
+    }
+    if 8 * out.len() < bit_count(hash.len(), hint, z) {
+        return false;
+    }
+    write(hash, hint, z, out);
+    true
+}
+
+// Lines 17 to 20, with room for hint and response.
+fn finish_with(
+    work: &mut [u64],
+    p: Params,
+    vk: &[u8],
+    hash: &[u8],
+    c: [i8; 512],
+    hint: &mut [i64],
+    z: &mut [i64],
+    out: &mut [u8],
+) -> bool
+    requires { ⌜ Tabled p × Small p × (length (now work) ≡ workWords p) × Below q (now work) × Below 31 (sub (now work) (atT (p .l) (p .shares)) (p .k * 512)) ⌝ }
+    requires { ⌜ (length (now vk) ≡ p .«vk_bytes») × Below 125 (vkVector p (now vk)) × (filled (matrix p (vkSeed p (now vk))) ≡ true) × (length (now hash) ≡ hashBytes p) ⌝ }
+    requires { ⌜ (length (now hint) ≡ p .k * 512) × (length (now z) ≡ p .l * 512) × (length (now out) ≡ p .«sig_bytes») ⌝ }
+    ensures { λ r. ⌜ (length (now (work .exit)) ≡ length (now (work .entry))) × Below q (now (work .exit)) × (sub (now (work .exit)) (atS (p .shares)) (p .l * (p .shares * 512)) ≡ sub (now (work .entry)) (atS (p .shares)) (p .l * (p .shares * 512))) ⌝ }
+    ensures { λ r. ⌜ ((A mu : List ℕ) → matrix p (vkSeed p (now (vk .entry))) ≡ some A → FinishedAs (finished p (signedFields p (record { matrix = A; vector = vkVector p (now (vk .entry)); mu = mu }) (sub (now (work .entry)) (atT (p .l) (p .shares)) (p .k * 512)) (now (hash .entry)) (sub (now (work .entry)) (atX (p .k) (p .l) (p .shares)) (p .l * 512)) c)) r (now (out .entry)) (now (out .exit))) ⌝ }
+{
+    let k = p.k;
+    let l = p.l;
+    let d = p.shares;
+    let a = 4 * (d * 512) + 4096 + l * (d * 512) + l * (d * 512) + k * 512;
+    let e = a + l * 512;
+    centred_into(&work[a..e], Q, z);
+    if !make_hint(work, p, vk, c, hint) {
+        return false;
+    }
+    write_fields(p, hash, hint, z, out)
+}
+
+// Lines 17 to 20: true where the signature was made; where it is over the bounds or too long, out stays as it was. s is kept.
+pub(crate) fn finish(
+    work: &mut [u64],
+    p: Params,
+    vk: &[u8],
+    hash: &[u8],
+    c: [i8; 512],
+    out: &mut [u8],
+) -> bool
+    requires { ⌜ Tabled p × Small p × (length (now work) ≡ workWords p) × Below q (now work) × Below 31 (sub (now work) (atT (p .l) (p .shares)) (p .k * 512)) ⌝ }
+    requires { ⌜ (length (now vk) ≡ p .«vk_bytes») × Below 125 (vkVector p (now vk)) × (filled (matrix p (vkSeed p (now vk))) ≡ true) × (length (now hash) ≡ hashBytes p) × (length (now out) ≡ p .«sig_bytes») ⌝ }
+    ensures { λ r. ⌜ (length (now (work .exit)) ≡ length (now (work .entry))) × Below q (now (work .exit)) × (sub (now (work .exit)) (atS (p .shares)) (p .l * (p .shares * 512)) ≡ sub (now (work .entry)) (atS (p .shares)) (p .l * (p .shares * 512))) ⌝ }
+    ensures { λ r. ⌜ ((A mu : List ℕ) → matrix p (vkSeed p (now (vk .entry))) ≡ some A → FinishedAs (finished p (signedFields p (record { matrix = A; vector = vkVector p (now (vk .entry)); mu = mu }) (sub (now (work .entry)) (atT (p .l) (p .shares)) (p .k * 512)) (now (hash .entry)) (sub (now (work .entry)) (atX (p .k) (p .l) (p .shares)) (p .l * 512)) c)) r (now (out .entry)) (now (out .exit))) ⌝ }
+{
+    let m = p.k * 512;
+    let n = p.l * 512;
+    let mut hint = [0i64; 4608];
+    let mut z = [0i64; 3584];
+    finish_with(work, p, vk, hash, c, &mut hint[0..m], &mut z[0..n], out)
+}

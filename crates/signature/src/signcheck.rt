@@ -1,0 +1,151 @@
+// The checks of signing behind the look-up (01, questions 3 to 9): the number of the first no, or 0.
+ghost use mathlib.Core.Path.{_≡_};
+ghost use Prim.Native.Nat.{_≤_};
+ghost use Rattle.signature.specs.Attempt.{keyFrom, tapesOf};
+ghost use Rattle.signature.specs.Keygen.{Small};
+ghost use Rattle.signature.specs.KeySizes.{Ranges};
+ghost use Rattle.signature.specs.Opening.{Listed};
+ghost use Rattle.signature.specs.SignCalls.{packed, expanded, tapesGood, signNo};
+ghost use Rattle.signature.specs.SignSteps.{keyNo, callNo};
+use crate::keycheck::work_words;
+use crate::keys::full_share_good;
+use crate::keys::public_key_good;
+use crate::keys::sized;
+use hash::params::Params;
+use ring::poly::all_below;
+
+// The modulus q (000, Tables 2 to 4).
+const Q: u64 = 549824583172097;
+
+// Checks 3 to 5 of a signing key.
+fn packed_no(p: Params, key: &[u8]) -> u32
+    requires { ⌜ Listed p ⌝ }
+    ensures { λ r. ⌜ r ≡ keyNo p (packed (now (key .entry))) ⌝ }
+{
+    let vk = p.vk_bytes;
+    if key.len() != p.sk_bytes {
+        return 3;
+    }
+    if !public_key_good(key, p.kappa / 8, p.k) {
+        return 4;
+    }
+    if !full_share_good(p, &key[vk..]) {
+        return 5;
+    }
+    0
+}
+
+// .. of an expanded key.
+fn expanded_no(p: Params, key: &[u8], words: &[u64]) -> u32
+    requires { ⌜ Listed p ⌝ }
+    ensures { λ r. ⌜ r ≡ keyNo p (expanded (now (key .entry)) (now (words .entry))) ⌝ }
+{
+    let n = p.l * (p.shares * 512);
+    if !sized(p.vk_bytes, n, key, words) {
+        return 3;
+    }
+    if !public_key_good(key, p.kappa / 8, p.k) {
+        return 4;
+    }
+    if !all_below(words, Q) {
+        return 5;
+    }
+    0
+}
+
+// .. of a key of either form.
+fn key_no(p: Params, packed: bool, key: &[u8], words: &[u64]) -> u32
+    requires { ⌜ Listed p ⌝ }
+    ensures { λ r. ⌜ r ≡ keyNo p (keyFrom packed (now (key .entry)) (now (words .entry))) ⌝ }
+{
+    if packed {
+        return packed_no(p, key);
+    }
+    expanded_no(p, key, words)
+}
+
+// Check 7, where n attempts are allowed: explicit noise is in `noise`, seeds of noise are in `seeds`.
+fn tapes_good(
+    p: Params,
+    n: usize,
+    explicit: bool,
+    seeds: &[u8],
+    noise: &[u64],
+    mask_seeds: &[u8],
+) -> bool
+    requires { ⌜ Small p × (n ≤ 16) ⌝ }
+    ensures { λ r. ⌜ r ≡ tapesGood p n (tapesOf explicit (now (seeds .entry)) (now (noise .entry)) (now («mask_seeds» .entry))) ⌝ }
+{
+    if mask_seeds.len() != n * 32 {
+        return false;
+    }
+    let c = (p.l + p.k) * p.shares;
+    if explicit {
+        if noise.len() != n * (c * 512) {
+            return false;
+        }
+        return all_below(noise, Q);
+    }
+    seeds.len() == n * (c * p.rep * (p.kappa / 8))
+}
+
+// Checks 6 to 9.
+fn call_no(
+    p: Params,
+    attempts: u64,
+    message: &[u8],
+    explicit: bool,
+    seeds: &[u8],
+    noise: &[u64],
+    mask_seeds: &[u8],
+    out: &[u8],
+    work: &[u64],
+) -> u32
+    requires { ⌜ Small p × Ranges p ⌝ }
+    ensures { λ r. ⌜ r ≡ callNo p attempts (now (message .entry)) (tapesOf explicit (now (seeds .entry)) (now (noise .entry)) (now («mask_seeds» .entry))) (now (out .entry)) (now (work .entry)) ⌝ }
+{
+    if attempts < 1 {
+        return 6;
+    }
+    if attempts > 16 {
+        return 6;
+    }
+    if !tapes_good(p, attempts as usize, explicit, seeds, noise, mask_seeds) {
+        return 7;
+    }
+    if out.len() != p.sig_bytes {
+        return 8;
+    }
+    if work.len() != work_words(p) {
+        return 8;
+    }
+    if message.len() > 4096 {
+        return 9;
+    }
+    0
+}
+
+// Checks 3 to 9.
+pub(crate) fn sign_no(
+    p: Params,
+    packed: bool,
+    key: &[u8],
+    words: &[u64],
+    attempts: u64,
+    message: &[u8],
+    explicit: bool,
+    seeds: &[u8],
+    noise: &[u64],
+    mask_seeds: &[u8],
+    out: &[u8],
+    work: &[u64],
+) -> u32
+    requires { ⌜ Listed p × Small p × Ranges p ⌝ }
+    ensures { λ r. ⌜ r ≡ signNo p (keyFrom packed (now (key .entry)) (now (words .entry))) attempts (now (message .entry)) (tapesOf explicit (now (seeds .entry)) (now (noise .entry)) (now («mask_seeds» .entry))) (now (out .entry)) (now (work .entry)) ⌝ }
+{
+    let k = key_no(p, packed, key, words);
+    if k != 0 {
+        return k;
+    }
+    call_no(p, attempts, message, explicit, seeds, noise, mask_seeds, out, work)
+}

@@ -1,0 +1,174 @@
+-- The verifier accepts what signing makes, with a signing key or an expanded key, from seeds or with explicit noise: the fields are read back as
+-- they were written, the response is the one that was added up, and y + h is the rounded commitment, so the challenge hash comes out again.
+use mathlib.Core.Path.{_≡_, refl, sym, ap, _∙_, subst}
+use mathlib.Core.Bool.{Bool, true, false}
+use mathlib.Core.List.{List}
+use mathlib.Core.Option.{Option, some, none}
+use Prim.Native.Nat.{ℕ, zero, suc, _+_, _*_, _/_, _<_}
+use native.Mathlib.Omega.{arith}
+use borrow.Author.Tests.{eq-eqb}
+use lib.Dec.{eqb}
+use lib.IntN.{ℤ}
+use lib.ListN.{length}
+use Rattle.hash.specs.Lists.{pick}
+use Rattle.hash.specs.declared.params.Params.{Params}
+use Rattle.hash.proofs.Output.{output-length, output-bytes}
+use Rattle.ring.specs.Words.{q, subq, Words}
+use Rattle.ring.specs.Transform.{mul}
+use Rattle.ring.specs.Round.{roundW, scaledT, residues}
+use Rattle.ring.proofs.Sums.{length-zip}
+use Rattle.sharing.specs.Blocks.{block, totals}
+use Rattle.sharing.specs.declared.masks.MaskGen.{MaskGen}
+use Rattle.sharing.proofs.Decode.{words-sum, totals-words}
+use Rattle.sharing.proofs.Lists.{length-build}
+use Rattle.signature.specs.Bounds.{checkBounds}
+use Rattle.signature.specs.Challenge.{chalHash, chalPoly}
+use Rattle.signature.specs.Checks.{ask, publicKeySized, publicKeyGood, attemptsAllowed, messageSized, properForm}
+use Rattle.signature.specs.Form.{Fields, write, read}
+use Rattle.signature.specs.Keys.{vkSeed}
+use Rattle.signature.specs.Masked.{Noise, maskedImage}
+use Rattle.signature.specs.Matrix.{matrix}
+use Rattle.signature.specs.Recover.{productRow, recoveredRow, recovered, hintOf, adjusted}
+use Rattle.signature.specs.Sign.{Public, Attempted, Answer, Tapes, signedFields, wrote, finished, challenged, concluded, refreshedKey, refreshedResponse, attempted, noiseAt, maskAt, ended, signFrom}
+use Rattle.signature.specs.Sign.Attempted.{made, over, stuck}
+use Rattle.signature.specs.SignCalls.{publicFor}
+use Rattle.signature.specs.Verify.{recomputed, verifyChallenge, verifyFields, verifyOf}
+use Rattle.signature.proofs.Canonical.{Sized, write-read, write-length}
+use Rattle.theorems.specs.Plain.{plainNo}
+use Rattle.theorems.proofs.Checks.{passed, same-bytes}
+use Rattle.theorems.proofs.ShareCount.{setOf, k-same, l-same, concluded-same, public-same}
+use Rattle.theorems.proofs.Hint.{residues-centred, length-rounded, length-centred, length-hint, hint-back}
+
+-- k rows of 512 words
+recovered-long : (p : Params) (A z c t : List ℕ) → length (recovered p A z c t) ≡ p .k * 512
+unfolding recovered recoveredRow productRow
+recovered-long p A z c t =
+    length-build 512 (p .k) (recoveredRow (p .l) A z c t)
+    (λ (i : ℕ) (h : i < p .k).
+    length-zip subq (productRow (p .l) A z i) (mul c (scaledT (block 512 i t)))
+    ∙ words-sum 512 (p .l) (λ (m : ℕ). mul (block 512 (i * p .l + m) A) (block 512 m z)) .long)
+
+module _ (p : Params) (vk msg A : List ℕ) (eA : matrix p (vkSeed p vk) ≡ some A) where
+  abbrev P : Public
+  P = publicFor p vk msg A
+
+  -- ---- what the verifier makes of fields that the signer made
+
+  module _ (w z : List ℕ) (c : List ℤ) (lw : length w ≡ p .k * 512) (wz : Words (p .l * 512) z) where
+    abbrev hash : List ℕ
+    hash = chalHash p (roundW w) (P .mu)
+
+    abbrev fields : Fields
+    fields = signedFields p P (roundW w) hash z c
+
+    abbrev y : List ℕ
+    y = recovered p A z (residues q c) (P .vector)
+
+    sized : Sized p fields
+    unfolding signedFields chalHash
+    sized =
+        record {
+          hash-long = output-length _ (p .kappa / 4);
+          hash-bytes = output-bytes _ (p .kappa / 4);
+          hint-long = length-hint (roundW w) y ∙ length-rounded w ∙ lw;
+          response-long = length-centred q z ∙ wz .long;
+        }
+
+    hash-back : recomputed p A (P .vector) (P .mu) fields c ≡ fields .hash
+    unfolding recomputed signedFields
+    hash-back =
+        ap (λ (x : List ℕ). chalHash p (adjusted (recovered p A x (residues q c) (P .vector)) (hintOf (roundW w) y)) (P .mu)) (residues-centred z (wz .low))
+        ∙ ap (λ (x : List ℕ). chalHash p x (P .mu)) (hint-back w y (lw ∙ sym (recovered-long p A z (residues q c) (P .vector))))
+
+    challenge-good : verifyChallenge p A (P .vector) (P .mu) fields (some c) ≡ 0
+    challenge-good = rw (hash-back, same-bytes (fields .hash)) refl
+
+    hash-is : (x : List ℤ) → chalPoly p hash ≡ some x → chalPoly p (fields .hash) ≡ some x
+    unfolding signedFields
+    hash-is x e = e
+
+    fields-good : (b : List ℕ) → chalPoly p hash ≡ some c → checkBounds p fields ≡ true → write p fields ≡ some b
+        → (properForm p b ≡ true) × (verifyFields p vk msg (read p b) ≡ 0)
+    unfolding properForm
+    fields-good b ec eb ew =
+        let r : read p b ≡ some fields = write-read p fields b sized ew in
+        let ch : chalPoly p (fields .hash) ≡ some c = hash-is c ec in
+        (rw (r, ew) (same-bytes b), rw (r, eb, eA, ch) challenge-good)
+
+  -- ---- what a signature is to be
+
+  pub record Good (b : List ℕ) : Type 0 where
+    pub long : length b ≡ p .«sig_bytes»
+    pub form : properForm p b ≡ true
+    pub fields : verifyFields p vk msg (read p b) ≡ 0
+
+  pick-made : (t : Bool) (x : Attempted) (b : List ℕ) → pick t x over ≡ made b → (t ≡ true) × (x ≡ made b)
+  pick-made true x b e = (refl, e)
+  pick-made false x b e = let z : _≡_ {A = ℕ} 0 1 = cc in absurd (omega arith)
+
+  wrote-made : (o : Option (List ℕ)) (b : List ℕ) → wrote o ≡ made b → o ≡ some b
+  wrote-made none b e = let z : _≡_ {A = ℕ} 0 1 = cc in absurd (omega arith)
+  wrote-made (some x) b e = cc
+
+  module _ (w : List ℕ) (z : List ℕ → List ℕ) (lw : length w ≡ p .k * 512) (wz : (c : List ℕ) → Words (p .l * 512) (z c)) (b : List ℕ) where
+    challenged-good : (o : Option (List ℤ)) → chalPoly p (chalHash p (roundW w) (P .mu)) ≡ o
+        → challenged p P (roundW w) (chalHash p (roundW w) (P .mu)) z o ≡ made b → Good b
+    unfolding finished
+    challenged-good none e r = let z : _≡_ {A = ℕ} 0 1 = cc in absurd (omega arith)
+    challenged-good (some c) e r =
+        let wc : Words (p .l * 512) (z (residues q c)) = wz (residues q c) in
+        let f : Fields = signedFields p P (roundW w) (chalHash p (roundW w) (P .mu)) (z (residues q c)) c in
+        let m = pick-made (checkBounds p f) (wrote (write p f)) b r in
+        let k : write p f ≡ some b = wrote-made (write p f) b (m .1) in
+        let g = fields-good w (z (residues q c)) c lw wc b e (m .0) k in
+        record { long = write-length p f b k; form = g .0; fields = g .1 }
+
+    concluded-good : concluded p P w z ≡ made b → Good b
+    unfolding concluded
+    concluded-good r = challenged-good (chalPoly p (chalHash p (roundW w) (P .mu))) refl r
+
+  -- the verifier's first checks are among those that signing passed
+  pub verify-good : (n : ℕ) (sig : List ℕ) → plainNo p vk n msg ≡ 0 → Good sig → verifyOf p vk msg sig ≡ 0
+  unfolding verifyOf plainNo
+  verify-good n sig h g =
+      let q9 : ℕ = ask 9 (messageSized msg) 0 in
+      let q6 : ℕ = ask 6 (attemptsAllowed n) q9 in
+      let q4 : ℕ = ask 4 (publicKeyGood p vk) q6 in
+      let a3 : (publicKeySized p vk ≡ true) × (q4 ≡ 0) = passed (publicKeySized p vk) q4 2 h in
+      let a4 : (publicKeyGood p vk ≡ true) × (q6 ≡ 0) = passed (publicKeyGood p vk) q6 3 (a3 .1) in
+      let a6 : (attemptsAllowed n ≡ true) × (q9 ≡ 0) = passed (attemptsAllowed n) q9 5 (a4 .1) in
+      let a9 : (messageSized msg ≡ true) × (_≡_ {A = ℕ} 0 0) = passed (messageSized msg) 0 8 (a6 .1) in
+      let a13 : eqb (length sig) (p .«sig_bytes») ≡ true = eq-eqb (length sig) (p .«sig_bytes») (g .long) in
+      let a14 : properForm p sig ≡ true = g .form in
+      rw (a3 .0, a4 .0, a9 .0, a13, a14) (g .fields)
+
+-- ---- all attempts, of a record p; the verifier has a record r of the same set
+
+module _ (p r : Params) (h : setOf p ≡ setOf r) (vk msg A : List ℕ) (eA : matrix r (vkSeed r vk) ≡ some A) where
+  attempt-good : (N : Noise) (g : MaskGen) (s b : List ℕ) → attempted p (publicFor p vk msg A) N g s ≡ made b → Good r vk msg A eA b
+  unfolding attempted
+  attempt-good N g s b e =
+      let w : List ℕ = totals (p .k) (p .shares) (maskedImage p N g A) in
+      let z : List ℕ → List ℕ = λ (c : List ℕ). totals (p .l) (p .shares) (refreshedResponse p N g s c) in
+      concluded-good r vk msg A eA (totals (p .k) (p .shares) (maskedImage p N g A)) (λ (c : List ℕ). totals (p .l) (p .shares) (refreshedResponse p N g s c))
+      (totals-words (p .k) (p .shares) (maskedImage p N g A) .long ∙ ap (λ (n : ℕ). n * 512) (k-same p r h))
+      (λ (c : List ℕ). subst (λ (n : ℕ). Words (n * 512) (totals (p .l) (p .shares) (refreshedResponse p N g s c))) (l-same p r h)
+      (totals-words (p .l) (p .shares) (refreshedResponse p N g s c)))
+      b
+      (ap (λ (X : Public). concluded r X w z) (sym (public-same p r h vk msg A)) ∙ sym (concluded-same p r h (publicFor p vk msg A) w z) ∙ e)
+
+  ended-good : (a : ℕ) (t : Attempted) (later : Answer) → ((b : List ℕ) → t ≡ made b → Good r vk msg A eA b)
+      → (later .status ≡ 0 → Good r vk msg A eA (later .signature)) → ended a t later .status ≡ 0 → Good r vk msg A eA (ended a t later .signature)
+  ended-good a (made b) later f g e = f b refl
+  ended-good a over later f g e = g e
+  ended-good a stuck later f g e = absurd (omega arith)
+
+  pub from-good : (T : Tapes) (left a : ℕ) (s : List ℕ) → signFrom p (publicFor p vk msg A) T left a s .status ≡ 0
+      → Good r vk msg A eA (signFrom p (publicFor p vk msg A) T left a s .signature)
+  unfolding signFrom
+  from-good T zero a s e = absurd (omega arith)
+  from-good T (suc left) a s e =
+      ended-good a (attempted p (publicFor p vk msg A) (noiseAt p T a) (maskAt T a) s)
+      (signFrom p (publicFor p vk msg A) T left (suc a) (refreshedKey p (noiseAt p T a) (maskAt T a) s))
+      (attempt-good (noiseAt p T a) (maskAt T a) s)
+      (from-good T left (suc a) (refreshedKey p (noiseAt p T a) (maskAt T a) s)) e

@@ -1,0 +1,150 @@
+-- Agreement: two units with equal sums at every coefficient have the same secret and the same noise totals, so that they answer alike.
+use mathlib.Core.Path.{_≡_, refl, sym, ap, _∙_}
+use mathlib.Core.Bool.{Bool, true, false}
+use mathlib.Core.List.{List}
+use mathlib.Core.Option.{Option, some, none}
+use Prim.Native.Nat.{ℕ, zero, suc, _+_, _*_, _%_, _<_}
+use native.Mathlib.Omega.{arith}
+use lib.Dec.{eqb}
+use lib.ListN.{getD}
+use Rattle.hash.specs.Lists.{pick}
+use Rattle.hash.specs.Params.{setIndex, orderIndex, rowAt, paramsOf}
+use Rattle.hash.specs.declared.params.Params.{Params}
+use Rattle.hash.specs.declared.params.Selected.{Selected}
+use Rattle.ring.specs.Words.{q, Words}
+use Rattle.ring.proofs.Sums.{same-residues}
+use Rattle.sharing.specs.Blocks.{block, build, sumN, total, totals}
+use Rattle.sharing.proofs.Decode.{words-sum, total-words, total-at, sumN-ext}
+use Rattle.sharing.proofs.Lists.{block-words, block-at, build-ext}
+use Rattle.signature.specs.Keys.{vkSeed}
+use Rattle.signature.specs.Matrix.{matrix}
+use Rattle.signature.specs.Sign.{Public}
+use Rattle.signature.specs.SignCalls.{publicFor}
+use Rattle.theorems.specs.Plain.{Totals, noiseTotal, totalsOf, plainFrom, plainNo, plainMade, plainGo, signPlain}
+use Rattle.theorems.specs.Unit.{UnitCall, signUnit, recordOf, wordAt, secretAt, noiseTotalAt, Fits, Sound, Alike, SameSecret, EqualTotals}
+use Rattle.theorems.proofs.ShareCount.{setOf, found-set, look-up, k-same, l-same, plain-same}
+use Rattle.theorems.proofs.Collapse.{secretOf, noiseOf, noiseTotals, shares-are, sign-plain, sign-unknown}
+use Rattle.theorems.proofs.NoiseTotals.{first-at, second-at}
+
+-- ---- the secret, place by place
+
+-- the sum of the d shares of polynomial i of n, at coefficient x
+total-words-at : (d n i : ℕ) (xs : List ℕ) → Words (n * (d * 512)) xs → i < n → (x : ℕ) → x < 512
+    → getD (total d (block (d * 512) i xs)) x 0 ≡ sumN d (λ (j : ℕ). getD xs (i * (d * 512) + (j * 512 + x)) 0) % q
+total-words-at d n i xs w h x lx =
+    total-at d (block (d * 512) i xs) (block-words n i xs w h) x lx
+    ∙ ap (λ (m : ℕ). m % q)
+    (sumN-ext d (λ (j : ℕ). getD (block 512 j (block (d * 512) i xs)) x 0) (λ (j : ℕ). getD xs (i * (d * 512) + (j * 512 + x)) 0)
+    (λ (j : ℕ) (lj : j < d). block-at 512 j (block (d * 512) i xs) x lx ∙ block-at (d * 512) i xs (j * 512 + x) (omega arith)))
+
+module _ (u : UnitCall) (p : Params) (is : recordOf u ≡ Selected.Found p) (h : Fits p u) where
+  secret-at : (i x : ℕ) → i < p .l → x < 512 → getD (total (p .shares) (block (p .shares * 512) i (u .words))) x 0 ≡ secretAt u i x
+  unfolding secretAt wordAt
+  secret-at i x li lx =
+      total-words-at (p .shares) (p .l) i (u .words) (h .share-words) li x lx
+      ∙ ap (λ (d : ℕ). sumN d (λ (j : ℕ). getD (u .words) (i * (d * 512) + (j * 512 + x)) 0) % q) (shares-are u p is h)
+
+-- ---- plain signing looks only at the totals of the allowed attempts
+
+plain-ext : (p : Params) (P : Public) (e f : ℕ → Totals) (left a : ℕ) (s : List ℕ) → ((b : ℕ) → b < a + left → e b ≡ f b)
+    → plainFrom p P e left a s ≡ plainFrom p P f left a s
+unfolding plainFrom
+plain-ext p P e f zero a s h = refl
+plain-ext p P e f (suc left) a s h =
+    cc (h a (omega arith), plain-ext p P e f left (suc a) s (λ (b : ℕ) (l : b < suc a + left). h b (omega arith)))
+
+module _ (p : Params) (vk : List ℕ) (n : ℕ) (msg s : List ℕ) (e f : ℕ → Totals) (h : (b : ℕ) → b < n → e b ≡ f b) where
+  made-ext : (o : Option (List ℕ)) → plainMade p vk n msg s e o ≡ plainMade p vk n msg s f o
+  made-ext none = refl
+  made-ext (some A) = plain-ext p (publicFor p vk msg A) e f n 0 s (λ (b : ℕ) (l : b < 0 + n). h b (omega arith))
+
+  go-ext : (m : ℕ) → plainGo m p vk n msg s e ≡ plainGo m p vk n msg s f
+  go-ext zero = made-ext (matrix p (vkSeed p vk))
+  go-ext (suc m) = refl
+
+  sign-ext : signPlain p vk n msg s e ≡ signPlain p vk n msg s f
+  unfolding signPlain
+  sign-ext = go-ext (plainNo p vk n msg)
+
+-- ---- two units
+
+-- lists of n polynomials, equal at every coefficient
+build-same : (n m : ℕ) (f g : ℕ → List ℕ) → n ≡ m → ((i : ℕ) → Words 512 (f i)) → ((i : ℕ) → Words 512 (g i))
+    → ((i x : ℕ) → i < n → x < 512 → getD (f i) x 0 ≡ getD (g i) x 0) → build n f ≡ build m g
+build-same n m f g e wf wg h =
+    build-ext n f g (λ (i : ℕ) (l : i < n). same-residues (f i) (g i) (wf i) (wg i) (λ (x : ℕ) (lx : x < 512). h i x l lx))
+    ∙ ap (λ (k : ℕ). build k g) e
+
+module _ (u v : UnitCall) (p r : Params) (iu : recordOf u ≡ Selected.Found p) (iv : recordOf v ≡ Selected.Found r)
+    (hu : Fits p u) (hv : Fits r v) (al : Alike u v) where
+  one-set : setOf p ≡ setOf r
+  one-set =
+      found-set (u .set) (u .shares) (u .edition) p iu .first-row
+      ∙ cc (al .sets, al .editions)
+      ∙ sym (found-set (v .set) (v .shares) (v .edition) r iv .first-row)
+
+  secret-same : SameSecret u v → secretOf p u ≡ secretOf r v
+  unfolding totals
+  secret-same s =
+      build-same (p .l) (r .l) (λ (i : ℕ). total (p .shares) (block (p .shares * 512) i (u .words))) (λ (i : ℕ). total (r .shares) (block (r .shares * 512) i (v .words)))
+      (l-same p r one-set)
+      (λ (i : ℕ). total-words (p .shares) (block (p .shares * 512) i (u .words))) (λ (i : ℕ). total-words (r .shares) (block (r .shares * 512) i (v .words)))
+      (λ (i x : ℕ) (l : i < p .l) (lx : x < 512).
+      let m : i < r .l = omega (arith, l-same p r one-set) in
+      secret-at u p iu hu i x l lx ∙ s .equal p iu i x l lx ∙ sym (secret-at v r iv hv i x m lx))
+
+  noise-same : EqualTotals u v → (a : ℕ) → a < u .attempts → noiseTotals p u a ≡ noiseTotals r v a
+  unfolding totalsOf
+  noise-same t a la =
+      let lb : a < v .attempts = omega (arith, al .attempts) in
+      let el : p .l ≡ r .l = l-same p r one-set in
+      let ek : p .k ≡ r .k = k-same p r one-set in
+      let first : build (p .l) (noiseTotal (p .shares) (noiseOf p u a .reps) (noiseOf p u a .first))
+      ≡ build (r .l) (noiseTotal (r .shares) (noiseOf r v a .reps) (noiseOf r v a .first)) =
+      build-same (p .l) (r .l) (noiseTotal (p .shares) (noiseOf p u a .reps) (noiseOf p u a .first)) (noiseTotal (r .shares) (noiseOf r v a .reps) (noiseOf r v a .first)) el
+      (λ (i : ℕ). words-sum 512 (noiseOf p u a .reps) (λ (t : ℕ). total (p .shares) (noiseOf p u a .first i t)))
+      (λ (i : ℕ). words-sum 512 (noiseOf r v a .reps) (λ (t : ℕ). total (r .shares) (noiseOf r v a .first i t)))
+      (λ (i x : ℕ) (l : i < p .l) (lx : x < 512).
+      first-at u p iu hu a x lx la i l ∙ t .equal p r iu iv a i x la (omega arith) lx ∙ sym (first-at v r iv hv a x lx lb i (omega (arith, el)))) in
+      let second : build (p .k) (noiseTotal (p .shares) (noiseOf p u a .reps) (noiseOf p u a .second))
+      ≡ build (r .k) (noiseTotal (r .shares) (noiseOf r v a .reps) (noiseOf r v a .second)) =
+      build-same (p .k) (r .k) (noiseTotal (p .shares) (noiseOf p u a .reps) (noiseOf p u a .second)) (noiseTotal (r .shares) (noiseOf r v a .reps) (noiseOf r v a .second)) ek
+      (λ (i : ℕ). words-sum 512 (noiseOf p u a .reps) (λ (t : ℕ). total (p .shares) (noiseOf p u a .second i t)))
+      (λ (i : ℕ). words-sum 512 (noiseOf r v a .reps) (λ (t : ℕ). total (r .shares) (noiseOf r v a .second i t)))
+      (λ (i x : ℕ) (l : i < p .k) (lx : x < 512).
+      second-at u p iu hu a x lx la i l ∙ t .equal p r iu iv a (p .l + i) x la (omega arith) lx
+      ∙ ap (λ (m : ℕ). noiseTotalAt r v a (m + i) x) el ∙ sym (second-at v r iv hv a x lx lb i (omega (arith, ek)))) in
+      cc (first, second)
+
+  -- of a known set
+  known-agree : SameSecret u v → EqualTotals u v → signUnit u ≡ signUnit v
+  known-agree s t =
+      let e1 : signUnit u ≡ signPlain p (u .vk) (u .attempts) (u .message) (secretOf p u) (noiseTotals p u) = sign-plain u p iu hu in
+      let e2 : signUnit v ≡ signPlain r (v .vk) (v .attempts) (v .message) (secretOf r v) (noiseTotals r v) = sign-plain v r iv hv in
+      let e3 : signPlain p (u .vk) (u .attempts) (u .message) (secretOf p u) (noiseTotals p u) ≡ signPlain p (u .vk) (u .attempts) (u .message) (secretOf p u) (noiseTotals r v) =
+      sign-ext p (u .vk) (u .attempts) (u .message) (secretOf p u) (noiseTotals p u) (noiseTotals r v) (noise-same t) in
+      let e4 : signPlain p (u .vk) (u .attempts) (u .message) (secretOf p u) (noiseTotals r v) ≡ signPlain r (u .vk) (u .attempts) (u .message) (secretOf p u) (noiseTotals r v) =
+      plain-same p r one-set (u .vk) (u .attempts) (u .message) (secretOf p u) (noiseTotals r v) in
+      let e5 : signPlain r (u .vk) (u .attempts) (u .message) (secretOf p u) (noiseTotals r v) ≡ signPlain r (v .vk) (v .attempts) (v .message) (secretOf r v) (noiseTotals r v) =
+      cc (secret-same s, al .keys, al .messages, al .attempts) in
+      e1 ∙ e3 ∙ e4 ∙ e5 ∙ sym e2
+
+-- AGREEMENT, the answers
+pub answers-agree : (u v : UnitCall) → Sound u → Sound v → Alike u v → SameSecret u v → EqualTotals u v → signUnit u ≡ signUnit v
+answers-agree u v hu hv al s t = go (eqb (setIndex (u .set)) 3) refl
+  where
+    look : (w : UnitCall) → Sound w → u .set ≡ w .set → (b : Bool) → eqb (setIndex (u .set)) 3 ≡ b
+        → recordOf w ≡ pick b Selected.NoSet (Selected.Found (paramsOf (rowAt (6 * setIndex (w .set) + orderIndex (w .shares))) (w .edition)))
+    look w h e b i =
+        look-up (w .set) (w .shares) (w .edition) (h .count)
+        ∙ ap (λ (c : Bool). pick c Selected.NoSet (Selected.Found (paramsOf (rowAt (6 * setIndex (w .set) + orderIndex (w .shares))) (w .edition))))
+        (ap (λ (x : ℕ). eqb (setIndex x) 3) (sym e) ∙ i)
+
+    go : (b : Bool) → eqb (setIndex (u .set)) 3 ≡ b → signUnit u ≡ signUnit v
+    go true i = sign-unknown u (look u hu refl true i) ∙ sym (sign-unknown v (look v hv (al .sets) true i))
+    go false i =
+        let p : Params = paramsOf (rowAt (6 * setIndex (u .set) + orderIndex (u .shares))) (u .edition) in
+        let r : Params = paramsOf (rowAt (6 * setIndex (v .set) + orderIndex (v .shares))) (v .edition) in
+        let iu : recordOf u ≡ Selected.Found p = look u hu refl false i in
+        let iv : recordOf v ≡ Selected.Found r = look v hv (al .sets) false i in
+        known-agree u v p r iu iv (hu .fits p iu) (hv .fits r iv) al s t

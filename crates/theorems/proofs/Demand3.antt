@@ -1,0 +1,83 @@
+-- Demand 3 of paper 01, over the definitions that the contracts of the calls cite.
+use mathlib.Core.Path.{_≡_, refl, sym, ap, _∙_}
+use mathlib.Core.List.{List}
+use Prim.Native.Nat.{ℕ}
+use borrow.Author.Tests.{eq-eqb}
+use lib.ListN.{take}
+use Rattle.hash.specs.Lists.{pick}
+use Rattle.hash.specs.Params.{lookupOf}
+use Rattle.hash.specs.declared.params.Edition.{Edition}
+use Rattle.hash.specs.declared.params.Params.{Params}
+use Rattle.hash.specs.declared.params.Selected.{Selected}
+use Rattle.signature.specs.Sign.{Answer, Tapes}
+use Rattle.signature.specs.SignCalls.{Key, Signing, leftBy, signOf, signCall}
+use Rattle.signature.specs.Verify.{verifyCall}
+use Rattle.theorems.specs.Unit.{UnitCall, tapesOf, signUnit, callUnit, Sound, Alike, SameSecret, EqualTotals}
+use Rattle.theorems.proofs.Agree.{answers-agree}
+use Rattle.theorems.proofs.AcceptCall.{known-accepted, found-with}
+
+-- The verifier accepts what is signed with an expanded key: whatever the set, share count, key, message, noise and masks, if signing returns 0,
+-- verifying that signature with that public key and message returns 0.
+pub accepted : (e : Edition) (set d : ℕ) (vk words : List ℕ) (n : ℕ) (msg : List ℕ) (T : Tapes) (out work : List ℕ)
+    → signOf e set d (Key.expanded vk words) n msg T out work .status ≡ 0
+    → verifyCall e set vk msg (signOf e set d (Key.expanded vk words) n msg T out work .signature) ≡ 0
+accepted e set d vk words n msg T out work h =
+    let f = found-with e set d (Key.expanded vk words) n msg T out work h in
+    known-accepted e set d (f .0) (f .1) (Key.expanded vk words) n msg T out work h
+
+-- It accepts what is signed with a signing key too; the public key is the signing key's front.
+pub accepted-packed : (e : Edition) (set d : ℕ) (p : Params) → lookupOf set d e ≡ Selected.Found p
+    → (key : List ℕ) (n : ℕ) (msg : List ℕ) (T : Tapes) (out work : List ℕ)
+    → signOf e set d (Key.packed key) n msg T out work .status ≡ 0
+    → verifyCall e set (take (p .«vk_bytes») key) msg (signOf e set d (Key.packed key) n msg T out work .signature) ≡ 0
+accepted-packed e set d p is key n msg T out work h = known-accepted e set d p is (Key.packed key) n msg T out work h
+
+pub accepted-unit : (u : UnitCall) → signUnit u .status ≡ 0 → verifyCall (u .edition) (u .set) (u .vk) (u .message) (signUnit u .signature) ≡ 0
+unfolding signUnit
+accepted-unit u h = accepted (u .edition) (u .set) (u .shares) (u .vk) (u .words) (u .attempts) (u .message) (tapesOf u) (u .result) (u .work) h
+
+-- Two units alike in set, public key, message and allowed attempts, each with an expanded key of any of the six share counts; their shares add to
+-- the same secret, and in every allowed attempt their noise adds to equal totals at every coefficient. Whatever the share counts, the sharings, the
+-- mask seeds and what the buffers held, both from seeds, both with explicit noise or one and one: status, attempts and signature are the same,
+-- after a refusal too; and with 0 the verifier accepts the signature.
+pub agreement : (u v : UnitCall) → Sound u → Sound v → Alike u v → SameSecret u v → EqualTotals u v
+    → (signUnit u ≡ signUnit v) × (signUnit u .status ≡ 0 → verifyCall (u .edition) (u .set) (u .vk) (u .message) (signUnit u .signature) ≡ 0)
+agreement u v hu hv al s t = (answers-agree u v hu hv al s t, accepted-unit u)
+
+-- ---- the same, of what the calls give and leave
+
+-- equal status and attempts; with 0 the result buffers hold the same signature, which the verifier accepts
+pub record Agreed (u v : UnitCall) : Type 0 where
+  pub status : callUnit u .status ≡ callUnit v .status
+  pub attempts : callUnit u .attempts ≡ callUnit v .attempts
+  pub bytes : callUnit u .status ≡ 0 → callUnit u .bytes ≡ callUnit v .bytes
+  pub verified : callUnit u .status ≡ 0 → verifyCall (u .edition) (u .set) (u .vk) (u .message) (callUnit u .bytes) ≡ 0
+
+-- what a call leaves in its result buffer with 0
+left-is : (u : UnitCall) → callUnit u ≡ leftBy (signUnit u) (u .result) (u .work)
+unfolding callUnit signUnit signCall
+left-is u = refl
+
+left-bytes : (A : Answer) (out work : List ℕ) → A .status ≡ 0 → leftBy A out work .bytes ≡ A .signature
+left-bytes A out work e = ap (λ b. pick b (A .signature) out) (eq-eqb (A .status) 0 e)
+
+bytes-are : (u : UnitCall) → callUnit u .status ≡ 0 → callUnit u .bytes ≡ signUnit u .signature
+bytes-are u h =
+    let l : callUnit u ≡ leftBy (signUnit u) (u .result) (u .work) = left-is u in
+    ap (λ (s : Signing). s .bytes) l ∙ left-bytes (signUnit u) (u .result) (u .work) (ap (λ (s : Signing). s .status) (sym l) ∙ h)
+
+pub results-agree : (u v : UnitCall) → Sound u → Sound v → Alike u v → SameSecret u v → EqualTotals u v → Agreed u v
+results-agree u v hu hv al s t =
+    let p : signUnit u ≡ signUnit v = answers-agree u v hu hv al s t in
+    let lu : callUnit u ≡ leftBy (signUnit u) (u .result) (u .work) = left-is u in
+    let lv : callUnit v ≡ leftBy (signUnit v) (v .result) (v .work) = left-is v in
+    let st : callUnit u .status ≡ callUnit v .status = cc (p, lu, lv) in
+    let at : callUnit u .attempts ≡ callUnit v .attempts = cc (p, lu, lv) in
+    record {
+      status = st;
+      attempts = at;
+      bytes = λ (h : callUnit u .status ≡ 0). bytes-are u h ∙ ap (λ (A : Answer). A .signature) p ∙ sym (bytes-are v (sym st ∙ h));
+      verified = λ (h : callUnit u .status ≡ 0).
+          ap (verifyCall (u .edition) (u .set) (u .vk) (u .message)) (bytes-are u h)
+          ∙ accepted-unit u (ap (λ (x : Signing). x .status) (sym lu) ∙ h);
+    }

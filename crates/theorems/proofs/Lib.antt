@@ -1,0 +1,14 @@
+pub mod Accept
+pub mod AcceptCall
+pub mod Agree
+pub mod Checks
+pub mod Collapse
+pub mod Demand3
+pub mod Exactly
+pub mod Hint
+pub mod Instances
+pub mod NoiseTotals
+pub mod ShareCount
+pub mod Sound
+pub mod Steps
+pub mod Tape

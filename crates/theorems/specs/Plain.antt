@@ -1,0 +1,65 @@
+-- Plain signing: Algorithm 2 of paper 000 on sums. One secret instead of d shares, the totals of the noise instead of its shares, no masking.
+-- From line 9 on it is the text of signing itself (`concluded`). Of the record of the parameter table it looks at nothing that depends on the
+-- share count.
+use mathlib.Core.List.{List, []}
+use mathlib.Core.Option.{Option, some, none}
+use Prim.Native.Nat.{ℕ, zero, suc}
+use Rattle.hash.specs.declared.params.Params.{Params}
+use Rattle.ring.specs.Words.{addW}
+use Rattle.ring.specs.Transform.{intt, mul}
+use Rattle.sharing.specs.Blocks.{block, build, sumOf, total}
+use Rattle.signature.specs.Checks.{ask, publicKeySized, publicKeyGood, attemptsAllowed, messageSized}
+use Rattle.signature.specs.Keys.{vkSeed}
+use Rattle.signature.specs.Masked.{Noise}
+use Rattle.signature.specs.Matrix.{matrix}
+use Rattle.signature.specs.Recover.{productRow}
+use Rattle.signature.specs.Sign.{Public, Attempted, Answer, answer, concluded, ended}
+use Rattle.signature.specs.SignCalls.{publicFor}
+
+-- the noise totals of an attempt (01): r, l polynomials, and what is added to A r, k polynomials
+pub record Totals : Type 0 where
+  pub first : List ℕ
+  pub second : List ℕ
+
+-- .. of a sharing's noise: the sum modulo q over repetitions and shares, polynomial by polynomial
+abbrev pub noiseTotal : ℕ → ℕ → (ℕ → ℕ → List ℕ) → ℕ → List ℕ
+noiseTotal d r f i = sumOf 512 r (λ (t : ℕ). total d (f i t))
+
+unfoldable pub totalsOf : Params → Noise → Totals
+totalsOf p N =
+    record {
+      first = build (p .l) (noiseTotal (p .shares) (N .reps) (N .first));
+      second = build (p .k) (noiseTotal (p .shares) (N .reps) (N .second));
+    }
+
+-- lines 4 to 8: w = A r + its noise
+unfoldable pub plainCommitment : Params → List ℕ → Totals → List ℕ
+plainCommitment p A e = build (p .k) (λ (i : ℕ). addW (productRow (p .l) A (e .first) i) (block 512 i (e .second)))
+
+-- lines 12 to 16: z = c s + r; s is held in the transform domain
+unfoldable pub plainResponse : Params → List ℕ → Totals → List ℕ → List ℕ
+plainResponse p s e c = build (p .l) (λ (i : ℕ). addW (mul c (intt (block 512 i s))) (block 512 i (e .first)))
+
+unfoldable pub plainAttempt : Params → Public → List ℕ → Totals → Attempted
+plainAttempt p P s e = concluded p P (plainCommitment p (P .matrix) e) (plainResponse p s e)
+
+-- `left` attempts from number a + 1, with the same secret s each time; e a are the totals of attempt number a + 1
+unfoldable pub plainFrom : Params → Public → (ℕ → Totals) → ℕ → ℕ → List ℕ → Answer
+plainFrom p P e zero a s = answer 12 a []
+plainFrom p P e (suc left) a s = ended a (plainAttempt p P s (e a)) (plainFrom p P e left (suc a) s)
+
+-- ---- the call, of a record that was looked up (check 1): checks 3 and 4 of the public key, 6, 9, 10. No check looks at a share
+
+unfoldable pub plainNo : Params → List ℕ → ℕ → List ℕ → ℕ
+plainNo p vk n msg = ask 3 (publicKeySized p vk) (ask 4 (publicKeyGood p vk) (ask 6 (attemptsAllowed n) (ask 9 (messageSized msg) 0)))
+
+abbrev pub plainMade : Params → List ℕ → ℕ → List ℕ → List ℕ → (ℕ → Totals) → Option (List ℕ) → Answer
+plainMade p vk n msg s e none = answer 10 0 []
+plainMade p vk n msg s e (some A) = plainFrom p (publicFor p vk msg A) e n 0 s
+
+abbrev pub plainGo : ℕ → Params → List ℕ → ℕ → List ℕ → List ℕ → (ℕ → Totals) → Answer
+plainGo zero p vk n msg s e = plainMade p vk n msg s e (matrix p (vkSeed p vk))
+plainGo (suc m) p vk n msg s e = answer (suc m) 0 []
+
+unfoldable pub signPlain : Params → List ℕ → ℕ → List ℕ → List ℕ → (ℕ → Totals) → Answer
+signPlain p vk n msg s e = plainGo (plainNo p vk n msg) p vk n msg s e
