@@ -1,6 +1,6 @@
 //! The proved code through its C exports. A slice passes as a pointer and a length, a reference to an array as a pointer.
 
-use crate::independent::raccoon::Edition;
+use crate::independent::raccoon::{Edition, Noise};
 use crate::independent::ring::{Poly, N};
 
 mod raw {
@@ -29,6 +29,26 @@ mod raw {
             set: u32, shares: u32, bytes: *const u8, bytes_len: usize, words: *const u64, words_len: usize, mask_seed: *const u8, mask_len: usize,
             bytes_out: *mut u8, bytes_out_len: usize, words_out: *mut u64, words_out_len: usize,
         ) -> u32;
+        pub fn raccoon_sign(
+            set: u32, shares: u32, attempts: u32, key: *const u8, key_len: usize, message: *const u8, message_len: usize,
+            noise_seeds: *const u8, noise_len: usize, mask_seeds: *const u8, mask_len: usize, signature_out: *mut u8, signature_len: usize, work: *mut u64, work_len: usize,
+        ) -> super::Signed;
+        pub fn raccoon_sign_expanded(
+            set: u32, shares: u32, attempts: u32, bytes: *const u8, bytes_len: usize, words: *const u64, words_len: usize, message: *const u8, message_len: usize,
+            noise_seeds: *const u8, noise_len: usize, mask_seeds: *const u8, mask_len: usize, signature_out: *mut u8, signature_len: usize, work: *mut u64, work_len: usize,
+        ) -> super::Signed;
+        pub fn raccoon_sign_explicit(
+            set: u32, shares: u32, attempts: u32, key: *const u8, key_len: usize, message: *const u8, message_len: usize,
+            noise_words: *const u64, noise_len: usize, mask_seeds: *const u8, mask_len: usize, signature_out: *mut u8, signature_len: usize, work: *mut u64, work_len: usize,
+        ) -> super::Signed;
+        pub fn raccoon_sign_expanded_explicit(
+            set: u32, shares: u32, attempts: u32, bytes: *const u8, bytes_len: usize, words: *const u64, words_len: usize, message: *const u8, message_len: usize,
+            noise_words: *const u64, noise_len: usize, mask_seeds: *const u8, mask_len: usize, signature_out: *mut u8, signature_len: usize, work: *mut u64, work_len: usize,
+        ) -> super::Signed;
+        pub fn raccoon_kat_sign(
+            set: u32, shares: u32, attempts: u32, key: *const u8, key_len: usize, message: *const u8, message_len: usize,
+            noise_seeds: *const u8, noise_len: usize, mask_seeds: *const u8, mask_len: usize, signature_out: *mut u8, signature_len: usize, work: *mut u64, work_len: usize,
+        ) -> super::Signed;
         pub fn raccoon_verify(
             set: u32, public_key: *const u8, key_len: usize, message: *const u8, message_len: usize, signature: *const u8, signature_len: usize,
         ) -> u32;
@@ -140,4 +160,60 @@ pub fn verify(edition: Edition, set: u32, public_key: &[u8], message: &[u8], sig
         Edition::Kat => raw::raccoon_kat_verify,
     };
     unsafe { call(set, public_key.as_ptr(), public_key.len(), message.as_ptr(), message.len(), signature.as_ptr(), signature.len()) }
+}
+
+/// What signing reports: the status, and the attempt that passed (with 12 all attempts, with 11 the attempt that met it, else 0).
+#[repr(C)]
+#[derive(Clone, Copy, PartialEq, Eq, Debug)]
+pub struct Signed {
+    pub status: u32,
+    pub attempts: u32,
+}
+
+/// A key that is lent to signing: a signing key, or the bytes and words of an expanded key.
+#[derive(Clone, Copy)]
+pub enum Key<'a> {
+    Packed(&'a [u8]),
+    Expanded(&'a [u8], &'a [u64]),
+}
+
+/// What signing is lent to read. Noise and masks are those of all attempts.
+#[derive(Clone, Copy)]
+pub struct Signing<'a> {
+    pub set: u32,
+    pub shares: u32,
+    pub attempts: u32,
+    pub key: Key<'a>,
+    pub message: &'a [u8],
+    pub noise: Noise<'a>,
+    pub mask_seeds: &'a [u8],
+}
+
+/// Signing. With 0 the result holds the signature, else it is as it was; the work buffer is zero but after refusals 1 to 8.
+///
+/// The edition of the response files takes a signing key and noise seeds only.
+pub fn sign(edition: Edition, input: &Signing, signature: &mut [u8], work: &mut [u64]) -> Signed {
+    let &Signing { set, shares, attempts, key, message, noise, mask_seeds: m } = input;
+    let (s, w) = ((signature.as_mut_ptr(), signature.len()), (work.as_mut_ptr(), work.len()));
+    let (text, n) = (message.as_ptr(), message.len());
+    unsafe {
+        match (edition, key, noise) {
+            (Edition::Printed, Key::Packed(k), Noise::Seeds(r)) => raw::raccoon_sign(
+                set, shares, attempts, k.as_ptr(), k.len(), text, n, r.as_ptr(), r.len(), m.as_ptr(), m.len(), s.0, s.1, w.0, w.1,
+            ),
+            (Edition::Printed, Key::Packed(k), Noise::Words(r)) => raw::raccoon_sign_explicit(
+                set, shares, attempts, k.as_ptr(), k.len(), text, n, r.as_ptr(), r.len(), m.as_ptr(), m.len(), s.0, s.1, w.0, w.1,
+            ),
+            (Edition::Printed, Key::Expanded(b, x), Noise::Seeds(r)) => raw::raccoon_sign_expanded(
+                set, shares, attempts, b.as_ptr(), b.len(), x.as_ptr(), x.len(), text, n, r.as_ptr(), r.len(), m.as_ptr(), m.len(), s.0, s.1, w.0, w.1,
+            ),
+            (Edition::Printed, Key::Expanded(b, x), Noise::Words(r)) => raw::raccoon_sign_expanded_explicit(
+                set, shares, attempts, b.as_ptr(), b.len(), x.as_ptr(), x.len(), text, n, r.as_ptr(), r.len(), m.as_ptr(), m.len(), s.0, s.1, w.0, w.1,
+            ),
+            (Edition::Kat, Key::Packed(k), Noise::Seeds(r)) => raw::raccoon_kat_sign(
+                set, shares, attempts, k.as_ptr(), k.len(), text, n, r.as_ptr(), r.len(), m.as_ptr(), m.len(), s.0, s.1, w.0, w.1,
+            ),
+            (Edition::Kat, _, _) => panic!("the edition of the response files has no such call"),
+        }
+    }
 }

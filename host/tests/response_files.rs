@@ -1,43 +1,70 @@
-//! The first tests of the submission's 18 response files, and of the same with the printed text: SHA-256 of pk, sk and sm.
+//! The first tests of the submission's 18 response files, and of the same with the printed text, by the independent implementation and by the
+//! unit: SHA-256 of pk, sk and sm. And three whole files by the unit.
 
-use koivrast_host::independent::drbg::{tests, Drbg};
 use koivrast_host::independent::raccoon::{expand, keygen, sign, verify, Edition, Noise, Params};
 use koivrast_host::known::{digest, hex, response_tests};
+use koivrast_host::response::{self, Inputs, Test};
 
-/// Seeds of kappa bits, drawn one by one.
-fn seeds(p: &Params, drbg: &mut Drbg, bytes: usize) -> Vec<u8> {
-    (0..bytes / p.seed_bytes()).flat_map(|_| drbg.bytes(p.seed_bytes())).collect()
-}
-
-fn check(file: &str, edition: Edition) {
-    let inputs = tests(3);
+/// Makes the first three tests of each file.
+fn check(file: &str, edition: Edition, make: impl Fn(&Params, &Inputs) -> Test) {
     let all = response_tests(file);
     assert_eq!(all.len(), 18 * 3);
-    for ((set, d, count), answers) in all {
+    for tests in all.chunks_exact(3) {
+        let ((set, d, _), _) = tests[0];
         let p = Params::new(set, d, edition).unwrap();
-        let (entropy, message) = &inputs[count];
-        assert_eq!(hex(entropy).to_uppercase(), answers["seed"]);
-        let mut drbg = Drbg::new(entropy);
-        let key = keygen(&p, &seeds(&p, &mut drbg, p.keygen_bytes()), &[7; 32]).unwrap();
-        let vk = &key[..p.vk_bytes()];
-        assert_eq!(digest(vk), answers["pk"], "pk of {set}-{d}, test {count}");
-        assert_eq!(digest(&key), answers["sk"], "sk of {set}-{d}, test {count}");
-        let noise = seeds(&p, &mut drbg, p.noise_bytes());
-        let words = expand(&p, &key).unwrap();
-        let (status, attempts, signature) = sign(&p, vk, &words, message, &[(Noise::Seeds(&noise), &[9; 32])]);
-        assert_eq!((status, attempts), (0, 1));
-        let signature = signature.unwrap();
-        assert_eq!(verify(set, edition, vk, message, &signature), 0);
-        assert_eq!(digest(&[&signature[..], message].concat()), answers["sm"], "sm of {set}-{d}, test {count}");
+        for (number, (input, (name, answers))) in response::inputs(&p, 3).iter().zip(tests).enumerate() {
+            assert_eq!(*name, (set, d, number));
+            assert_eq!(hex(&input.entropy).to_uppercase(), answers["seed"]);
+            let test = make(&p, input);
+            assert_eq!(digest(&test.pk), answers["pk"], "pk of {set}-{d}, test {number}");
+            assert_eq!(digest(&test.sk), answers["sk"], "sk of {set}-{d}, test {number}");
+            assert_eq!(digest(&test.sm), answers["sm"], "sm of {set}-{d}, test {number}");
+        }
     }
+}
+
+fn independent(p: &Params, input: &Inputs) -> Test {
+    let key = keygen(p, &input.key_seeds, &[7; 32]).unwrap();
+    let vk = &key[..p.vk_bytes()];
+    let words = expand(p, &key).unwrap();
+    let (status, attempts, signature) = sign(p, vk, &words, &input.message, &[(Noise::Seeds(&input.noise_seeds), &[9; 32])]);
+    assert_eq!((status, attempts), (0, 1));
+    let signature = signature.unwrap();
+    assert_eq!(verify(p.kappa, p.edition, vk, &input.message, &signature), 0);
+    Test { pk: vk.to_vec(), sm: [&signature[..], &input.message].concat(), sk: key }
+}
+
+fn unit(p: &Params, input: &Inputs) -> Test {
+    response::made(p, input, &[11; 32]).unwrap()
 }
 
 #[test]
 fn independent_implementation_makes_the_response_files() {
-    check(include_str!("data/response-files.txt"), Edition::Kat);
+    check(include_str!("data/response-files.txt"), Edition::Kat, independent);
 }
 
 #[test]
 fn independent_implementation_follows_the_printed_text() {
-    check(include_str!("data/printed-text.txt"), Edition::Printed);
+    check(include_str!("data/printed-text.txt"), Edition::Printed, independent);
+}
+
+#[test]
+fn unit_makes_the_response_files() {
+    check(include_str!("data/response-files.txt"), Edition::Kat, unit);
+}
+
+#[test]
+fn unit_follows_the_printed_text() {
+    check(include_str!("data/printed-text.txt"), Edition::Printed, unit);
+}
+
+/// All 100 tests of a file, to the byte. The other files are made by the program `response_files`.
+#[test]
+fn whole_response_files_of_one_share() {
+    let all = response::digests();
+    assert_eq!(all.len(), 18);
+    for (set, d, expected) in all.into_iter().filter(|(_, d, _)| *d == 1) {
+        let p = Params::new(set, d, Edition::Kat).unwrap();
+        assert_eq!(digest(response::file(&p, 100).unwrap().as_bytes()), expected, "{set}-{d}");
+    }
 }

@@ -1,7 +1,8 @@
 //! Times the proved code beside the independent implementation, turn by turn in one run, and prints the best of each.
 
-use koivrast_host::independent::raccoon::{self, Edition, Params};
+use koivrast_host::independent::raccoon::{self, Edition, Noise, Params};
 use koivrast_host::independent::{keccak, ring};
+use koivrast_host::known::xof;
 use koivrast_host::unit;
 use std::hint::black_box;
 use std::time::Instant;
@@ -77,6 +78,8 @@ fn main() {
     assert_eq!(d, e);
     ring_rows(permutation.0);
     key_rows(permutation.0);
+    verify_rows();
+    sign_rows();
 }
 
 /// The ring, by the same method on both sides: residues of the two primes, butterflies in place.
@@ -159,4 +162,48 @@ fn key_rows(permutation: f64) {
     // 80 masking polynomials for each of the l sharings, 17 words to a permutation
     let permutations = (p.l * 80 * ring::N) as f64 / 17.0;
     println!("{:<44} {:>10.2}", "  of that, its permutations", refreshing.0 / permutation / permutations);
+}
+
+/// Verifying at each set: a signature that is accepted, of a message of 100 bytes.
+fn verify_rows() {
+    for set in [128, 192, 256] {
+        let p = Params::new(set, 1, Edition::Printed).unwrap();
+        let key = raccoon::keygen(&p, &xof("seeds", p.keygen_bytes()), &[6; 32]).unwrap();
+        let (vk, message, noise) = (&key[..p.vk_bytes()], xof("message", 100), xof("noise", p.noise_bytes()));
+        let words = raccoon::expand(&p, &key).unwrap();
+        let signature = raccoon::sign(&p, vk, &words, &message, &[(Noise::Seeds(&noise), &[8; 32])]).2.unwrap();
+        let verifying = best_of(
+            20,
+            || assert_eq!(unit::verify(Edition::Printed, set as u32, black_box(vk), &message, &signature), 0),
+            || assert_eq!(raccoon::verify(set, Edition::Printed, black_box(vk), &message, &signature), 0),
+        );
+        row(&format!("verifying, set {set}"), verifying);
+    }
+}
+
+/// Signing with an expanded key, from seeds, in one attempt.
+fn sign_rows() {
+    for (set, d) in [(128, 1), (128, 8), (256, 32)] {
+        let p = Params::new(set, d, Edition::Printed).unwrap();
+        let key = raccoon::keygen(&p, &xof("seeds", p.keygen_bytes()), &[6; 32]).unwrap();
+        let (vk, message, noise) = (&key[..p.vk_bytes()], xof("message", 100), xof("noise", p.noise_bytes()));
+        let words = raccoon::expand(&p, &key).unwrap();
+        let (mut signature, mut work, mut other) = (vec![0u8; p.sig_bytes], vec![0u64; p.work_words()], vec![]);
+        let input = unit::Signing {
+            set: set as u32,
+            shares: d as u32,
+            attempts: 1,
+            key: unit::Key::Expanded(vk, &words),
+            message: &message,
+            noise: Noise::Seeds(&noise),
+            mask_seeds: &[8; 32],
+        };
+        let signing = best_of(
+            20,
+            || assert_eq!(unit::sign(Edition::Printed, black_box(&input), &mut signature, &mut work), unit::Signed { status: 0, attempts: 1 }),
+            || other = raccoon::sign(&p, black_box(vk), &words, &message, &[(Noise::Seeds(&noise), &[8; 32])]).2.unwrap(),
+        );
+        row(&format!("signing with an expanded key of {set}-{d}"), signing);
+        assert_eq!(signature, other);
+    }
 }
