@@ -136,7 +136,7 @@ pub extern "C" fn raccoon_sign(
 ) -> Signed
     ensures { λ r. ⌜ signing (r .status) (r .attempts) (now («signature_out» .exit)) (now (work .exit)) ≡ signCall Edition.Printed set shares (packed (now (key .entry))) attempts (now (message .entry)) (record { explicit = false; noise = now («noise_seeds» .entry); masks = now («mask_seeds» .entry) }) (now («signature_out» .entry)) (now (work .entry)) ⌝ }
 {
-    signature::sign::sign(
+    let answer = signature::sign::sign(
         set as u64,
         shares as u64,
         hash::params::Edition::Printed,
@@ -147,7 +147,8 @@ pub extern "C" fn raccoon_sign(
         mask_seeds,
         signature_out,
         work,
-    )
+    );
+    answer
 }
 
 // The same in the edition of the response files.
@@ -280,13 +281,14 @@ pub extern "C" fn raccoon_verify(
 ) -> u32
     ensures { λ r. ⌜ r ≡ verifyCall Edition.Printed set (now («public_key» .entry)) (now (message .entry)) (now (signature .entry)) ⌝ }
 {
-    signature::verify::verify(
+    let verdict = signature::verify::verify(
         set as u64,
         hash::params::Edition::Printed,
         public_key,
         message,
         signature,
-    )
+    );
+    verdict
 }
 
 // The same for a signature of the response files.
