@@ -22,9 +22,9 @@ use Rattle.signature.specs.Keys.{vkSeed}
 use Rattle.signature.specs.Masked.{Noise}
 use Rattle.signature.specs.Matrix.{matrix, filled}
 use Rattle.signature.specs.Recover.{muOf}
-use Rattle.signature.specs.Sign.{Attempted, made, over, stuck, Answer, answer, Tapes, signedFields, finished, refreshedKey, attempted, noiseAt, maskAt, signFrom}
+use Rattle.signature.specs.Sign.{Attempted, made, over, stuck, Answer, answer, Tapes, signedFields, finished, attempted, signFrom}
 use Rattle.signature.specs.SignCalls.{signMade}
-use Rattle.signature.specs.SignSteps.{publicBy, EndedAs, kept}
+use Rattle.signature.specs.SignSteps.{publicBy, EndedAt, kept}
 use Rattle.signature.specs.declared.challenge.Challenged.{Challenged}
 use Rattle.signature.specs.declared.sign.AttemptEnd.{AttemptEnd}
 use Rattle.signature.proofs.Attempts.{left-stuck, left-on, sign-pass, sign-stuck, sign-next, sign-none}
@@ -123,23 +123,23 @@ module _ (p : Params) (vk mu msg : List ℕ) (T : Tapes) (n : ℕ) (s₀ out : L
 
     -- attempt number a + 1 told r, and left k and ys
     module _ (l : a < n) (r : AttemptEnd) (k xs ys : List ℕ) (o : xs ≡ out)
-        (w : EndedAs r (matrix p (vkSeed p vk)) (λ (A : List ℕ). attempted p (publicBy p vk mu A) (noiseAt p T a) (maskAt T a) s) (refreshedKey p (noiseAt p T a) (maskAt T a) s) k xs ys) where
-      abbrev Told : AttemptEnd → Type 0
-      Told x = EndedAs x (matrix p (vkSeed p vk)) (λ (A : List ℕ). attempted p (publicBy p vk mu A) (noiseAt p T a) (maskAt T a) s) (refreshedKey p (noiseAt p T a) (maskAt T a) s) k xs ys
+        (w : EndedAt p vk mu T a s r k xs ys) where
+      told : {x : AttemptEnd} → r ≡ x → EndedAt p vk mu T a s x k xs ys
+      told t = subst (λ (x : AttemptEnd). EndedAt p vk mu T a s x k xs ys) t w
 
       more : n - a ≡ suc (n - (a + 1))
       more = omega (arith, l)
 
       pub all-pass : r ≡ AttemptEnd.Made → answer 0 (a + 1) ys ≡ kept (signMade p vk msg T n (matrix p (vkSeed p vk)) (some s₀)) out
       all-pass t =
-          let v = subst Told t w in
+          let v = told t in
           ap (λ (X : Answer). kept X out)
           (sym (all-some (matrix p (vkSeed p vk)) (v .0) (answer 0 (a + 1) ys) (λ (A : List ℕ) h. i A h ∙ sign-pass p (publicBy p vk mu A) T (n - a) (n - (a + 1)) a s more ys (v .1 A h))))
 
       -- check 11
       pub all-stuck : r ≡ AttemptEnd.Stuck → answer 11 (a + 1) ys ≡ kept (signMade p vk msg T n (matrix p (vkSeed p vk)) (some s₀)) out
       all-stuck t =
-          let v = subst Told t w in
+          let v = told t in
           ap (answer 11 (a + 1)) (v .2 ∙ o)
           ∙ ap (λ (X : Answer). kept X out)
           (sym (all-some (matrix p (vkSeed p vk)) (v .0) (answer 11 (a + 1) []) (λ (A : List ℕ) h. i A h ∙ sign-stuck p (publicBy p vk mu A) T (n - a) (n - (a + 1)) a s more (v .1 A h))))
@@ -147,20 +147,17 @@ module _ (p : Params) (vk mu msg : List ℕ) (T : Tapes) (n : ℕ) (s₀ out : L
       -- check 10
       pub all-unfilled : r ≡ AttemptEnd.Unfilled → answer 10 0 ys ≡ kept (signMade p vk msg T n (matrix p (vkSeed p vk)) (some s₀)) out
       all-unfilled t =
-          let v = subst Told t w in
+          let v = told t in
           ap (answer 10 0) (v .1 ∙ o) ∙ ap (λ (X : Answer). kept X out) (sym (all-none (matrix p (vkSeed p vk)) (v .0)))
 
 -- the next attempt begins with the shares k
 module _ (p : Params) (vk mu : List ℕ) (T : Tapes) (n a : ℕ) (s₀ s out : List ℕ)
     (i : (A : List ℕ) → matrix p (vkSeed p vk) ≡ some A → signFrom p (publicBy p vk mu A) T n 0 s₀ ≡ signFrom p (publicBy p vk mu A) T (n - a) a s)
     (l : a < n) (r : AttemptEnd) (k xs ys : List ℕ) (o : xs ≡ out)
-    (w : EndedAs r (matrix p (vkSeed p vk)) (λ (A : List ℕ). attempted p (publicBy p vk mu A) (noiseAt p T a) (maskAt T a) s) (refreshedKey p (noiseAt p T a) (maskAt T a) s) k xs ys) where
+    (w : EndedAt p vk mu T a s r k xs ys) where
   pub all-next : r ≡ AttemptEnd.Over → (ys ≡ out) × (filled (matrix p (vkSeed p vk)) ≡ true)
       × ((A : List ℕ) → matrix p (vkSeed p vk) ≡ some A → signFrom p (publicBy p vk mu A) T n 0 s₀ ≡ signFrom p (publicBy p vk mu A) T (n - (a + 1)) (a + 1) k)
   all-next t =
-      let v =
-      subst
-      (λ (x : AttemptEnd). EndedAs x (matrix p (vkSeed p vk)) (λ (A : List ℕ). attempted p (publicBy p vk mu A) (noiseAt p T a) (maskAt T a) s) (refreshedKey p (noiseAt p T a) (maskAt T a) s) k xs ys)
-      t w in
+      let v = subst (λ (x : AttemptEnd). EndedAt p vk mu T a s x k xs ys) t w in
       let more : n - a ≡ suc (n - (a + 1)) = omega (arith, l) in
       (v .3 ∙ o, v .0, λ (A : List ℕ) h. i A h ∙ sign-next p (publicBy p vk mu A) T (n - a) (n - (a + 1)) a s more k (v .2) (v .1 A h))

@@ -15,9 +15,9 @@ ghost use Rattle.signature.specs.Keys.{vkSeed, vkVector};
 ghost use Rattle.signature.specs.Matrix.{matrix};
 ghost use Rattle.signature.specs.Opening.{Listed};
 ghost use Rattle.signature.specs.Recover.{muOf};
-ghost use Rattle.signature.specs.Sign.{answer, attempted, noiseAt, maskAt, refreshedKey};
+ghost use Rattle.signature.specs.Sign.{answer};
 ghost use Rattle.signature.specs.SignCalls.{packed, expanded, publicOf, sharesOf, tapesGood, signNo, signMade, signGo, signing, leftBy, signCall};
-ghost use Rattle.signature.specs.SignSteps.{publicBy, EndedAs, kept};
+ghost use Rattle.signature.specs.SignSteps.{EndedAt, kept};
 ghost use Rattle.signature.specs.Table.{Tabled};
 use crate::attempt::answer;
 use crate::commit::commit;
@@ -40,6 +40,7 @@ pub(crate) enum AttemptEnd {
 }
 
 // What signing answers: the status, and the attempts that it reports.
+#[repr(C)]
 pub struct Signed {
     pub status: u32,
     pub attempts: u32,
@@ -62,7 +63,7 @@ fn attempt(
     requires { ⌜ (length (now vk) ≡ p .«vk_bytes») × Below 125 (vkVector p (now vk)) × (length (now out) ≡ p .«sig_bytes») ⌝ }
     requires { ⌜ Within p (tapesOf explicit (now seeds) (now noise) (now «mask_seeds»)) a ⌝ }
     ensures { λ r. ⌜ (length (now (work .exit)) ≡ length (now (work .entry))) × Below q (now (work .exit)) ⌝ }
-    ensures { λ r. ⌜ EndedAs r (matrix p (vkSeed p (now (vk .entry)))) (λ (A : List ℕ). attempted p (publicBy p (now (vk .entry)) (now (mu .entry)) A) (noiseAt p (tapesOf explicit (now (seeds .entry)) (now (noise .entry)) (now («mask_seeds» .entry))) a) (maskAt (tapesOf explicit (now (seeds .entry)) (now (noise .entry)) (now («mask_seeds» .entry))) a) (sub (now (work .entry)) (atS (p .shares)) (p .l * (p .shares * 512)))) (refreshedKey p (noiseAt p (tapesOf explicit (now (seeds .entry)) (now (noise .entry)) (now («mask_seeds» .entry))) a) (maskAt (tapesOf explicit (now (seeds .entry)) (now (noise .entry)) (now («mask_seeds» .entry))) a) (sub (now (work .entry)) (atS (p .shares)) (p .l * (p .shares * 512)))) (sub (now (work .exit)) (atS (p .shares)) (p .l * (p .shares * 512))) (now (out .entry)) (now (out .exit)) ⌝ }
+    ensures { λ r. ⌜ EndedAt p (now (vk .entry)) (now (mu .entry)) (tapesOf explicit (now (seeds .entry)) (now (noise .entry)) (now («mask_seeds» .entry))) a (sub (now (work .entry)) (atS (p .shares)) (p .l * (p .shares * 512))) r (sub (now (work .exit)) (atS (p .shares)) (p .l * (p .shares * 512))) (now (out .entry)) (now (out .exit)) ⌝ }
 {
     let n = p.kappa / 8;
     let b = p.kappa / 4;

@@ -134,14 +134,7 @@ fn same_bytes(a: &[u8], b: &[u8]) -> bool
 }
 
 // Lines 3 to 9, of the fields: checks 10, 11, 16.
-fn verify_hash(
-    p: Params,
-    vk: &[u8],
-    msg: &[u8],
-    hash: &[u8],
-    hint: &[i64],
-    z: &[i64],
-) -> u32
+fn verify_hash(p: Params, vk: &[u8], msg: &[u8], hash: &[u8], hint: &[i64], z: &[i64]) -> u32
     requires { ⌜ Tabled p × (length (now vk) ≡ p .«vk_bytes») × Below 125 (vkVector p (now vk)) × (length (now hash) ≡ hashBytes p) ⌝ }
     requires { ⌜ (length (now hint) ≡ p .k * 512) × (length (now z) ≡ p .l * 512) ⌝ }
     requires { ⌜ ((i : ℕ) → i < length (now hint) → natAbs (getD (now hint) i (pos 0)) < 31) ⌝ }
@@ -211,7 +204,13 @@ fn verify_with(p: Params, vk: &[u8], msg: &[u8], sig: &[u8]) -> u32
 }
 
 // The status of a signature of a message under a public key (01, "Questions put to a call").
-pub fn verify(set: u64, edition: Edition, public_key: &[u8], message: &[u8], signature: &[u8]) -> u32
+pub fn verify(
+    set: u64,
+    edition: Edition,
+    public_key: &[u8],
+    message: &[u8],
+    signature: &[u8],
+) -> u32
     ensures { λ r. ⌜ r ≡ verifyCall edition set (now («public_key» .entry)) (now (message .entry)) (now (signature .entry)) ⌝ }
 {
     match lookup(set, 1, edition) {

@@ -1,22 +1,22 @@
-use Rattle.ring.specs.Uniform.{heldOf}
-use Rattle.signature.proofs.Fronts.{front-in, front-is}
-use Rattle.signature.proofs.Checks.{filled-some, not-filled}
-use Rattle.signature.proofs.Attempts.{left-key}
-use Rattle.signature.proofs.AttemptEnds.{seed-front, answered-all, hash-long, commitment-low, ended-stuck, ended-made, ended-over, over-same}
-use Rattle.signature.specs.SignSteps.{publicBy}
-use Rattle.signature.specs.Sign.{noiseAt, maskAt}
-use Rattle.signature.specs.Matrix.{matrix, filled}
-use Rattle.signature.specs.Keys.{vkSeed}
-use Rattle.signature.specs.Keygen.{atS}
-use Rattle.signature.specs.Attempt.{tapesOf}
-use Rattle.sharing.specs.Region.{sub}
-use borrow.Rule.Slice.PartMut.{mid-len}
-use borrow.Author.Tests.{not-true, not-false}
-use lib.ListN.{length, replicate}
-use native.Mathlib.Omega.{arith}
-use Prim.Native.Nat.{ℕ, _-_, _*_, _/_}
 use mathlib.Core.List.{List}
 use mathlib.Core.Path.{_≡_, refl, sym, ap, _∙_}
+use Prim.Native.Nat.{ℕ, _-_, _*_, _/_}
+use native.Mathlib.Omega.{arith}
+use lib.ListN.{length, replicate}
+use borrow.Author.Tests.{not-true, not-false}
+use borrow.Rule.Slice.PartMut.{mid-len}
+use Rattle.ring.specs.Uniform.{heldOf}
+use Rattle.sharing.specs.Region.{sub}
+use Rattle.signature.specs.Attempt.{tapesOf}
+use Rattle.signature.specs.Keygen.{atS}
+use Rattle.signature.specs.Keys.{vkSeed}
+use Rattle.signature.specs.Matrix.{matrix, filled}
+use Rattle.signature.specs.Sign.{noiseAt, maskAt}
+use Rattle.signature.specs.SignSteps.{publicBy}
+use Rattle.signature.proofs.AttemptEnds.{seed-front, answered-all, hash-long, commitment-low, ended-stuck, ended-made, ended-over, over-same}
+use Rattle.signature.proofs.Attempts.{left-key}
+use Rattle.signature.proofs.Checks.{filled-some, not-filled}
+use Rattle.signature.proofs.Fronts.{front-in, front-is}
 use borrow.Author.Needs.{needs}
 use Rattle.signature.proofs.sign.attempt.Statement.{statement}
 use Rattle.signature.proofs.sign.attempt.Tie as tie

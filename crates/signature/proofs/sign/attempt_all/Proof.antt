@@ -1,20 +1,20 @@
-use Rattle.signature.proofs.Tapes.{tapes-within}
-use Rattle.signature.proofs.AttemptEnds.{all-over, all-pass, all-stuck, all-unfilled, all-next}
-use Rattle.signature.specs.SignSteps.{publicBy}
-use Rattle.signature.specs.Sign.{signFrom}
-use Rattle.signature.specs.Matrix.{matrix, filled}
-use Rattle.signature.specs.Keys.{vkSeed}
-use Rattle.signature.specs.Keygen.{atS}
-use Rattle.signature.specs.Attempt.{tapesOf}
-use Rattle.sharing.specs.Region.{sub}
-use Rattle.ring.specs.Words.{q, Below}
-use lib.ListN.{length}
-use native.Mathlib.Omega.{arith}
-use Prim.Native.Nat.{ℕ, _-_, _*_, _≤_}
-use mathlib.Core.Option.{some}
-use mathlib.Core.List.{List}
 use mathlib.Core.Bool.{true}
+use mathlib.Core.List.{List}
+use mathlib.Core.Option.{some}
 use mathlib.Core.Path.{_≡_, refl, ap, _∙_}
+use Prim.Native.Nat.{ℕ, _-_, _*_, _≤_}
+use native.Mathlib.Omega.{arith}
+use lib.ListN.{length}
+use Rattle.ring.specs.Words.{q, Below}
+use Rattle.sharing.specs.Region.{sub}
+use Rattle.signature.specs.Attempt.{tapesOf}
+use Rattle.signature.specs.Keygen.{atS}
+use Rattle.signature.specs.Keys.{vkSeed}
+use Rattle.signature.specs.Matrix.{matrix, filled}
+use Rattle.signature.specs.Sign.{signFrom}
+use Rattle.signature.specs.SignSteps.{publicBy}
+use Rattle.signature.proofs.AttemptEnds.{all-over, all-pass, all-stuck, all-unfilled, all-next}
+use Rattle.signature.proofs.Tapes.{tapes-within}
 use borrow.Author.Needs.{needs}
 use Rattle.signature.proofs.sign.attempt_all.Statement.{statement}
 use Rattle.signature.proofs.sign.attempt_all.Tie as tie

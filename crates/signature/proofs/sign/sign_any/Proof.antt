@@ -1,10 +1,10 @@
-use Rattle.signature.proofs.Verified.{tabled}
-use Rattle.signature.proofs.SignEnds.{sign-no-set, sign-no-shares, sign-on}
-use Rattle.signature.proofs.Listing.{found-small}
-use Rattle.signature.proofs.KeyRanges.{ranged}
-use Rattle.signature.proofs.Asked.{listed}
-use Rattle.signature.specs.Attempt.{keyFrom, tapesOf}
 use mathlib.Core.Path.{sym, _∙_}
+use Rattle.signature.specs.Attempt.{keyFrom, tapesOf}
+use Rattle.signature.proofs.Asked.{listed}
+use Rattle.signature.proofs.KeyRanges.{ranged}
+use Rattle.signature.proofs.Listing.{found-small}
+use Rattle.signature.proofs.SignEnds.{sign-no-set, sign-no-shares, sign-on}
+use Rattle.signature.proofs.Verified.{tabled}
 use borrow.Author.Needs.{needs}
 use Rattle.signature.proofs.sign.sign_any.Statement.{statement}
 use Rattle.signature.proofs.sign.sign_any.Tie as tie

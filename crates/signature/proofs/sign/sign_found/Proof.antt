@@ -1,7 +1,7 @@
-use Rattle.signature.proofs.SignEnds.{found-on, found-refused, found-cleared}
-use Rattle.signature.specs.SignCalls.{signing}
-use Rattle.signature.specs.Attempt.{keyFrom, tapesOf}
 use mathlib.Core.Path.{ap, _∙_}
+use Rattle.signature.specs.Attempt.{keyFrom, tapesOf}
+use Rattle.signature.specs.SignCalls.{signing}
+use Rattle.signature.proofs.SignEnds.{found-on, found-refused, found-cleared}
 use borrow.Author.Needs.{needs}
 use Rattle.signature.proofs.sign.sign_found.Statement.{statement}
 use Rattle.signature.proofs.sign.sign_found.Tie as tie

@@ -1,20 +1,20 @@
-use Rattle.signature.proofs.SignEnds.{public-front, public-in, public-long, public-good, end-unfilled, end-made}
-use Rattle.signature.proofs.SignChecks.{signable}
-use Rattle.signature.proofs.Fronts.{bound-in, bound-is}
-use Rattle.signature.proofs.Checks.{filled-some}
-use Rattle.signature.specs.SignCalls.{sharesOf, signing}
-use Rattle.signature.specs.Keys.{vkVector}
-use Rattle.signature.specs.Keygen.{atS}
-use Rattle.signature.specs.Attempt.{keyFrom, tapesOf}
-use Rattle.sharing.specs.Region.{sub}
+use mathlib.Core.List.{List}
+use mathlib.Core.Option.{some}
+use mathlib.Core.Path.{sym, ap, subst, _∙_}
+use Prim.Native.Nat.{ℕ, _*_, _/_}
+use lib.ListN.{length, replicate}
+use borrow.Author.Tests.{not-true, not-false}
 use Rattle.ring.specs.Uniform.{heldOf}
 use Rattle.ring.specs.Words.{Below}
-use borrow.Author.Tests.{not-true, not-false}
-use lib.ListN.{length, replicate}
-use Prim.Native.Nat.{ℕ, _*_, _/_}
-use mathlib.Core.Option.{some}
-use mathlib.Core.List.{List}
-use mathlib.Core.Path.{sym, ap, subst, _∙_}
+use Rattle.sharing.specs.Region.{sub}
+use Rattle.signature.specs.Attempt.{keyFrom, tapesOf}
+use Rattle.signature.specs.Keygen.{atS}
+use Rattle.signature.specs.Keys.{vkVector}
+use Rattle.signature.specs.SignCalls.{sharesOf, signing}
+use Rattle.signature.proofs.Checks.{filled-some}
+use Rattle.signature.proofs.Fronts.{bound-in, bound-is}
+use Rattle.signature.proofs.SignChecks.{signable}
+use Rattle.signature.proofs.SignEnds.{public-front, public-in, public-long, public-good, end-unfilled, end-made}
 use borrow.Author.Needs.{needs}
 use Rattle.signature.proofs.sign.sign_with.Statement.{statement}
 use Rattle.signature.proofs.sign.sign_with.Tie as tie

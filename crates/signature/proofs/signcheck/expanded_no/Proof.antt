@@ -1,13 +1,13 @@
-use Rattle.signature.proofs.Checks.{no-here, yes-here}
 use mathlib.Core.Path.{refl, sym, _∙_}
-use Rattle.signature.proofs.Opened.{words-few}
-use Rattle.signature.proofs.Asked.{sizes}
-use Rattle.signature.specs.SignSteps.{keyNo}
-use Rattle.signature.specs.Keys.{vkVector}
-use borrow.Author.Tests.{not-true, not-false}
-use lib.ListN.{length}
-use native.Mathlib.Omega.{arith}
 use Prim.Native.Nat.{_*_}
+use native.Mathlib.Omega.{arith}
+use lib.ListN.{length}
+use borrow.Author.Tests.{not-true, not-false}
+use Rattle.signature.specs.Keys.{vkVector}
+use Rattle.signature.specs.SignSteps.{keyNo}
+use Rattle.signature.proofs.Asked.{sizes}
+use Rattle.signature.proofs.Checks.{no-here, yes-here}
+use Rattle.signature.proofs.Opened.{words-few}
 use borrow.Author.Needs.{needs}
 use Rattle.signature.proofs.signcheck.expanded_no.Statement.{statement}
 use Rattle.signature.proofs.signcheck.expanded_no.Tie as tie

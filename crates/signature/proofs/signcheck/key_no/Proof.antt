@@ -1,7 +1,7 @@
-use Rattle.signature.specs.SignSteps.{keyNo}
-use Rattle.signature.specs.Attempt.{keyFrom}
 use mathlib.Core.Bool.{Bool}
 use mathlib.Core.Path.{sym, ap, _∙_}
+use Rattle.signature.specs.Attempt.{keyFrom}
+use Rattle.signature.specs.SignSteps.{keyNo}
 use borrow.Author.Needs.{needs}
 use Rattle.signature.proofs.signcheck.key_no.Statement.{statement}
 use Rattle.signature.proofs.signcheck.key_no.Tie as tie

@@ -1,12 +1,12 @@
-use Rattle.signature.proofs.Checks.{no-here, yes-here}
-use mathlib.Core.Path.{refl, sym, ap, _∙_}
-use Rattle.signature.proofs.Opened.{tail-is}
-use Rattle.signature.specs.SignSteps.{keyNo}
-use Rattle.signature.specs.Keys.{vkVector, fullShare}
-use Rattle.ring.specs.Words.{q, allBelow}
-use borrow.Author.Tests.{not-true, not-false, eq-eqb, ne-eqb}
-use Prim.Native.Nat.{ℕ}
 use mathlib.Core.List.{List}
+use mathlib.Core.Path.{refl, sym, ap, _∙_}
+use Prim.Native.Nat.{ℕ}
+use borrow.Author.Tests.{not-true, not-false, eq-eqb, ne-eqb}
+use Rattle.ring.specs.Words.{q, allBelow}
+use Rattle.signature.specs.Keys.{vkVector, fullShare}
+use Rattle.signature.specs.SignSteps.{keyNo}
+use Rattle.signature.proofs.Checks.{no-here, yes-here}
+use Rattle.signature.proofs.Opened.{tail-is}
 use borrow.Author.Needs.{needs}
 use Rattle.signature.proofs.signcheck.packed_no.Statement.{statement}
 use Rattle.signature.proofs.signcheck.packed_no.Tie as tie

@@ -1,6 +1,6 @@
-use Rattle.signature.proofs.SignChecks.{no-key, no-call}
-use Rattle.signature.specs.Attempt.{keyFrom, tapesOf}
 use mathlib.Core.Path.{_∙_}
+use Rattle.signature.specs.Attempt.{keyFrom, tapesOf}
+use Rattle.signature.proofs.SignChecks.{no-key, no-call}
 use borrow.Author.Needs.{needs}
 use Rattle.signature.proofs.signcheck.sign_no.Statement.{statement}
 use Rattle.signature.proofs.signcheck.sign_no.Tie as tie

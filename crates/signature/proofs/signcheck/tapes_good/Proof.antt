@@ -1,8 +1,8 @@
-use Rattle.signature.proofs.Tapes.{fits-mid, words-size, seeds-size}
-use Rattle.signature.proofs.Sizes.{tape-low}
-use Rattle.signature.proofs.SignChecks.{tapes-masks, tapes-noise, tapes-words, tapes-seeds}
-use native.Mathlib.Omega.{arith}
 use mathlib.Core.Path.{_∙_}
+use native.Mathlib.Omega.{arith}
+use Rattle.signature.proofs.SignChecks.{tapes-masks, tapes-noise, tapes-words, tapes-seeds}
+use Rattle.signature.proofs.Sizes.{tape-low}
+use Rattle.signature.proofs.Tapes.{fits-mid, words-size, seeds-size}
 use borrow.Author.Needs.{needs}
 use Rattle.signature.proofs.signcheck.tapes_good.Statement.{statement}
 use Rattle.signature.proofs.signcheck.tapes_good.Tie as tie

@@ -57,9 +57,10 @@ recover-row-requires c κs = let a = c .before .before .before .before .before .
     let t = a .pre .1 .0 in
     let l = c .before .before .before .loop in
     let h : l .i < a .args .k = c .before .before .loop-test .taken in
-    let m = inside (l .i) (a .args .k) 512 h in
-    ((omega arith, omega (arith, p .0, l .inv .2), l .inv .3, omega (arith, h, p .2), omega (arith, p .3)),
-    (p .4, subst (Residues 125 512) (sym (c .load .ensures .0)) (sub-residues 125 (a .args .t .now) (l .i * 512) 512 (omega (arith, m, t .0)) (t .1))))
+    let m = inside (l .i) (a .args .k) 512 h in (
+      (omega arith, omega (arith, p .0, l .inv .2), l .inv .3, omega (arith, h, p .2), omega (arith, p .3)),
+      (p .4, subst (Residues 125 512) (sym (c .load .ensures .0)) (sub-residues 125 (a .args .t .now) (l .i * 512) 512 (omega (arith, m, t .0)) (t .1))),
+    )
 
 same-length : tie.Need-same-length Inv-loop μ-loop
 same-length c = search needs
@@ -142,12 +143,16 @@ loop-again c =
     let Z = sub (b .s .now) 512 (b .l * 512) in
     let r : c .before .before .before .before .before .before .load2 .result ≡ recoveredBy (b .l) (rowEntry (b .seed .now) (l .i)) Z (b .c) (block 512 (l .i) (b .t .now)) =
     c .before .before .before .before .before .before .load2 .ensures .0 ∙ u .new ∙ ap (λ y. recoveredBy (b .l) (rowEntry (b .seed .now) (l .i)) y (b .c) (c .before .before .before .before .before .before .before .before .before .before .before .before .load .result)) (v .4)
-    ∙ ap (recoveredBy (b .l) (rowEntry (b .seed .now) (l .i)) Z (b .c)) (c .before .before .before .before .before .before .before .before .before .before .before .before .load .ensures .0) in
-    (omega (arith, h), all-more (l .i) (λ j. buildAll (b .l) (matrixAt (b .seed .now) j)) (v .1) (sym (z .0 .0) ∙ e), z .0 .1 ∙ v .2, z .0 .2,
-    u .behind 512 (b .l * 512) (omega arith) (omega arith) ∙ v .4,
-    ap (λ y. length y) (put-back (l .w) (l .i * 512) n (refl {a = X})) ∙ length-put (l .w) (l .i * 512) 512 X k o ∙ v .5,
-    ap (take ((l .i + 1) * 512)) (put-back (l .w) (l .i * 512) n (refl {a = X}))
-    ∙ adjust-turn (b .l) (b .seed .now) Z (b .c) (b .t .now) (b .hint .now) (l .i) (l .w) X (c .before .before .before .before .before .round-w .result) (c .before .before .before .before .before .before .load2 .result) k (v .6) r (c .before .before .before .before .before .round-w .ensures .0) x o)
+    ∙ ap (recoveredBy (b .l) (rowEntry (b .seed .now) (l .i)) Z (b .c)) (c .before .before .before .before .before .before .before .before .before .before .before .before .load .ensures .0) in (
+      omega (arith, h),
+      all-more (l .i) (λ j. buildAll (b .l) (matrixAt (b .seed .now) j)) (v .1) (sym (z .0 .0) ∙ e),
+      z .0 .1 ∙ v .2,
+      z .0 .2,
+      u .behind 512 (b .l * 512) (omega arith) (omega arith) ∙ v .4,
+      ap (λ y. length y) (put-back (l .w) (l .i * 512) n (refl {a = X})) ∙ length-put (l .w) (l .i * 512) 512 X k o ∙ v .5,
+      ap (take ((l .i + 1) * 512)) (put-back (l .w) (l .i * 512) n (refl {a = X}))
+          ∙ adjust-turn (b .l) (b .seed .now) Z (b .c) (b .t .now) (b .hint .now) (l .i) (l .w) X (c .before .before .before .before .before .round-w .result) (c .before .before .before .before .before .before .load2 .result) k (v .6) r (c .before .before .before .before .before .round-w .ensures .0) x o,
+    )
 
 same-length-3 : tie.Need-same-length-3 Inv-loop μ-loop
 same-length-3 c = search needs
@@ -160,10 +165,12 @@ unfolding matrixOf adjustedRows
 returns-2 c = let b = c .before .before .before .before .before .before .args in
     let l = c .before .loop in
     let v = l .inv in
-    let e : l .i ≡ b .k = omega (arith, v .0, c .loop-test .left) in
-    (sym (v .1) ∙ ap (λ n. filled (buildAll n (λ j. buildAll (b .l) (matrixAt (b .seed .now) j)))) e, λ _.
-    sym (take-all (b .k * 512) (l .w) (omega (arith, v .5))) ∙ ap (λ n. take (n * 512) (l .w)) (sym e) ∙ v .6
-    ∙ ap (λ n. build n (adjustedAt (b .l) (b .seed .now) (sub (b .s .now) 512 (b .l * 512)) (b .c) (b .t .now) (b .hint .now))) e)
+    let e : l .i ≡ b .k = omega (arith, v .0, c .loop-test .left) in (
+      sym (v .1) ∙ ap (λ n. filled (buildAll n (λ j. buildAll (b .l) (matrixAt (b .seed .now) j)))) e,
+      λ _.
+          sym (take-all (b .k * 512) (l .w) (omega (arith, v .5))) ∙ ap (λ n. take (n * 512) (l .w)) (sym e) ∙ v .6
+          ∙ ap (λ n. build n (adjustedAt (b .l) (b .seed .now) (sub (b .s .now) 512 (b .l * 512)) (b .c) (b .t .now) (b .hint .now))) e,
+    )
 
 pub adjust-rows-spec : {M : Type 1} → statement M
 adjust-rows-spec =

@@ -106,9 +106,10 @@ adjust-rows-requires c κs = let a = c .before .before .before .before .before .
     let t = unpacked-is 7 (p .k * 512) (replicate 4608 0) (c .before .before .before .before .before .before .before .before .before .before .before .unpack .last .1 .1 .0) _ (omega (arith, T .rows-low)) (c .before .before .before .before .before .before .before .before .before .before .before .unpack .ensures)
     ∙ ap (λ (j : ℕ). repack 8 7 (p .k * 512) (take j (drop (p .kappa / 8) (a .args .vk .now)))) m in
     let s = c .before .before .before .before .before .before .before .before .place .ensures in
-    let n = s .1 in
-    ((omega (arith, n, T .columns-low), s .2, T .rows-low, T .columns-low, c .before .before .before .before .before .ntt .ensures .1),
-    ((ap (λ (l : List ℕ). length l) t ∙ length-repack 8 7 (p .k * 512) _, subst (Below 125) (sym t) (a .pre .0 .2), a .pre .1 .0 .0, a .pre .1 .0 .2), a .pre .1 .1 .0))
+    let n = s .1 in (
+      (omega (arith, n, T .columns-low), s .2, T .rows-low, T .columns-low, c .before .before .before .before .before .ntt .ensures .1),
+      ((ap (λ (l : List ℕ). length l) t ∙ length-repack 8 7 (p .k * 512) _, subst (Below 125) (sym t) (a .pre .0 .2), a .pre .1 .0 .0, a .pre .1 .0 .2), a .pre .1 .1 .0),
+    )
 
 same-length : tie.Need-same-length
 same-length c = search needs
@@ -132,12 +133,14 @@ returns c = let a = c .before .before .before .before .before .before .before .b
     let s : sub (c .before .before .before .before .before .before .before .before .before .before .before .before .place .last .1 .1 .0) 512 (l * 512) ≡ transformed l z = c .before .before .before .before .before .before .before .before .before .before .before .before .place .ensures .0 in
     let y : c .before .before .before .before .before .before .before .before .before .ntt .result ≡ ntt x = c .before .before .before .before .before .before .before .before .before .ntt .ensures .0 ∙ ap ntt (c .before .before .before .before .before .before .before .before .before .before .from-signed .ensures .0) in
     let r = c .before .before .before .adjust-rows .ensures in
-    let f = r .0 ∙ ap (λ (v : List ℕ). filled (matrixOf k l v)) e in
-    (f, λ (A : List ℕ) (g : matrix p seed ≡ some A).
-    r .1 (f ∙ some-filled (matrix p seed) A g)
-    ∙ adjusted-parts k l (b .hint .now) e s y t
-    ∙ adjusted-all p seed A z x (vkVector p (b .vk .now)) (b .hint .now) g (record { long = length-residues q (b .z .now) ∙ a .pre .1 .0 .1; low = below-residues (b .z .now) })
-    (subst (Words 512) (c .before .before .before .before .before .before .before .before .before .before .from-signed .ensures .0) (c .before .before .before .before .before .before .before .before .before .before .from-signed .ensures .1)) (length-repack 8 7 (p .k * 512) _))
+    let f = r .0 ∙ ap (λ (v : List ℕ). filled (matrixOf k l v)) e in (
+      f,
+      λ (A : List ℕ) (g : matrix p seed ≡ some A).
+          r .1 (f ∙ some-filled (matrix p seed) A g)
+          ∙ adjusted-parts k l (b .hint .now) e s y t
+          ∙ adjusted-all p seed A z x (vkVector p (b .vk .now)) (b .hint .now) g (record { long = length-residues q (b .z .now) ∙ a .pre .1 .0 .1; low = below-residues (b .z .now) })
+          (subst (Words 512) (c .before .before .before .before .before .before .before .before .before .before .from-signed .ensures .0) (c .before .before .before .before .before .before .before .before .before .before .from-signed .ensures .1)) (length-repack 8 7 (p .k * 512) _),
+    )
 
 pub recompute-spec : {M : Type 1} → statement M
 recompute-spec =

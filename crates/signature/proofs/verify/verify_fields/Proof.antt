@@ -181,10 +181,13 @@ verify-hash-requires c κs = let a = c .before .before .before .before .before .
     let h = hint-is (c .before .before .before .before .before .before .before .before .before .before .before) in
     let z = z-is (c .before .before .before .before .before .before .before .before .before .before .before) in
     let o : a .args .p .kappa / 4 - 0 ≡ a .args .p .kappa / 4 = omega arith in
-    let s = bounds-small (a .args .p .«hint_limit») (a .args .p .binf) (a .args .p .b22) _ _ (sym (c .before .before .before .before .before .before .check-bounds .ensures) ∙ not-false _ (c .before .before .before .before .before .if2 .left)) in
-    ((T, a .pre .1, a .pre .2, length-take-le (a .args .p .kappa / 4 - 0) (a .args .sig .now) (omega (arith, o, fits a)) ∙ o),
-    ((ap (λ (l : List ℤ). length l) h ∙ g .1, ap (λ (l : List ℤ). length l) z ∙ g .2),
-    (bounded-part 31 (a .args .p .«hint_limit») h (omega (arith, T .hint-low)) (s .0), bounded-part q (a .args .p .binf) z (omega (arith, T .binf-low)) (s .1))))
+    let s = bounds-small (a .args .p .«hint_limit») (a .args .p .binf) (a .args .p .b22) _ _ (sym (c .before .before .before .before .before .before .check-bounds .ensures) ∙ not-false _ (c .before .before .before .before .before .if2 .left)) in (
+      (T, a .pre .1, a .pre .2, length-take-le (a .args .p .kappa / 4 - 0) (a .args .sig .now) (omega (arith, o, fits a)) ∙ o),
+      (
+        (ap (λ (l : List ℤ). length l) h ∙ g .1, ap (λ (l : List ℤ). length l) z ∙ g .2),
+        (bounded-part 31 (a .args .p .«hint_limit») h (omega (arith, T .hint-low)) (s .0), bounded-part q (a .args .p .binf) z (omega (arith, T .binf-low)) (s .1)),
+      ),
+    )
 
 returns-3 : tie.Need-returns-3
 returns-3 c = let a = c .before .before .before .before .before .before .before .before .before .before .before .before .before .before .before .before .before .before .before .before .before .before .before .before in
