@@ -386,9 +386,6 @@ fn the_first_no_decides() {
                 let mut call = c.clone();
                 // the later one first, as a fault may take the place of another
                 later(&mut call);
-                if *first == 14 {
-                    call.signature.truncate(c.p.sig_bytes);
-                }
                 fault(&mut call);
                 assert_eq!(call.verdict(), *first, "set {set}");
             }
