@@ -23,6 +23,7 @@ use crate::bits::unpack;
 use crate::bounds::check_bounds;
 use crate::form::bit_count;
 use crate::form::write;
+use crate::int::Q;
 use crate::recover::recover_row;
 use crate::residues::centred_into;
 use crate::residues::hint_into;
@@ -32,9 +33,6 @@ use ring::poly::from_signed;
 use ring::poly::ntt;
 use ring::poly::round_w;
 use sharing::region::load;
-
-// The modulus q (000, Tables 2 to 4).
-const Q: u64 = 549824583172097;
 
 // Line 18 for one row: y is at `row`, the rounded w at `at`.
 fn hint_row(s: &[u64], row: usize, at: usize, out: &mut [i64])

@@ -19,6 +19,7 @@ ghost use Rattle.signature.specs.Opening.{Listed, partBytes, openedAt, o
 ghost use Rattle.signature.specs.KeyCalls.{outcome, expandNo, expandCall, refreshNo, refreshCall};
 use crate::bits::unpack;
 use crate::compress::seeded_share;
+use crate::int::Q;
 use hash::params::Edition;
 use hash::params::Params;
 use hash::params::Selected;
@@ -33,9 +34,6 @@ use sharing::region::clear;
 use sharing::region::load;
 use sharing::region::store_at;
 use sharing::shares::add_shares_at;
-
-// The modulus q (000, Tables 2 to 4).
-const Q: u64 = 549824583172097;
 
 // a into out, which is as long.
 pub(crate) fn copy_bytes(a: &[u8], out: &mut [u8])

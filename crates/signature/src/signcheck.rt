@@ -7,15 +7,13 @@ ghost use Rattle.signature.specs.KeySizes.{Ranges};
 ghost use Rattle.signature.specs.Opening.{Listed};
 ghost use Rattle.signature.specs.SignCalls.{packed, expanded, tapesGood, signNo};
 ghost use Rattle.signature.specs.SignSteps.{keyNo, callNo};
+use crate::int::Q;
 use crate::keycheck::work_words;
 use crate::keys::full_share_good;
 use crate::keys::public_key_good;
 use crate::keys::sized;
 use hash::params::Params;
 use ring::poly::all_below;
-
-// The modulus q (000, Tables 2 to 4).
-const Q: u64 = 549824583172097;
 
 // Checks 3 to 5 of a signing key.
 fn packed_no(p: Params, key: &[u8]) -> u32

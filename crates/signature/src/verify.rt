@@ -24,6 +24,7 @@ use crate::challenge::chal_hash;
 use crate::challenge::chal_poly;
 use crate::challenge::hash_two;
 use crate::form::read;
+use crate::int::Q;
 use crate::keys::public_key_good;
 use crate::recover::recover_row;
 use crate::residues::adjust;
@@ -38,9 +39,6 @@ use ring::poly::from_signed;
 use ring::poly::ntt;
 use ring::poly::round_w;
 use sharing::region::load;
-
-// The modulus q (000, Tables 2 to 4).
-const Q: u64 = 549824583172097;
 
 // Lines 6 and 7, row by row: the bytes of w' = y + h. In s: room for a row, then z, transformed; c is transformed. False where the matrix does
 // not fill.
