@@ -92,7 +92,8 @@ static void round_trips(void)
     printf("kat_expand %u\n", raccoon_kat_expand_key(SET, COUNT, BYTES(key), BYTES(bytes), WORDS(words)));
     signed_line("kat_sign", raccoon_kat_sign(SET, COUNT, TRIES, BYTES(key), BYTES(MESSAGE), BYTES(noise), BYTES(masks), BYTES(signature),
                                              WORDS(work)), 1);
-    printf("no message %u", raccoon_kat_sign(SET, COUNT, TRIES, BYTES(key), NULL, 0, BYTES(noise), BYTES(masks), BYTES(signature), WORDS(work)).status);
+    printf("no message %u", raccoon_kat_sign(SET, COUNT, TRIES, BYTES(key), NULL, 0, BYTES(noise), BYTES(masks), BYTES(signature),
+                                             WORDS(work)).status);
     printf(" %u\n", raccoon_kat_verify(SET, BYTES(bytes), NULL, 0, BYTES(signature)));
     printf("samplers %u", raccoon_sample_uniform(BYTES(noise), WORDS(polynomial)));
     printf(" %u\n", raccoon_sample_challenge(SET, BYTES(noise), BYTES(coefficients)));
