@@ -1,0 +1,90 @@
+//! The submission's response files, made through the unit.
+
+use independent::drbg::{tests, Drbg};
+use independent::raccoon::{Noise, Params};
+use crate::unit::{self, Key, Signing};
+use std::fmt::Write;
+
+/// What one test of a response file is made from: the seed that it names, and the draws that follow from it.
+pub struct Inputs {
+    pub entropy: [u8; 48],
+    pub message: Vec<u8>,
+    pub key_seeds: Vec<u8>,
+    /// The noise seeds of the first attempt at signing.
+    pub noise_seeds: Vec<u8>,
+}
+
+/// The first tests of a file.
+pub fn inputs(p: &Params, count: usize) -> Vec<Inputs> {
+    let make = |(entropy, message): ([u8; 48], Vec<u8>)| {
+        let mut drbg = Drbg::new(&entropy);
+        let mut seeds = |bytes: usize| (0..bytes / p.seed_bytes()).flat_map(|_| drbg.bytes(p.seed_bytes())).collect();
+        Inputs { entropy, message, key_seeds: seeds(p.keygen_bytes()), noise_seeds: seeds(p.noise_bytes()) }
+    };
+    tests(count).into_iter().map(make).collect()
+}
+
+/// One test: the keys, and the signature with the message behind it.
+pub struct Test {
+    pub pk: Vec<u8>,
+    pub sk: Vec<u8>,
+    pub sm: Vec<u8>,
+}
+
+/// A test made and verified by the unit, in the edition of the parameters; else what it answered. The masking seed leaves no trace in it.
+pub fn made(p: &Params, input: &Inputs, mask_seed: &[u8; 32]) -> Result<Test, String> {
+    let (set, d) = (p.kappa as u32, p.d as u32);
+    let (mut sk, mut sm, mut work) = (vec![0u8; p.sk_bytes()], vec![0u8; p.sig_bytes], vec![0u64; p.work_words()]);
+    let status = unit::keygen(p.edition, set, d, &input.key_seeds, mask_seed, &mut sk, &mut work);
+    if status != 0 {
+        return Err(format!("keygen {status}"));
+    }
+    let key = Key::Packed(&sk);
+    let call = Signing { set, shares: d, attempts: 1, key, message: &input.message, noise: Noise::Seeds(&input.noise_seeds), mask_seeds: mask_seed };
+    let signed = unit::sign(p.edition, &call, &mut sm, &mut work);
+    if (signed.status, signed.attempts) != (0, 1) {
+        return Err(format!("sign {} {}", signed.status, signed.attempts));
+    }
+    let pk = sk[..p.vk_bytes()].to_vec();
+    let status = unit::verify(p.edition, set, &pk, &input.message, &sm);
+    if status != 0 {
+        return Err(format!("verify {status}"));
+    }
+    sm.extend(&input.message);
+    Ok(Test { pk, sk, sm })
+}
+
+fn upper(text: &mut String, name: &str, bytes: &[u8]) {
+    text.push_str(name);
+    text.push_str(" = ");
+    bytes.iter().for_each(|b| write!(text, "{b:02X}").unwrap());
+    text.push('\n');
+}
+
+/// The text of a response file of so many tests.
+pub fn file(p: &Params, count: usize) -> Result<String, String> {
+    let mut text = format!("# Raccoon-{}-{}\n\n", p.kappa, p.d);
+    for (number, input) in inputs(p, count).iter().enumerate() {
+        let test = made(p, input, &[number as u8; 32]).map_err(|answer| format!("test {number}: {answer}"))?;
+        writeln!(text, "count = {number}").unwrap();
+        upper(&mut text, "seed", &input.entropy);
+        writeln!(text, "mlen = {}", input.message.len()).unwrap();
+        upper(&mut text, "msg", &input.message);
+        upper(&mut text, "pk", &test.pk);
+        upper(&mut text, "sk", &test.sk);
+        writeln!(text, "smlen = {}", test.sm.len()).unwrap();
+        upper(&mut text, "sm", &test.sm);
+        text.push('\n');
+    }
+    Ok(text)
+}
+
+/// Set, share count and SHA-256 of each of the 18 files of 100 tests.
+pub fn digests() -> Vec<(usize, usize, &'static str)> {
+    let line = |line: &'static str| {
+        let mut parts = line.split(' ');
+        let (set, d) = parts.next()?.split_once('-')?;
+        Some((set.parse().ok()?, d.parse().ok()?, parts.next()?))
+    };
+    include_str!("../tests/data/response-files.sha256").lines().filter_map(line).collect()
+}

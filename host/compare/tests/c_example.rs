@@ -1,0 +1,114 @@
+//! The C side: include/raccoon.h has every export and the sizes of the independent implementation, each export can be called through it, and
+//! the example in examples/ does what it says. Needs gcc.
+
+use compare::independent::raccoon::{Edition, Params};
+use compare::independent::ring::N;
+use std::path::{Path, PathBuf};
+use std::process::Command;
+
+fn root() -> PathBuf {
+    Path::new(env!("CARGO_MANIFEST_DIR")).join("../..")
+}
+
+fn text(path: &str) -> String {
+    std::fs::read_to_string(root().join(path)).unwrap()
+}
+
+/// Compiles a C program with the archive, runs it and gives what it prints.
+fn printed(source: &str) -> String {
+    let program = Path::new(env!("CARGO_TARGET_TMPDIR")).join(Path::new(source).file_stem().unwrap());
+    let compiled = Command::new("gcc")
+        .args(["-std=c99", "-Wall", "-Wextra", "-Werror", "-O1", "-I"])
+        .args([root().join("include"), root().join(source), root().join("target/staticlib/libcapi.a")])
+        .arg("-o")
+        .arg(&program)
+        .output()
+        .unwrap();
+    assert!(compiled.status.success(), "{source}: {}", String::from_utf8_lossy(&compiled.stderr));
+    let run = Command::new(program).output().unwrap();
+    assert!(run.status.success(), "{source}: {}", String::from_utf8_lossy(&run.stderr));
+    String::from_utf8(run.stdout).unwrap()
+}
+
+/// The lines that are numbers only, `columns` of them.
+fn numbers(text: &str, columns: usize) -> Vec<Vec<usize>> {
+    let rows = text.lines().filter_map(|line| line.trim_start_matches(" *").split_whitespace().map(|word| word.parse().ok()).collect());
+    rows.filter(|row: &Vec<usize>| row.len() == columns).collect()
+}
+
+fn pairs() -> impl Iterator<Item = Params> {
+    let shares = [1, 2, 4, 8, 16, 32];
+    [128, 192, 256].into_iter().flat_map(move |set| shares.map(|d| Params::new(set, d, Edition::Printed).unwrap()))
+}
+
+fn of_set(p: &Params) -> [usize; 5] {
+    [p.k, p.l, p.vk_bytes(), p.sig_bytes, p.seed_bytes()]
+}
+
+fn of_pair(p: &Params) -> [usize; 6] {
+    [p.sk_bytes(), p.keygen_bytes(), p.noise_bytes(), p.noise_words(), p.l * p.d * N, p.work_words()]
+}
+
+#[test]
+fn example() {
+    let output = printed("examples/release_order.c");
+    let lines: Vec<&str> = output.lines().collect();
+    assert_eq!(lines.len(), 8, "{output}");
+    assert_eq!(lines[0], "key: 14848 bytes, the first 2256 are the public key");
+    assert_eq!(lines[1], "expanded key: 8192 words in 4 shares");
+    let attempt: u32 = lines[2].strip_prefix("signature: 11524 bytes, attempt ").unwrap().parse().unwrap();
+    assert!((1..=16).contains(&attempt), "{output}");
+    assert_eq!(lines[3], "the order: 0, accepted");
+    assert_eq!(lines[4], "a changed order: 16, refused: Is the recomputed challenge hash equal? No.");
+    assert_eq!(lines[5], "a changed signature: 16, refused: Is the recomputed challenge hash equal? No.");
+    assert_eq!(lines[6], "a cut signature: 13, refused: Is the signature exactly as long as the set says? No.");
+    assert_eq!(lines[7], "the order again: 0, accepted");
+}
+
+/// The macros of all 18 pairs; calls with nothing lent; a key and its signatures by each form of signing.
+#[test]
+fn exports() {
+    let output = printed("host/tests/exports.c");
+    let sizes: Vec<Vec<usize>> = pairs().map(|p| [&[p.kappa, p.d][..], &of_set(&p), &of_pair(&p)].concat()).collect();
+    assert_eq!(numbers(&output, 13), sizes);
+    let rest: Vec<&str> = output.lines().skip(18).collect();
+    let expected = [
+        "empty 7 7 3 3 3 3 3 3 3 3 3 3 8 8",
+        "keygen 0",
+        "expand 0",
+        "refresh 0",
+        "sign 0 0",
+        "sign_expanded 0 0",
+        "sign_explicit 0 0",
+        "sign_expanded_explicit 0 0",
+        "kat_keygen 0",
+        "kat_expand 0",
+        "kat_sign 0 0",
+        "no message 0 0",
+        "samplers 0 0",
+    ];
+    assert_eq!(rest, expected);
+}
+
+/// The tables of sizes that are printed for the reader: in the header all pairs, in the guide the smallest and the largest share count.
+#[test]
+fn printed_tables() {
+    let sets: Vec<Vec<usize>> = pairs().filter(|p| p.d == 1).map(|p| [&[p.kappa][..], &of_set(&p)].concat()).collect();
+    let all: Vec<Vec<usize>> = pairs().map(|p| [&[p.kappa, p.d][..], &of_pair(&p)].concat()).collect();
+    let ends: Vec<Vec<usize>> = all.iter().filter(|row| row[1] == 1 || row[1] == 32).cloned().collect();
+    let (header, guide) = (text("include/raccoon.h"), text("docs/GUIDE.md").replace('|', " "));
+    assert_eq!((numbers(&header, 6), numbers(&header, 8)), (sets.clone(), all));
+    assert_eq!((numbers(&guide, 6), numbers(&guide, 8)), (sets, ends));
+}
+
+/// Every export of the unit stands in the header and is called by exports.c.
+#[test]
+fn complete() {
+    let (unit, header, calls) = (text("crates/capi/src/lib.rt"), text("include/raccoon.h"), text("host/tests/exports.c"));
+    let names: Vec<&str> = unit.split("pub extern \"C\" fn ").skip(1).map(|rest| rest.split('(').next().unwrap()).collect();
+    assert_eq!(names.len(), 14);
+    for name in names {
+        assert!(header.contains(&format!(" {name}(")), "{name} is not in raccoon.h");
+        assert!(calls.contains(&format!("{name}(")), "{name} is not in exports.c");
+    }
+}

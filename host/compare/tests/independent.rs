@@ -1,0 +1,34 @@
+//! The independent implementation against the known answers of paper 01's calls.
+
+use compare::independent::raccoon::{expand, keygen, refresh, sign, verify, Edition, Noise, Params};
+use compare::known::{digest, known, word_bytes, xof};
+
+fn expanded_digest(vk: &[u8], words: &[u64]) -> String {
+    digest(&[vk.to_vec(), word_bytes(words)].concat())
+}
+
+#[test]
+fn keys_and_signatures_of_the_known_calls() {
+    for d in [1, 2, 4, 8] {
+        let p = Params::new(128, d, Edition::Printed).unwrap();
+        let name = format!("128-{d}");
+        let key = keygen(&p, &xof(&format!("tape {name}"), p.keygen_bytes()), &xof("mask", 32)).unwrap();
+        assert_eq!(key.len(), p.sk_bytes());
+        assert_eq!(format!("0 {}", digest(&key)), known(&format!("{name} keygen")));
+        let words = expand(&p, &key).unwrap();
+        let vk = &key[..p.vk_bytes()];
+        assert_eq!(format!("0 {}", expanded_digest(vk, &words)), known(&format!("{name} open")));
+        let fresh = refresh(&p, &words, &xof("mask", 32));
+        assert_eq!(format!("0 {}", expanded_digest(vk, &fresh)), known(&format!("{name} refresh")));
+        let message = xof("message", 100);
+        let noise = xof(&format!("noise {name}"), 2 * p.noise_bytes());
+        let mask = xof("mask", 32);
+        let attempts: Vec<(Noise, &[u8])> = noise.chunks_exact(p.noise_bytes()).map(|n| (Noise::Seeds(n), &mask[..])).collect();
+        for (call, shares) in [("sign", &words), ("sign refreshed", &fresh)] {
+            let (status, tries, signature) = sign(&p, vk, shares, &message, &attempts);
+            let signature = signature.unwrap();
+            assert_eq!(format!("{status} {tries} {}", digest(&signature)), known(&format!("{name} {call}")));
+            assert_eq!(verify(128, Edition::Printed, vk, &message, &signature), 0);
+        }
+    }
+}

@@ -1,0 +1,44 @@
+//! Raccoon signatures by the proved unit.
+//!
+//! The types keep lengths right: a key, a signature or a set of seeds cannot be made with a wrong length, so of the sixteen refusals of the
+//! unit only those remain that speak of contents. Seeds are given away with the call that uses them, so that none is used twice, and what is
+//! secret is wiped when it is dropped.
+//!
+//! ```
+//! use raccoon::{os_random, KeygenSeeds, Params, Set, Shares, SigningKey, SigningSeeds};
+//!
+//! # fn main() -> Result<(), Box<dyn std::error::Error>> {
+//! let params = Params::new(Set::Raccoon128, Shares::Four);
+//! let key = SigningKey::generate(KeygenSeeds::draw(params, os_random)?)?;
+//! let signed = key.sign(b"release tram 17", SigningSeeds::new(params).draw(os_random)?)?;
+//! key.public_key().verify(b"release tram 17", &signed.signature)?;
+//!
+//! let refusal = key.public_key().verify(b"release tram 18", &signed.signature).unwrap_err();
+//! assert_eq!(refusal.number(), 16);
+//! assert_eq!(refusal.to_string(), "16: Is the recomputed challenge hash equal? No.");
+//! # Ok(())
+//! # }
+//! ```
+//!
+//! * [`Params`]: set and share count, and every size that follows from them.
+//! * [`SigningKey`], [`ExpandedKey`], [`PublicKey`], [`Signature`]: the byte forms of paper 000, section 2.5.
+//! * [`KeygenSeeds`], [`SigningSeeds`], [`ExplicitNoise`]: what a call is lent besides.
+//! * [`Refusal`]: the sixteen numbers and their questions.
+//! * [`call`]: the calls themselves, on slices of any length.
+//!
+//! All follow the printed text of the submission; the edition of its response files is in [`call`] alone.
+
+pub mod call;
+
+mod keys;
+mod params;
+mod refusal;
+mod secret;
+mod seeds;
+mod sign;
+
+pub use keys::{ExpandedKey, PublicKey, Signature, SigningKey};
+pub use params::{Params, Set, Shares, MASK_SEED_BYTES, MAX_ATTEMPTS, MAX_MESSAGE_BYTES, N, Q};
+pub use refusal::Refusal;
+pub use seeds::{os_random, ExplicitNoise, KeygenSeeds, SigningSeeds, SigningSeedsBuilder};
+pub use sign::{NotSigned, Signed};

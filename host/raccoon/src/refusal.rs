@@ -1,0 +1,102 @@
+//! The sixteen refusals of paper 01.
+
+use std::fmt;
+
+/// The first question that was answered with no.
+///
+/// ```
+/// use raccoon::Refusal;
+///
+/// assert_eq!(Refusal::from_status(0), Ok(()));
+/// assert_eq!(Refusal::from_status(13), Err(Refusal::BadSignatureLength));
+/// assert_eq!(Refusal::BadSignatureLength.question(), "Is the signature exactly as long as the set says?");
+/// ```
+#[derive(Clone, Copy, PartialEq, Eq, PartialOrd, Ord, Hash, Debug)]
+pub enum Refusal {
+    BadSet = 1,
+    BadShareCount,
+    BadKeyLength,
+    BadPublicKey,
+    BadShareWords,
+    BadAttempts,
+    BadSeeds,
+    BadBuffer,
+    BadMessageLength,
+    UniformNotFilled,
+    ChallengeNotFilled,
+    NoAttemptPassed,
+    BadSignatureLength,
+    BadSignatureForm,
+    BadSignatureBounds,
+    BadSignatureHash,
+}
+
+use Refusal::*;
+
+impl Refusal {
+    /// In the order of their numbers.
+    pub const ALL: [Refusal; 16] = [
+        BadSet,
+        BadShareCount,
+        BadKeyLength,
+        BadPublicKey,
+        BadShareWords,
+        BadAttempts,
+        BadSeeds,
+        BadBuffer,
+        BadMessageLength,
+        UniformNotFilled,
+        ChallengeNotFilled,
+        NoAttemptPassed,
+        BadSignatureLength,
+        BadSignatureForm,
+        BadSignatureBounds,
+        BadSignatureHash,
+    ];
+
+    /// What a status says: 0 is yes to all.
+    ///
+    /// # Panics
+    /// If it is above 16, which no call answers.
+    pub fn from_status(status: u32) -> Result<(), Refusal> {
+        match status {
+            0 => Ok(()),
+            _ => Err(Refusal::ALL[status as usize - 1]),
+        }
+    }
+
+    /// The paper's number, 1 to 16.
+    pub const fn number(self) -> u32 {
+        self as u32
+    }
+
+    /// The paper's question.
+    pub const fn question(self) -> &'static str {
+        match self {
+            BadSet => "Is the set 128, 192 or 256?",
+            BadShareCount => "Is the share count 1, 2, 4, 8, 16 or 32?",
+            BadKeyLength => "Is the key exactly as long as set and share count say?",
+            BadPublicKey => "Are all public key coefficients below 125?",
+            BadShareWords => "Are all words of the shares below q?",
+            BadAttempts => "Are the allowed attempts from 1 to 16?",
+            BadSeeds => "Are seeds, or noise words, and mask seeds exactly as long as the call needs, and noise words below q?",
+            BadBuffer => "Is each result buffer, and the work buffer, exactly its size?",
+            BadMessageLength => "Is the message at most 4096 bytes?",
+            UniformNotFilled => "Did every uniform polynomial fill within 777 draws?",
+            ChallengeNotFilled => "Did the challenge fill within 1088 draws?",
+            NoAttemptPassed => "Did some allowed attempt pass the bounds and fit the signature length?",
+            BadSignatureLength => "Is the signature exactly as long as the set says?",
+            BadSignatureForm => "Is the signature the very byte string that the writer makes of the fields read from it?",
+            BadSignatureBounds => "Do the fields of the signature pass the bounds?",
+            BadSignatureHash => "Is the recomputed challenge hash equal?",
+        }
+    }
+}
+
+impl fmt::Display for Refusal {
+    fn fmt(&self, f: &mut fmt::Formatter) -> fmt::Result {
+        write!(f, "{}: {} No.", self.number(), self.question())
+    }
+}
+
+impl std::error::Error for Refusal {}
