@@ -42,7 +42,7 @@ enum raccoon_status {
     RACCOON_CHALLENGE_NOT_FILLED = 11, /* Did the challenge fill within 1088 draws? */
     RACCOON_NO_ATTEMPT_PASSED = 12,    /* Did some allowed attempt pass the bounds and fit the signature length? */
     RACCOON_BAD_SIGNATURE_LENGTH = 13, /* Is the signature exactly as long as the set says? */
-    RACCOON_BAD_SIGNATURE_FORM = 14,   /* Is it the very byte string that the writer makes of the fields read from it? */
+    RACCOON_BAD_SIGNATURE_FORM = 14,   /* Is the signature the very byte string that the writer makes of the fields read from it? */
     RACCOON_BAD_SIGNATURE_BOUNDS = 15, /* Do the fields of the signature pass the bounds? */
     RACCOON_BAD_SIGNATURE_HASH = 16    /* Is the recomputed challenge hash equal? */
 };

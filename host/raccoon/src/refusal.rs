@@ -77,7 +77,7 @@ impl Refusal {
             BadShareCount => "Is the share count 1, 2, 4, 8, 16 or 32?",
             BadKeyLength => "Is the key exactly as long as set and share count say?",
             BadPublicKey => "Are all public key coefficients below 125?",
-            BadShareWords => "Are all words of the shares below q?",
+            BadShareWords => "Are all words of the full share (expanded key: of all shares) below q?",
             BadAttempts => "Are the allowed attempts from 1 to 16?",
             BadSeeds => "Are seeds, or noise words, and mask seeds exactly as long as the call needs, and noise words below q?",
             BadBuffer => "Is each result buffer, and the work buffer, exactly its size?",

@@ -1,0 +1,147 @@
+//! The types over the unit's calls: sizes, questions, what each constructor refuses, and signing in its four forms.
+
+use independent::raccoon::{Edition, Params as Other};
+use raccoon::*;
+use std::io;
+
+/// Repeatable bytes for tests: SHAKE256 of a label.
+fn source(label: &str) -> impl FnMut(&mut [u8]) -> io::Result<()> + '_ {
+    let mut number = 0;
+    move |bytes| {
+        number += 1;
+        independent::keccak::shake256(format!("{label} {number}").as_bytes(), bytes);
+        Ok(())
+    }
+}
+
+fn key(params: Params) -> SigningKey {
+    SigningKey::generate(KeygenSeeds::draw(params, source("key")).unwrap()).unwrap()
+}
+
+#[test]
+fn sizes_are_those_of_the_independent_implementation() {
+    assert_eq!(Params::all().count(), 18);
+    for p in Params::all() {
+        let other = Other::new(p.set.number() as usize, p.shares.count(), Edition::Printed).unwrap();
+        assert_eq!((p.set.k(), p.set.l(), p.shares.repetitions(), p.set.seed_bytes()), (other.k, other.l, other.rep, other.seed_bytes()));
+        assert_eq!((p.set.public_key_bytes(), p.set.signature_bytes()), (other.vk_bytes(), other.sig_bytes));
+        assert_eq!((p.signing_key_bytes(), p.share_words()), (other.sk_bytes(), other.l * other.d * N));
+        assert_eq!((p.keygen_seed_bytes(), p.noise_seed_bytes()), (other.keygen_bytes(), other.noise_bytes()));
+        assert_eq!((p.noise_words(), p.work_words()), (other.noise_words(), other.work_words()));
+    }
+}
+
+#[test]
+fn numbers_of_sets_and_share_counts() {
+    assert_eq!(Set::try_from(192), Ok(Set::Raccoon192));
+    assert_eq!([0, 1, 127, 129, 384].map(Set::try_from), [Err(Refusal::BadSet); 5]);
+    assert_eq!(Shares::try_from(32), Ok(Shares::ThirtyTwo));
+    assert_eq!([0, 3, 33, 64, u32::MAX].map(Shares::try_from), [Err(Refusal::BadShareCount); 5]);
+}
+
+#[test]
+fn questions_are_those_of_the_header() {
+    let header = include_str!("../../../include/raccoon.h");
+    for (i, refusal) in Refusal::ALL.into_iter().enumerate() {
+        assert_eq!(refusal.number() as usize, i + 1);
+        assert_eq!(Refusal::from_status(refusal.number()), Err(refusal));
+        let line = header.lines().find(|line| line.contains(&format!(" = {},", i + 1)) || line.contains(&format!(" = {} ", i + 1)));
+        let line = line.unwrap_or_else(|| panic!("the header has no {}", i + 1));
+        assert!(line.contains(&format!("/* {}", refusal.question())), "{line}");
+    }
+}
+
+#[test]
+fn keys_of_wrong_length_or_contents_are_refused() {
+    for params in Params::all().filter(|p| p.shares.count() <= 4) {
+        let key = key(params);
+        assert_eq!(SigningKey::from_bytes(params, key.as_bytes()).as_ref(), Ok(&key));
+        let mut bytes = key.as_bytes().to_vec();
+        let last = bytes.len();
+        assert_eq!(SigningKey::from_bytes(params, &bytes[1..]), Err(Refusal::BadKeyLength));
+        bytes[last - 7..].fill(0xff);
+        assert_eq!(SigningKey::from_bytes(params, &bytes), Err(Refusal::BadShareWords));
+        bytes[params.set.public_key_bytes() - 1] = 0xff;
+        assert_eq!(SigningKey::from_bytes(params, &bytes), Err(Refusal::BadPublicKey));
+
+        let expanded = key.expand().unwrap();
+        assert_eq!(expanded.public_key(), key.public_key());
+        let file = expanded.to_bytes();
+        assert_eq!(ExpandedKey::from_bytes(params, &file).as_ref(), Ok(&expanded));
+        assert_eq!(ExpandedKey::from_bytes(params, &file[..file.len() - 1]), Err(Refusal::BadKeyLength));
+        let public = key.public_key();
+        let mut words = expanded.words().to_vec();
+        assert_eq!(ExpandedKey::from_parts(params, public.as_bytes(), &words[1..]), Err(Refusal::BadKeyLength));
+        words[7] = Q;
+        assert_eq!(ExpandedKey::from_parts(params, public.as_bytes(), &words), Err(Refusal::BadShareWords));
+    }
+}
+
+#[test]
+fn seeds_of_wrong_length_are_refused() {
+    let params = Params::new(Set::Raccoon128, Shares::Two);
+    let refused = Err(Refusal::BadSeeds);
+    assert_eq!(KeygenSeeds::given(params, &[0; 1183], &[0; 32]).map(|_| ()), refused);
+    assert_eq!(KeygenSeeds::given(params, &[0; 1184], &[0; 32]).map(|_| ()), Ok(()));
+    let two = SigningSeeds::new(params).attempts(2).unwrap();
+    assert_eq!(two.given(&[0; 2304], &[0; 64]).map(|_| ()), Ok(()));
+    assert_eq!(two.given(&[0; 2305], &[0; 64]).map(|_| ()), refused);
+    assert_eq!(two.given(&[0; 2304], &[0; 63]).map(|_| ()), refused);
+    assert_eq!(two.explicit(&[Q - 1; 18432], &[0; 64]).map(|_| ()), Ok(()));
+    assert_eq!(two.explicit(&[Q; 18432], &[0; 64]).map(|_| ()), refused);
+    assert_eq!(two.explicit(&[0; 18431], &[0; 64]).map(|_| ()), refused);
+    assert_eq!(SigningSeeds::new(params).attempts(0).map(|_| ()), Err(Refusal::BadAttempts));
+    assert_eq!(SigningSeeds::new(params).draw(|_| Err(io::ErrorKind::NotFound.into())).map(|_| ()).unwrap_err().kind(), io::ErrorKind::NotFound);
+}
+
+#[test]
+fn four_forms_of_signing_verify() {
+    for params in Params::all().filter(|p| p.shares.count() <= 8) {
+        let key = key(params);
+        let expanded = key.expand().unwrap().refresh(&[9; MASK_SEED_BYTES]).unwrap();
+        let seeds = |label| SigningSeeds::new(params).draw(source(label)).unwrap();
+        // no noise at all: within the bounds, and good for nothing else
+        let none = || SigningSeeds::new(params).attempts(1).unwrap().explicit(&vec![0; params.noise_words()], &[7; 32]).unwrap();
+        let message = b"release tram 17";
+        let signed = [
+            key.sign(message, seeds("seeds")).unwrap(),
+            expanded.sign(message, seeds("seeds")).unwrap(),
+            key.sign_explicit(message, none()).unwrap(),
+            expanded.sign_explicit(message, none()).unwrap(),
+        ];
+        assert_eq!(signed[0], signed[1]);
+        assert_eq!(signed[2], signed[3]);
+        assert_ne!(signed[0].signature, signed[2].signature);
+        for Signed { signature, attempt } in &signed {
+            assert_eq!(*attempt, 1);
+            assert_eq!(key.public_key().verify(message, signature), Ok(()));
+            assert_eq!(key.public_key().verify(b"release tram 18", signature), Err(Refusal::BadSignatureHash));
+            assert_eq!(Signature::from_bytes(params.set, signature.as_bytes()).as_ref(), Ok(signature));
+            assert_eq!(Signature::from_bytes(params.set, &signature.as_bytes()[1..]), Err(Refusal::BadSignatureLength));
+        }
+    }
+}
+
+#[test]
+fn what_signing_refuses() {
+    let params = Params::new(Set::Raccoon128, Shares::One);
+    let key = key(params);
+    let seeds = |params| SigningSeeds::new(params).attempts(3).unwrap().draw(source("seeds")).unwrap();
+    let long = key.sign(&[0; MAX_MESSAGE_BYTES + 1], seeds(params)).unwrap_err();
+    assert_eq!(long.to_string(), "9: Is the message at most 4096 bytes? No.");
+    let other = key.sign(b"", seeds(Params::new(Set::Raccoon192, Shares::One))).unwrap_err();
+    assert_eq!(other, NotSigned { refusal: Refusal::BadSeeds, attempts: 0 });
+    // shares that are not those of the public key
+    let mut words = key.expand().unwrap().words().to_vec();
+    words[0] = (words[0] + Q / 2) % Q;
+    let altered = ExpandedKey::from_parts(params, key.public_key().as_bytes(), &words).unwrap();
+    let none = altered.sign(b"", seeds(params)).unwrap_err();
+    assert_eq!(none, NotSigned { refusal: Refusal::NoAttemptPassed, attempts: 3 });
+    assert!(none.to_string().ends_with("No. (after 3 attempts)"));
+}
+
+#[test]
+fn secrets_are_not_printed() {
+    let key = key(Params::new(Set::Raccoon128, Shares::Four));
+    assert_eq!(format!("{key:?} {:?}", key.expand().unwrap()), "SigningKey(128-4, ..) ExpandedKey(128-4, ..)");
+}
