@@ -68,7 +68,7 @@ fn example() {
 /// The macros of all 18 pairs; calls with nothing lent; a key and its signatures by each form of signing.
 #[test]
 fn exports() {
-    let output = printed("host/tests/exports.c");
+    let output = printed("host/compare/tests/exports.c");
     let sizes: Vec<Vec<usize>> = pairs().map(|p| [&[p.kappa, p.d][..], &of_set(&p), &of_pair(&p)].concat()).collect();
     assert_eq!(numbers(&output, 13), sizes);
     let rest: Vec<&str> = output.lines().skip(18).collect();
@@ -104,7 +104,7 @@ fn printed_tables() {
 /// Every export of the unit stands in the header and is called by exports.c.
 #[test]
 fn complete() {
-    let (unit, header, calls) = (text("crates/capi/src/lib.rt"), text("include/raccoon.h"), text("host/tests/exports.c"));
+    let (unit, header, calls) = (text("crates/capi/src/lib.rt"), text("include/raccoon.h"), text("host/compare/tests/exports.c"));
     let names: Vec<&str> = unit.split("pub extern \"C\" fn ").skip(1).map(|rest| rest.split('(').next().unwrap()).collect();
     assert_eq!(names.len(), 14);
     for name in names {
