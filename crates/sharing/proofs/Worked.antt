@@ -1,4 +1,4 @@
--- Worked examples: the sum of two shares (P10), and the bytes of one noise tape of seeds (P12).
+-- Worked examples: the sum of two shares (P10), and the bytes of one attempt's noise seeds (P12).
 use mathlib.Core.Path.{_≡_, refl, ap, _∙_}
 use mathlib.Core.List.{List, [], _∷_}
 use Prim.Native.Nat.{ℕ, _+_, _-_, _*_, _%_, _<_}
@@ -28,7 +28,7 @@ unfolding sumN
 p10-total xs h x l a b =
     total-at 2 xs h x l ∙ ap (λ (n : ℕ). (0 + n + getD (block 512 1 xs) x 0) % q) a ∙ ap (λ (n : ℕ). (0 + 5 + n) % q) b
 
--- the tapes of 128-1, 128-2 and 128-32, in either edition
+-- those of 128-1, 128-2 and 128-32, in either edition
 pub p12-1 : (e : Edition) → (p : Params) × ((lookupOf 128 1 e ≡ Selected.Found p) × (noiseBytes p ≡ 1152))
 unfolding lookupOf rows noiseBytes
 p12-1 e = (paramsOf (rowAt 0) e, (refl, refl))

@@ -22,10 +22,10 @@ use Rattle.sharing.specs.Masks.{masks, maskStart}
 use Rattle.signature.specs.Matrix.{filled}
 use Rattle.signature.specs.Keys.{fullShare, expandOf, refreshOf}
 use Rattle.signature.specs.Checks.{ask, both, signingKeySized, expandedKeySized, publicKeyGood, fullShareGood, shareWordsGood, maskSeedSized}
-use Rattle.signature.specs.Opening.{Listed, opened, openedKey}
+use Rattle.signature.specs.Expanding.{Listed, expandedShares, expandedKey}
 use Rattle.signature.specs.KeyCalls.{Outcome, outcome, expandNo, expandCall, refreshNo, refreshCall}
 use Rattle.signature.proofs.Checks.{asked, both-true, not-filled}
-use Rattle.signature.proofs.Opened.{opened-all}
+use Rattle.signature.proofs.Expanded.{expanded-all}
 
 pub sizes : (x v y n : ℕ) → both (eqb x v) (eqb y n) ≡ true → (x ≡ v) × (y ≡ n)
 sizes x v y n e = let b = both-true (eqb x v) (eqb y n) e in (eqb-true x v (b .0), eqb-true y n (b .1))
@@ -152,11 +152,11 @@ module _ (ed : Edition) (set d : ℕ) (key bytes words : List ℕ) where
     unfolding expandCall
     none-made z e = rw (← f, z, e) refl
 
-    made : expandNo p key bytes words ≡ 0 → (b : Bool) → filled (expandOf p key) ≡ b → openedKey p key bytes words ≡ expandCall ed set d key bytes words
-    unfolding openedKey expandOf
-    made z true e = rw e (some-made z (opened p (drop (p .«vk_bytes») key)) (opened-all p (drop (p .«vk_bytes») key) e))
+    made : expandNo p key bytes words ≡ 0 → (b : Bool) → filled (expandOf p key) ≡ b → expandedKey p key bytes words ≡ expandCall ed set d key bytes words
+    unfolding expandedKey expandOf
+    made z true e = rw e (some-made z (expandedShares p (drop (p .«vk_bytes») key)) (expanded-all p (drop (p .«vk_bytes») key) e))
     made z false e = rw e (none-made z (not-filled (expandOf p key) e))
 
-    pub expand-done : (k : ℕ) → k ≡ expandNo p key bytes words → k ≡ 0 → (x : Outcome) → x ≡ openedKey p key bytes words
+    pub expand-done : (k : ℕ) → k ≡ expandNo p key bytes words → k ≡ 0 → (x : Outcome) → x ≡ expandedKey p key bytes words
         → x ≡ expandCall ed set d key bytes words
     expand-done k n z x e = e ∙ made (sym n ∙ z) (filled (expandOf p key)) refl

@@ -22,7 +22,7 @@ use Rattle.signature.specs.Keys.{vkSeed}
 use Rattle.signature.specs.Masked.{Noise}
 use Rattle.signature.specs.Matrix.{matrix, filled}
 use Rattle.signature.specs.Recover.{muOf}
-use Rattle.signature.specs.Sign.{Attempted, made, over, stuck, Answer, answer, Tapes, signedFields, finished, attempted, signFrom}
+use Rattle.signature.specs.Sign.{Attempted, made, over, stuck, Answer, answer, Coins, signedFields, finished, attempted, signFrom}
 use Rattle.signature.specs.SignCalls.{signMade}
 use Rattle.signature.specs.SignSteps.{publicBy, EndedAt, kept}
 use Rattle.signature.specs.declared.challenge.Challenged.{Challenged}
@@ -100,7 +100,7 @@ module _ (p : Params) (vk mu : List ℕ) (N : Noise) (g : MaskGen) (s hash ys : 
 
 -- ---- the attempts in order, with the shares s₀ at first
 
-module _ (p : Params) (vk mu msg : List ℕ) (T : Tapes) (n : ℕ) (s₀ out : List ℕ) (is : mu ≡ muOf p vk msg) where
+module _ (p : Params) (vk mu msg : List ℕ) (T : Coins) (n : ℕ) (s₀ out : List ℕ) (is : mu ≡ muOf p vk msg) where
   all-some : (m : Option (List ℕ)) → filled m ≡ true → (X : Answer)
       → ((A : List ℕ) → m ≡ some A → signFrom p (publicBy p vk mu A) T n 0 s₀ ≡ X) → signMade p vk msg T n m (some s₀) ≡ X
   unfolding filled
@@ -151,7 +151,7 @@ module _ (p : Params) (vk mu msg : List ℕ) (T : Tapes) (n : ℕ) (s₀ out : L
           ap (answer 10 0) (v .1 ∙ o) ∙ ap (λ (X : Answer). kept X out) (sym (all-none (matrix p (vkSeed p vk)) (v .0)))
 
 -- the next attempt begins with the shares k
-module _ (p : Params) (vk mu : List ℕ) (T : Tapes) (n a : ℕ) (s₀ s out : List ℕ)
+module _ (p : Params) (vk mu : List ℕ) (T : Coins) (n a : ℕ) (s₀ s out : List ℕ)
     (i : (A : List ℕ) → matrix p (vkSeed p vk) ≡ some A → signFrom p (publicBy p vk mu A) T n 0 s₀ ≡ signFrom p (publicBy p vk mu A) T (n - a) a s)
     (l : a < n) (r : AttemptEnd) (k xs ys : List ℕ) (o : xs ≡ out)
     (w : EndedAt p vk mu T a s r k xs ys) where

@@ -25,7 +25,7 @@ use Rattle.signature.specs.Challenge.{headed, ordered, challenge, chalHa
 use Rattle.signature.specs.Form.{Fields, write}
 use Rattle.signature.specs.Keygen.{atS, atT, atX}
 use Rattle.signature.specs.Masked.{Noise, maskedNoise, behindProduct}
-use Rattle.signature.specs.Sign.{Public, Attempted, made, over, stuck, answer, Tapes, signedFields, finished, challenged, concluded, maskedResponse, refreshedKey, refreshedNoise, refreshedResponse, attempted, noiseAt, maskAt, signFrom}
+use Rattle.signature.specs.Sign.{Public, Attempted, made, over, stuck, answer, Coins, signedFields, finished, challenged, concluded, maskedResponse, refreshedKey, refreshedNoise, refreshedResponse, attempted, noiseAt, maskAt, signFrom}
 use Rattle.signature.specs.declared.challenge.Challenged.{Challenged}
 use Rattle.signature.proofs.Checks.{absurd-bool}
 use Rattle.signature.proofs.Masking.{masked-words}
@@ -204,7 +204,7 @@ module _ (p : Params) (P : Public) (N : Noise) (g : MaskGen) (s hash ys : List �
 
 -- ---- the attempts in order
 
-module _ (p : Params) (P : Public) (T : Tapes) (n m a : ℕ) (s : List ℕ) (left : n ≡ suc m) where
+module _ (p : Params) (P : Public) (T : Coins) (n m a : ℕ) (s : List ℕ) (left : n ≡ suc m) where
   -- attempt number a + 1 made a signature; met a challenge that does not fill; was over, and t is the key that it left
   pub sign-pass : (b : List ℕ) → attempted p P (noiseAt p T a) (maskAt T a) s ≡ made b → signFrom p P T n a s ≡ answer 0 (a + 1) b
   unfolding signFrom
@@ -220,6 +220,6 @@ module _ (p : Params) (P : Public) (T : Tapes) (n m a : ℕ) (s : List ℕ) (lef
   sign-next t h e = rw (left, signFrom, e, add-one, h)
 
 -- no attempt is left
-pub sign-none : (p : Params) (P : Public) (T : Tapes) (n a : ℕ) (s : List ℕ) → n ≡ 0 → signFrom p P T n a s ≡ answer 12 a []
+pub sign-none : (p : Params) (P : Public) (T : Coins) (n a : ℕ) (s : List ℕ) → n ≡ 0 → signFrom p P T n a s ≡ answer 12 a []
 unfolding signFrom
 sign-none p P T n a s e = rw (e, signFrom)

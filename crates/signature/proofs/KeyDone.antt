@@ -20,7 +20,7 @@ use Rattle.signature.specs.Checks.{both, workWords}
 use Rattle.signature.specs.Keys.{keygenBytes, vkSeed, sharePart, keygenOf, publicKey}
 use Rattle.signature.specs.Keygen.{atT, atX, Small, keyOf}
 use Rattle.signature.specs.KeyCalls.{outcome, keygenNo, keygenMade, keygenCall}
-use Rattle.signature.specs.Opening.{Listed}
+use Rattle.signature.specs.Expanding.{Listed}
 use Rattle.signature.specs.Matrix.{matrix, filled}
 use Rattle.signature.proofs.Checks.{both-true, filled-some, not-filled}
 use Rattle.signature.proofs.KeyMade.{fullOf, vectorOf, no-matrix, no-share, both-there}
@@ -70,8 +70,8 @@ module _ (p : Params) (h : Small p) (seeds work : List ℕ) (w : length work ≡
   abbrev a : ℕ
   a = atT (p .l) (p .shares)
 
-  abbrev tapeEnd : ℕ
-  tapeEnd = p .kappa / 8 + (p .l + p .k) * p .shares * p .rep * (p .kappa / 8)
+  abbrev coinsEnd : ℕ
+  coinsEnd = p .kappa / 8 + (p .l + p .k) * p .shares * p .rep * (p .kappa / 8)
 
   abbrev seedPart : List ℕ
   seedPart = take (p .kappa / 8 - 0) seeds
@@ -80,7 +80,7 @@ module _ (p : Params) (h : Small p) (seeds work : List ℕ) (w : length work ≡
   vectorPart = take (a + p .k * 512 - a) (drop a work)
 
   abbrev sharesPart : List ℕ
-  sharesPart = take (length seeds - tapeEnd) (drop tapeEnd seeds)
+  sharesPart = take (length seeds - coinsEnd) (drop coinsEnd seeds)
 
   abbrev fullPart : List ℕ
   fullPart = take (a + p .k * 512 + p .l * 512 - (a + p .k * 512)) (drop (a + p .k * 512) work)

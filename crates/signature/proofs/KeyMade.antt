@@ -74,15 +74,15 @@ made p seeds mask key e = go (matrix p (vkSeed p seeds)) (fullOf p seeds mask) r
 
 -- ---- t is k polynomials of coefficients below 125
 
-pub vector-words : (p : Params) (tape : List ℕ) (g : MaskGen) (A : List ℕ) → Residues 125 (p .k * 512) (keyVector p tape g A)
+pub vector-words : (p : Params) (coins : List ℕ) (g : MaskGen) (A : List ℕ) → Residues 125 (p .k * 512) (keyVector p coins g A)
 unfolding keyVector
-vector-words p tape g A = rounded-residues 42 125 (p .k * 512) (lit< tt) _ (totals-words (p .k) (p .shares) _ .long)
+vector-words p coins g A = rounded-residues 42 125 (p .k * 512) (lit< tt) _ (totals-words (p .k) (p .shares) _ .long)
 
 -- ---- the full share is l polynomials of words below q
 
-pub key-words : (p : Params) (tape : List ℕ) (g : MaskGen) → Words (p .l * (p .shares * 512)) (keyShares p tape g)
+pub key-words : (p : Params) (coins : List ℕ) (g : MaskGen) → Words (p .l * (p .shares * 512)) (keyShares p coins g)
 unfolding keyShares each
-key-words p tape g = words-build (p .l) _ (λ i h. words-build (p .shares) _ (λ j k. ntt-words _))
+key-words p coins g = words-build (p .l) _ (λ i h. words-build (p .shares) _ (λ j k. ntt-words _))
 
 -- a step of Algorithm 14 that is there
 pub record Step (s : List ℕ) (a b : Option (List ℕ)) (y : List ℕ) : Type 0 where

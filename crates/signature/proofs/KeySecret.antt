@@ -182,16 +182,16 @@ module _ (p : Params) (Z X s x : List ℕ) (h : 1 ≤ p .shares) (w : Words (p .
       ∙ build-ext (p .l) (λ (j : ℕ). total (p .shares) (build (p .shares) (sharing j))) (λ (j : ℕ). total (p .shares) (given j)) total-same
 
 -- of a key that key generation made
-pub record Opened (p : Params) (seeds mask key : List ℕ) : Type 0 where
+pub record Expansion (p : Params) (seeds mask key : List ℕ) : Type 0 where
   pub shares-of : List ℕ
   pub is : expandOf p key ≡ some shares-of
   pub words : Words (p .l * (p .shares * 512)) shares-of
   pub secrets : totals (p .l) (p .shares) shares-of ≡ totals (p .l) (p .shares) (keyShares p (noisePart p seeds) (maskStart mask))
 
-pub opened : (p : Params) (seeds mask key : List ℕ) → Rule p → 1 ≤ p .shares → length seeds ≡ keygenBytes p
-    → keygenOf p seeds mask ≡ some key → Opened p seeds mask key
+pub expansion : (p : Params) (seeds mask key : List ℕ) → Rule p → 1 ≤ p .shares → length seeds ≡ keygenBytes p
+    → keygenOf p seeds mask ≡ some key → Expansion p seeds mask key
 unfolding expandOf
-opened p seeds mask key r h l e =
+expansion p seeds mask key r h l e =
     let m = made p seeds mask key e in
     let k = expand-made p r h seeds mask key l m in
     let Z = sharePart p seeds in

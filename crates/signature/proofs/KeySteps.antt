@@ -38,44 +38,44 @@ rounded-made n at k X s₀ s₁ s₂ u v = wrote-over u (wrote-wide (omega arith
 both-right : (a b : Bool) → a ≡ true → both a b ≡ b
 both-right a b e = ap (λ (c : Bool). both c b) e
 
-pub both-no : (p : Params) (seed tape shares : List ℕ) (g : MaskGen) → filled (matrixOf (p .k) (p .l) seed) ≡ false
-    → false ≡ both (filled (matrix p seed)) (filled (compressed p shares (keyShares p tape g)))
-both-no p seed tape shares g e = sym (ap (λ (c : Bool). both c (filled (compressed p shares (keyShares p tape g)))) e)
+pub both-no : (p : Params) (seed coins shares : List ℕ) (g : MaskGen) → filled (matrixOf (p .k) (p .l) seed) ≡ false
+    → false ≡ both (filled (matrix p seed)) (filled (compressed p shares (keyShares p coins g)))
+both-no p seed coins shares g e = sym (ap (λ (c : Bool). both c (filled (compressed p shares (keyShares p coins g)))) e)
 
 abbrev pub Said : Params → List ℕ → List ℕ → List ℕ → Bool → List ℕ → MaskGen → Type 0
-Said p seed tape shares c s g =
-    (c ≡ both (filled (matrix p seed)) (filled (compressed p shares (keyShares p tape g))))
-    × ((A X : List ℕ) → matrix p seed ≡ some A → compressed p shares (keyShares p tape g) ≡ some X
-    → (sub s (atT (p .l) (p .shares)) (p .k * 512) ≡ keyVector p tape g A) × (sub s (atX (p .k) (p .l) (p .shares)) (p .l * 512) ≡ X))
+Said p seed coins shares c s g =
+    (c ≡ both (filled (matrix p seed)) (filled (compressed p shares (keyShares p coins g))))
+    × ((A X : List ℕ) → matrix p seed ≡ some A → compressed p shares (keyShares p coins g) ≡ some X
+    → (sub s (atT (p .l) (p .shares)) (p .k * 512) ≡ keyVector p coins g A) × (sub s (atX (p .k) (p .l) (p .shares)) (p .l * 512) ≡ X))
 
 -- s in the coefficient domain
 abbrev pub secretOf : Params → List ℕ → MaskGen → List ℕ
-secretOf p tape g =
-    addNoise masks (p .shares) (skip masks (p .shares) (p .l) g) (p .l) (p .rep) (seedNoise (p .shares) (p .rep) (p .ut) (p .kappa / 8) tape)
+secretOf p coins g =
+    addNoise masks (p .shares) (skip masks (p .shares) (p .l) g) (p .l) (p .rep) (seedNoise (p .shares) (p .rep) (p .ut) (p .kappa / 8) coins)
     (zeroVector masks (p .shares) g (p .l))
 
--- the tape behind the seeds of s
+-- the noise seeds behind those of s
 abbrev pub restOf : Params → List ℕ → List ℕ
-restOf p tape = drop (p .l * p .rep * p .shares * (p .kappa / 8)) tape
+restOf p coins = drop (p .l * p .rep * p .shares * (p .kappa / 8)) coins
 
--- t, of the tape's rest, the list at s and the generator x behind it
+-- t, of the rest of the noise seeds, the list at s and the generator x behind it
 abbrev pub publicOf : Params → List ℕ → MaskGen → List ℕ → List ℕ → List ℕ
 publicOf p rest x A S =
     roundT (totals (p .k) (p .shares) (addNoise masks (p .shares) x (p .k) (p .rep) (seedNoise (p .shares) (p .rep) (p .ut) (p .kappa / 8) rest)
     (rowsOf (p .shares) (p .k) (p .l) A S)))
 
-module _ (p : Params) (power : p .shares ≡ 2 ^ orderIndex (p .shares)) (tape shares : List ℕ) (g : MaskGen) where
-  shares-is : transformed (p .l * p .shares) (secretOf p tape g) ≡ keyShares p tape g
+module _ (p : Params) (power : p .shares ≡ 2 ^ orderIndex (p .shares)) (coins shares : List ℕ) (g : MaskGen) where
+  shares-is : transformed (p .l * p .shares) (secretOf p coins g) ≡ keyShares p coins g
   unfolding keyShares maskedNoise seeded
-  shares-is = transformed-each (p .l) (p .shares) (secretOf p tape g)
+  shares-is = transformed-each (p .l) (p .shares) (secretOf p coins g)
 
   vector-is : (seed A : List ℕ) (x : MaskGen) → matrix p seed ≡ some A → x ≡ skip masks (p .shares) (p .l + p .l * p .rep) g
-      → publicOf p (restOf p tape) x A (transformed (p .l * p .shares) (secretOf p tape g)) ≡ keyVector p tape g A
+      → publicOf p (restOf p coins) x A (transformed (p .l * p .shares) (secretOf p coins g)) ≡ keyVector p coins g A
   unfolding keyVector maskedNoise seeded
-  vector-is seed A x e f = ap roundT (image-is p (seeded p (p .ut) tape) g x power f seed A e)
+  vector-is seed A x e f = ap roundT (image-is p (seeded p (p .ut) coins) g x power f seed A e)
 
-  module _ (seed rest s₀ s₁ s₂ s₃ : List ℕ) (x : MaskGen) (b : Bool) (hr : rest ≡ restOf p tape)
-      (u : Wrote (p .shares * 512) (atS (p .shares)) (p .l * (p .shares * 512)) (transformed (p .l * p .shares) (secretOf p tape g)) s₀ s₁)
+  module _ (seed rest s₀ s₁ s₂ s₃ : List ℕ) (x : MaskGen) (b : Bool) (hr : rest ≡ restOf p coins)
+      (u : Wrote (p .shares * 512) (atS (p .shares)) (p .l * (p .shares * 512)) (transformed (p .l * p .shares) (secretOf p coins g)) s₀ s₁)
       (hx : x ≡ skip masks (p .shares) (p .l + p .l * p .rep) g)
       (hb : b ≡ filled (matrixOf (p .k) (p .l) seed))
       (v : (A : List ℕ) → matrixOf (p .k) (p .l) seed ≡ some A
@@ -84,31 +84,31 @@ module _ (p : Params) (power : p .shares ≡ 2 ^ orderIndex (p .shares)) (tape s
         (hc : c ≡ filled (compressedOf (p .edition) (p .kappa / 8) shares (p .l) (p .shares) (sub s₂ (atS (p .shares)) (p .l * (p .shares * 512)))))
         (w : (X : List ℕ) → compressedOf (p .edition) (p .kappa / 8) shares (p .l) (p .shares) (sub s₂ (atS (p .shares)) (p .l * (p .shares * 512))) ≡ some X
         → Wrote 0 (atX (p .k) (p .l) (p .shares)) (p .l * 512) X s₂ s₃) where
-      kept : sub s₂ (atS (p .shares)) (p .l * (p .shares * 512)) ≡ keyShares p tape g
+      kept : sub s₂ (atS (p .shares)) (p .l * (p .shares * 512)) ≡ keyShares p coins g
       kept =
           let m = matrixOf (p .k) (p .l) seed in
           v (heldOf m .poly) (filled-some m (sym hb ∙ yes)) .front (atS (p .shares)) (p .l * (p .shares * 512)) (omega arith) (omega arith)
           ∙ u .new ∙ shares-is
 
       full : compressedOf (p .edition) (p .kappa / 8) shares (p .l) (p .shares) (sub s₂ (atS (p .shares)) (p .l * (p .shares * 512)))
-          ≡ compressed p shares (keyShares p tape g)
+          ≡ compressed p shares (keyShares p coins g)
       full = ap (compressedOf (p .edition) (p .kappa / 8) shares (p .l) (p .shares)) kept
 
-      key-filled : c ≡ both (filled (matrix p seed)) (filled (compressed p shares (keyShares p tape g)))
+      key-filled : c ≡ both (filled (matrix p seed)) (filled (compressed p shares (keyShares p coins g)))
       key-filled =
-          hc ∙ ap filled full ∙ sym (both-right (filled (matrix p seed)) (filled (compressed p shares (keyShares p tape g))) (sym hb ∙ yes))
+          hc ∙ ap filled full ∙ sym (both-right (filled (matrix p seed)) (filled (compressed p shares (keyShares p coins g))) (sym hb ∙ yes))
 
-      key-made : (A X : List ℕ) → matrix p seed ≡ some A → compressed p shares (keyShares p tape g) ≡ some X
-          → (sub s₃ (atT (p .l) (p .shares)) (p .k * 512) ≡ keyVector p tape g A) × (sub s₃ (atX (p .k) (p .l) (p .shares)) (p .l * 512) ≡ X)
+      key-made : (A X : List ℕ) → matrix p seed ≡ some A → compressed p shares (keyShares p coins g) ≡ some X
+          → (sub s₃ (atT (p .l) (p .shares)) (p .k * 512) ≡ keyVector p coins g A) × (sub s₃ (atX (p .k) (p .l) (p .shares)) (p .l * 512) ≡ X)
       key-made A X hA hX =
           let z = w X (full ∙ hX) in (
             z .front (atT (p .l) (p .shares)) (p .k * 512) (omega arith) (omega arith) ∙ v A hA .new ∙ ap (publicOf p rest x A) (u .new)
-                ∙ ap (λ (t : List ℕ). publicOf p t x A (transformed (p .l * p .shares) (secretOf p tape g))) hr ∙ vector-is seed A x hA hx,
+                ∙ ap (λ (t : List ℕ). publicOf p t x A (transformed (p .l * p .shares) (secretOf p coins g))) hr ∙ vector-is seed A x hA hx,
             z .new,
           )
 
-      pub made-parts : (g′ : MaskGen) → g ≡ g′ → Said p seed tape shares c s₃ g′
-      made-parts g′ e = subst (Said p seed tape shares c s₃) e (key-filled, key-made)
+      pub made-parts : (g′ : MaskGen) → g ≡ g′ → Said p seed coins shares c s₃ g′
+      made-parts g′ e = subst (Said p seed coins shares c s₃) e (key-filled, key-made)
 
 -- what is said of the parts of the seeds, said of the seeds
 pub three-parts : {a a′ b b′ c c′ : List ℕ} (P : List ℕ → List ℕ → List ℕ → Type 0) → a ≡ a′ → b ≡ b′ → c ≡ c′ → P a b c → P a′ b′ c′
@@ -116,7 +116,7 @@ three-parts {a} {a′} {b} {b′} {c} {c′} P e f h x =
     subst (λ (t : List ℕ). P a′ b′ t) h (subst (λ (t : List ℕ). P a′ t c) f (subst (λ (t : List ℕ). P t b c) e x))
 
 abbrev pub Made : Params → MaskGen → Bool → List ℕ → List ℕ → List ℕ → List ℕ → List ℕ → Type 0
-Made p g r s₀ s seed tape shares =
-    ((r ≡ both (filled (matrix p seed)) (filled (compressed p shares (keyShares p tape g)))) × (length s ≡ length s₀) × Below q s)
-    × ((A x : List ℕ) → matrix p seed ≡ some A → compressed p shares (keyShares p tape g) ≡ some x
-    → (sub s (atT (p .l) (p .shares)) (p .k * 512) ≡ keyVector p tape g A) × (sub s (atX (p .k) (p .l) (p .shares)) (p .l * 512) ≡ x))
+Made p g r s₀ s seed coins shares =
+    ((r ≡ both (filled (matrix p seed)) (filled (compressed p shares (keyShares p coins g)))) × (length s ≡ length s₀) × Below q s)
+    × ((A x : List ℕ) → matrix p seed ≡ some A → compressed p shares (keyShares p coins g) ≡ some x
+    → (sub s (atT (p .l) (p .shares)) (p .k * 512) ≡ keyVector p coins g A) × (sub s (atX (p .k) (p .l) (p .shares)) (p .l * 512) ≡ x))

@@ -23,7 +23,7 @@ pub mod Images
 pub mod KeyBytes
 pub mod KeyEnds
 pub mod KeyMade
-pub mod KeyOpens
+pub mod KeyExpands
 pub mod KeyRanges
 pub mod KeySecret
 pub mod KeySteps
@@ -32,7 +32,7 @@ pub mod Lists
 pub mod Loads
 pub mod Masking
 pub mod Norms
-pub mod Opened
+pub mod Expanded
 pub mod Packer
 pub mod Packing
 pub mod Parsed
@@ -50,7 +50,7 @@ pub mod Signs
 pub mod SameBytes
 pub mod Sizes
 pub mod Strings
-pub mod Tapes
+pub mod Coins
 pub mod Trip
 pub mod Verdict
 pub mod Verified

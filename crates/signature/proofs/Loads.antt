@@ -20,12 +20,12 @@ use Rattle.signature.specs.Attempt.{keyFrom}
 use Rattle.signature.specs.Keys.{fullShare, seededShare, shareAt, decompressed, expandOf}
 use Rattle.signature.specs.Compress.{seededShareOf}
 use Rattle.signature.specs.Matrix.{filled}
-use Rattle.signature.specs.Opening.{openedAt, opened}
+use Rattle.signature.specs.Expanding.{expandedAt, expandedShares}
 use Rattle.signature.specs.SignCalls.{keySized, sharesGood, sharesOf}
 use Rattle.signature.proofs.Asked.{sizes}
 use Rattle.signature.proofs.KeyMade.{some-same}
 use Rattle.signature.proofs.Checks.{absurd-bool}
-use Rattle.signature.proofs.Opened.{full-length, opened-all, tail-is}
+use Rattle.signature.proofs.Expanded.{full-length, expanded-all, tail-is}
 
 -- ---- the shares of a signing key are words
 
@@ -34,27 +34,27 @@ unfolding heldOf
 held-words none h = words-zeros 512
 held-words (some f) h = h f refl
 
-share-words : (p : Params) (part : List ℕ) → Below q (fullShare p part) → (j i : ℕ) → j < p .l → Words 512 (openedAt p part j i)
+share-words : (p : Params) (part : List ℕ) → Below q (fullShare p part) → (j i : ℕ) → j < p .l → Words 512 (expandedAt p part j i)
 unfolding shareAt seededShareOf heldOf
 share-words p part b j zero h = block-words (p .l) j (fullShare p part) (record { long = full-length p part; low = b }) h
 share-words p part b j (suc i) h = held-words (seededShare p part j (suc i)) (λ (f : List ℕ) e. sampleQ-words _ _ f e)
 
-pub opened-words : (p : Params) (part : List ℕ) → Below q (fullShare p part) → Words (p .l * (p .shares * 512)) (opened p part)
-unfolding opened
-opened-words p part b =
-    words-build (p .l) (λ (j : ℕ). build (p .shares) (openedAt p part j))
-    (λ (j : ℕ) (h : j < p .l). words-build (p .shares) (openedAt p part j) (λ (i : ℕ) (g : i < p .shares). share-words p part b j i h))
+pub expanded-words : (p : Params) (part : List ℕ) → Below q (fullShare p part) → Words (p .l * (p .shares * 512)) (expandedShares p part)
+unfolding expandedShares
+expanded-words p part b =
+    words-build (p .l) (λ (j : ℕ). build (p .shares) (expandedAt p part j))
+    (λ (j : ℕ) (h : j < p .l). words-build (p .shares) (expandedAt p part j) (λ (i : ℕ) (g : i < p .shares). share-words p part b j i h))
 
 -- written as a part of the buffer
 pub part-loaded : (p : Params) (part : List ℕ) (at : ℕ) (s y : List ℕ) → Below q (fullShare p part) → at + p .l * (p .shares * 512) ≤ length s
-    → Below q s → y ≡ opened p part → Wrote 0 at (p .l * (p .shares * 512)) (opened p part) s (put s at (at + p .l * (p .shares * 512) - at) y)
+    → Below q s → y ≡ expandedShares p part → Wrote 0 at (p .l * (p .shares * 512)) (expandedShares p part) s (put s at (at + p .l * (p .shares * 512) - at) y)
 part-loaded p part at s y b h low e =
     let k : at + p .l * (p .shares * 512) - at ≡ p .l * (p .shares * 512) = omega arith in
-    let w = opened-words p part b in
-    wrote-put at (p .l * (p .shares * 512)) (opened p part) s _ h (w .long) low (w .low) (put-back s at k e)
+    let w = expanded-words p part b in
+    wrote-put at (p .l * (p .shares * 512)) (expandedShares p part) s _ h (w .long) low (w .low) (put-back s at k e)
 
-pub part-value : (p : Params) (part X : List ℕ) → filled (decompressed p part) ≡ true → decompressed p part ≡ some X → opened p part ≡ X
-part-value p part X f e = some-same (opened p part) X (sym (opened-all p part f) ∙ e)
+pub part-value : (p : Params) (part X : List ℕ) → filled (decompressed p part) ≡ true → decompressed p part ≡ some X → expandedShares p part ≡ X
+part-value p part X f e = some-same (expandedShares p part) X (sym (expanded-all p part f) ∙ e)
 
 -- ---- checks 3 and 5
 

@@ -1,4 +1,4 @@
--- The checks of signing (01, questions 3 to 9): in two parts, those of the tapes, and what passing gives.
+-- The checks of signing (01, questions 3 to 9): in two parts, those of the coins, and what passing gives.
 use mathlib.Core.Path.{_≡_, refl, sym, ap, _∙_}
 use mathlib.Core.Bool.{Bool, true, false}
 use mathlib.Core.List.{List}
@@ -10,10 +10,10 @@ use Rattle.hash.specs.Lists.{pick}
 use Rattle.hash.specs.declared.params.Params.{Params}
 use Rattle.ring.specs.Words.{q, allBelow}
 use Rattle.sharing.specs.Noise.{noiseBytes}
-use Rattle.signature.specs.Attempt.{tapesOf}
+use Rattle.signature.specs.Attempt.{coinsOf}
 use Rattle.signature.specs.Checks.{ask, both, attemptsAllowed, signBuffersSized, messageSized, workWords}
-use Rattle.signature.specs.Sign.{Tapes}
-use Rattle.signature.specs.SignCalls.{Key, keySized, keyGood, sharesGood, tapesGood, signNo}
+use Rattle.signature.specs.Sign.{Coins}
+use Rattle.signature.specs.SignCalls.{Key, keySized, keyGood, sharesGood, coinsGood, signNo}
 use Rattle.signature.specs.SignSteps.{keyNo, callNo}
 use Rattle.signature.proofs.Asked.{sizes}
 use Rattle.signature.proofs.Checks.{absurd-bool, asked, both-true, left-no, right-no, both-last}
@@ -26,7 +26,7 @@ joined true true false rest = refl
 joined true false c rest = refl
 joined false b c rest = refl
 
-module _ (p : Params) (key : Key) (n : ℕ) (msg : List ℕ) (T : Tapes) (out work : List ℕ) where
+module _ (p : Params) (key : Key) (n : ℕ) (msg : List ℕ) (T : Coins) (out work : List ℕ) where
   parts : signNo p key n msg T out work ≡ pick (eqb (keyNo p key) 0) (callNo p n msg T out work) (keyNo p key)
   unfolding signNo keyNo callNo
   parts = joined (keySized p key) (keyGood p key) (sharesGood p key) (callNo p n msg T out work)
@@ -44,55 +44,55 @@ module _ (p : Params) (n : ℕ) (seeds noise masks : List ℕ) where
   abbrev words : ℕ
   words = n * ((p .l + p .k) * p .shares * 512)
 
-  pub tapes-masks : (x : Bool) → (length masks ≡ n * 32 → ⊥) → false ≡ tapesGood p n (tapesOf x seeds noise masks)
-  tapes-masks true h = sym (right-no (eqb (length noise) words) (right-no (allBelow q noise) (ne-eqb (length masks) (n * 32) h)))
-  tapes-masks false h = sym (right-no (eqb (length seeds) (n * noiseBytes p)) (ne-eqb (length masks) (n * 32) h))
+  pub coins-masks : (x : Bool) → (length masks ≡ n * 32 → ⊥) → false ≡ coinsGood p n (coinsOf x seeds noise masks)
+  coins-masks true h = sym (right-no (eqb (length noise) words) (right-no (allBelow q noise) (ne-eqb (length masks) (n * 32) h)))
+  coins-masks false h = sym (right-no (eqb (length seeds) (n * noiseBytes p)) (ne-eqb (length masks) (n * 32) h))
 
-  pub tapes-noise : (x : Bool) → x ≡ true → (length noise ≡ words → ⊥) → false ≡ tapesGood p n (tapesOf x seeds noise masks)
-  tapes-noise true e h = sym (left-no (both (allBelow q noise) (eqb (length masks) (n * 32))) (ne-eqb (length noise) words h))
-  tapes-noise false e h = absurd-bool (sym e)
+  pub coins-noise : (x : Bool) → x ≡ true → (length noise ≡ words → ⊥) → false ≡ coinsGood p n (coinsOf x seeds noise masks)
+  coins-noise true e h = sym (left-no (both (allBelow q noise) (eqb (length masks) (n * 32))) (ne-eqb (length noise) words h))
+  coins-noise false e h = absurd-bool (sym e)
 
   module _ (m : length masks ≡ n * 32) where
-    pub tapes-words : (x : Bool) → x ≡ true → length noise ≡ words → allBelow q noise ≡ tapesGood p n (tapesOf x seeds noise masks)
-    tapes-words true e h =
+    pub coins-words : (x : Bool) → x ≡ true → length noise ≡ words → allBelow q noise ≡ coinsGood p n (coinsOf x seeds noise masks)
+    coins-words true e h =
         sym (ap (λ (b : Bool). both b (both (allBelow q noise) (eqb (length masks) (n * 32)))) (eq-eqb (length noise) words h)
         ∙ ap (both (allBelow q noise)) (eq-eqb (length masks) (n * 32) m) ∙ both-last (allBelow q noise))
-    tapes-words false e h = absurd-bool (sym e)
+    coins-words false e h = absurd-bool (sym e)
 
-    pub tapes-seeds : (x : Bool) → x ≡ false
-        → eqb (length seeds) (n * ((p .l + p .k) * p .shares * p .rep * (p .kappa / 8))) ≡ tapesGood p n (tapesOf x seeds noise masks)
+    pub coins-seeds : (x : Bool) → x ≡ false
+        → eqb (length seeds) (n * ((p .l + p .k) * p .shares * p .rep * (p .kappa / 8))) ≡ coinsGood p n (coinsOf x seeds noise masks)
     unfolding noiseBytes
-    tapes-seeds false e =
+    coins-seeds false e =
         let a = eqb (length seeds) (n * ((p .l + p .k) * p .shares * p .rep * (p .kappa / 8))) in
         sym (ap (both a) (eq-eqb (length masks) (n * 32) m) ∙ both-last a)
-    tapes-seeds true e = absurd-bool e
+    coins-seeds true e = absurd-bool e
 
 -- ---- what passing gives
 
-pub record Signable (p : Params) (key : Key) (n : ℕ) (T : Tapes) (out work : List ℕ) : Type 0 where
+pub record Signable (p : Params) (key : Key) (n : ℕ) (T : Coins) (out work : List ℕ) : Type 0 where
   pub sized : keySized p key ≡ true
   pub good : keyGood p key ≡ true
   pub low : sharesGood p key ≡ true
   pub some-attempt : 1 ≤ n
   pub most : n ≤ 16
-  pub tapes : tapesGood p n T ≡ true
+  pub coins : coinsGood p n T ≡ true
   pub out-long : length out ≡ p .«sig_bytes»
   pub work-long : length work ≡ workWords p
 
-pub signable : (p : Params) (key : Key) (n : ℕ) (msg : List ℕ) (T : Tapes) (out work : List ℕ) → signNo p key n msg T out work ≡ 0
+pub signable : (p : Params) (key : Key) (n : ℕ) (msg : List ℕ) (T : Coins) (out work : List ℕ) → signNo p key n msg T out work ≡ 0
     → Signable p key n T out work
 unfolding signNo
 signable p key n msg T out work e =
     let n9 = ask 9 (messageSized msg) 0 in
     let n8 = ask 8 (signBuffersSized p out work) n9 in
-    let n7 = ask 7 (tapesGood p n T) n8 in
+    let n7 = ask 7 (coinsGood p n T) n8 in
     let n6 = ask 6 (attemptsAllowed n) n7 in
     let n5 = ask 5 (sharesGood p key) n6 in
     let a3 = asked 2 (keySized p key) (ask 4 (keyGood p key) n5) e in
     let a4 = asked 3 (keyGood p key) n5 (a3 .1) in
     let a5 = asked 4 (sharesGood p key) n6 (a4 .1) in
     let a6 = asked 5 (attemptsAllowed n) n7 (a5 .1) in
-    let a7 = asked 6 (tapesGood p n T) n8 (a6 .1) in
+    let a7 = asked 6 (coinsGood p n T) n8 (a6 .1) in
     let a8 = asked 7 (signBuffersSized p out work) n9 (a7 .1) in
     let b = both-true (leb 1 n) (leb n 16) (a6 .0) in
     let s = sizes (length out) (p .«sig_bytes») (length work) (workWords p) (a8 .0) in
@@ -102,7 +102,7 @@ signable p key n msg T out work e =
       low = a5 .0;
       some-attempt = leb-true 1 n (b .0);
       most = leb-true n 16 (b .1);
-      tapes = a7 .0;
+      coins = a7 .0;
       out-long = s .0;
       work-long = s .1;
     }

@@ -23,14 +23,14 @@ use Rattle.signature.specs.Bits.{repack}
 use Rattle.signature.specs.Checks.{both}
 use Rattle.signature.specs.Keys.{seedBytes, vkSeed, vkVector}
 use Rattle.signature.specs.Matrix.{matrix, filled}
-use Rattle.signature.specs.Opening.{Listed}
-use Rattle.signature.specs.Sign.{Public, Attempted, made, over, stuck, Answer, answer, Tapes, ended, refreshedKey, attempted, noiseAt, maskAt, signFrom}
+use Rattle.signature.specs.Expanding.{Listed}
+use Rattle.signature.specs.Sign.{Public, Attempted, made, over, stuck, Answer, answer, Coins, ended, refreshedKey, attempted, noiseAt, maskAt, signFrom}
 use Rattle.signature.specs.SignCalls.{Key, keySized, keyGood, publicOf, sharesOf, signNo, publicFor, signMade, signGo, signOf, Signing, signing, leftBy, signCall}
 use Rattle.signature.specs.SignSteps.{kept}
 use Rattle.signature.proofs.Asked.{sizes}
 use Rattle.signature.proofs.Checks.{not-filled, both-yes, right-no}
 use Rattle.signature.proofs.Loads.{packed-long}
-use Rattle.signature.proofs.Opened.{vk-in}
+use Rattle.signature.proofs.Expanded.{vk-in}
 
 -- ---- the public key is the front of either form
 
@@ -82,14 +82,14 @@ ended-late a (made b) later h = refl
 ended-late a over later h = h
 ended-late a stuck later h = refl
 
-from-late : (p : Params) (P : Public) (T : Tapes) (n a : ℕ) (s : List ℕ) → early (signFrom p P T n a s) ≡ false
+from-late : (p : Params) (P : Public) (T : Coins) (n a : ℕ) (s : List ℕ) → early (signFrom p P T n a s) ≡ false
 unfolding signFrom
 from-late p P T zero a s = refl
 from-late p P T (suc n) a s =
     ended-late a (attempted p P (noiseAt p T a) (maskAt T a) s) (signFrom p P T n (suc a) (refreshedKey p (noiseAt p T a) (maskAt T a) s))
     (from-late p P T n (suc a) (refreshedKey p (noiseAt p T a) (maskAt T a) s))
 
-module _ (p : Params) (vk msg : List ℕ) (T : Tapes) (n : ℕ) where
+module _ (p : Params) (vk msg : List ℕ) (T : Coins) (n : ℕ) where
   made-late : (m s : Option (List ℕ)) → early (signMade p vk msg T n m s) ≡ false
   made-late none s = refl
   made-late (some A) none = refl
@@ -101,7 +101,7 @@ module _ (p : Params) (vk msg : List ℕ) (T : Tapes) (n : ℕ) where
 
 -- ---- behind the checks: out and work are the buffers before, w the work buffer where it is cleared
 
-module _ (p : Params) (key : Key) (msg : List ℕ) (T : Tapes) (n : ℕ) (out work w : List ℕ) (long : length w ≡ length work) where
+module _ (p : Params) (key : Key) (msg : List ℕ) (T : Coins) (n : ℕ) (out work w : List ℕ) (long : length w ≡ length work) where
   abbrev front : List ℕ
   front = publicOf p key
 
@@ -131,7 +131,7 @@ module _ (p : Params) (key : Key) (msg : List ℕ) (T : Tapes) (n : ℕ) (out wo
 
 -- ---- the call
 
-module _ (p : Params) (key : Key) (n : ℕ) (msg : List ℕ) (T : Tapes) (out work : List ℕ) (k : ℕ) (f : k ≡ signNo p key n msg T out work) where
+module _ (p : Params) (key : Key) (n : ℕ) (msg : List ℕ) (T : Coins) (out work : List ℕ) (k : ℕ) (f : k ≡ signNo p key n msg T out work) where
   abbrev found : Signing
   found = leftBy (signGo (signNo p key n msg T out work) p key n msg T) out work
 
@@ -157,7 +157,7 @@ module _ (p : Params) (key : Key) (n : ℕ) (msg : List ℕ) (T : Tapes) (out wo
     pub found-cleared : 8 < k → signing k 0 out (zeros (length work)) ≡ found
     found-cleared m = ap (λ (b : Bool). signing k 0 out (pick b work (zeros (length work)))) (sym (right-no (leb 1 k) (lt-leb k 8 m))) ∙ refused
 
-module _ (e : Edition) (set d : ℕ) (key : Key) (n : ℕ) (msg : List ℕ) (T : Tapes) (out work : List ℕ) where
+module _ (e : Edition) (set d : ℕ) (key : Key) (n : ℕ) (msg : List ℕ) (T : Coins) (out work : List ℕ) where
   pub sign-no-set : lookupOf set d e ≡ Selected.NoSet → signing 1 0 out work ≡ signCall e set d key n msg T out work
   unfolding signCall signOf
   sign-no-set h = rw h

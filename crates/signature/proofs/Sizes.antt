@@ -42,10 +42,10 @@ module _ (p : Params) (h : Small p) where
       let z : p .l * p .rep * p .shares * (p .kappa / 8) ≤ 7 * 8 * 64 * 32 = mul-le-mul y seed-low in
       (omega arith, omega arith, omega arith)
 
-  -- the whole tape
-  pub tape-low : ((p .l + p .k) * p .shares ≤ 1024) × ((p .l + p .k) * p .shares * p .rep ≤ 8192)
+  -- the noise seeds of one attempt
+  pub coins-low : ((p .l + p .k) * p .shares ≤ 1024) × ((p .l + p .k) * p .shares * p .rep ≤ 8192)
       × ((p .l + p .k) * p .shares * p .rep * (p .kappa / 8) ≤ 262144)
-  tape-low =
+  coins-low =
       let a : p .l + p .k ≤ 16 = let m = h .columns-low in let n = h .rows-low in omega arith in
       let x : (p .l + p .k) * p .shares ≤ 16 * 64 = mul-le-mul a (h .shares-low) in
       let y : (p .l + p .k) * p .shares * p .rep ≤ 16 * 64 * 8 = mul-le-mul x (h .rep-low) in
@@ -61,46 +61,46 @@ module _ (p : Params) (h : Small p) where
   pub share-room : p .l * 512 ≤ p .l * (p .shares * 512)
   share-room = let m = h .shares-pos in let n : 512 ≤ p .shares * 512 = omega arith in mul-le-mul (le-refl (p .l)) n
 
-  -- the tape's two parts
-  pub tape-first : (n : ℕ) → n ≡ noiseBytes p → p .l * p .rep * p .shares * (p .kappa / 8) ≤ n
+  -- their two parts
+  pub coins-first : (n : ℕ) → n ≡ noiseBytes p → p .l * p .rep * p .shares * (p .kappa / 8) ≤ n
   unfolding noiseBytes
-  tape-first n e = omega arith
+  coins-first n e = omega arith
 
-  pub tape-second : (xs : List ℕ) → length xs ≡ noiseBytes p
+  pub coins-second : (xs : List ℕ) → length xs ≡ noiseBytes p
       → p .k * p .rep * p .shares * (p .kappa / 8) ≤ length (take (length xs - p .l * p .rep * p .shares * (p .kappa / 8)) (drop (p .l * p .rep * p .shares * (p .kappa / 8)) xs))
   unfolding noiseBytes
-  tape-second xs e =
+  coins-second xs e =
       let b = p .l * p .rep * p .shares * (p .kappa / 8) in
       let m : length (drop b xs) ≡ length xs - b = length-drop b xs in
       rw (part-all b xs) (omega arith)
 
-  pub tape-is : noiseBytes p ≡ (p .l + p .k) * p .shares * p .rep * (p .kappa / 8)
+  pub coins-is : noiseBytes p ≡ (p .l + p .k) * p .shares * p .rep * (p .kappa / 8)
   unfolding noiseBytes
-  tape-is = omega arith
+  coins-is = omega arith
 
   -- the seeds' three parts
   module _ (xs : List ℕ) (e : length xs ≡ keygenBytes p) where
     pub seed-ends : p .kappa / 8 ≤ length xs
     seed-ends = omega arith
 
-    pub tape-ends : p .kappa / 8 + (p .l + p .k) * p .shares * p .rep * (p .kappa / 8) ≤ length xs
-    tape-ends = let m = tape-is in omega (arith, m, e)
+    pub coins-ends : p .kappa / 8 + (p .l + p .k) * p .shares * p .rep * (p .kappa / 8) ≤ length xs
+    coins-ends = let m = coins-is in omega (arith, m, e)
 
     pub seed-long : p .kappa / 8 ≡ length (take (p .kappa / 8) xs)
     seed-long = sym (length-take-le (p .kappa / 8) xs seed-ends)
 
-    pub tape-part : take (p .kappa / 8 + (p .l + p .k) * p .shares * p .rep * (p .kappa / 8) - p .kappa / 8) (drop (p .kappa / 8) xs) ≡ noisePart p xs
-    tape-part =
-        let m : p .kappa / 8 + (p .l + p .k) * p .shares * p .rep * (p .kappa / 8) - p .kappa / 8 ≡ noiseBytes p = omega (arith, tape-is) in
+    pub coins-part : take (p .kappa / 8 + (p .l + p .k) * p .shares * p .rep * (p .kappa / 8) - p .kappa / 8) (drop (p .kappa / 8) xs) ≡ noisePart p xs
+    coins-part =
+        let m : p .kappa / 8 + (p .l + p .k) * p .shares * p .rep * (p .kappa / 8) - p .kappa / 8 ≡ noiseBytes p = omega (arith, coins-is) in
         ap (λ (n : ℕ). take n (drop (p .kappa / 8) xs)) m
 
     pub share-part : take (length xs - (p .kappa / 8 + (p .l + p .k) * p .shares * p .rep * (p .kappa / 8))) (drop (p .kappa / 8 + (p .l + p .k) * p .shares * p .rep * (p .kappa / 8)) xs) ≡ sharePart p xs
     share-part =
         part-all (p .kappa / 8 + (p .l + p .k) * p .shares * p .rep * (p .kappa / 8)) xs
-        ∙ ap (λ (n : ℕ). drop (p .kappa / 8 + n) xs) (sym tape-is)
+        ∙ ap (λ (n : ℕ). drop (p .kappa / 8 + n) xs) (sym coins-is)
 
-    pub tape-long : length (noisePart p xs) ≡ noiseBytes p
-    tape-long =
+    pub coins-long : length (noisePart p xs) ≡ noiseBytes p
+    coins-long =
         let m : length (drop (p .kappa / 8) xs) ≡ length xs - p .kappa / 8 = length-drop (p .kappa / 8) xs in
         length-take-le (noiseBytes p) (drop (p .kappa / 8) xs) (omega (arith, m, e))
 

@@ -21,7 +21,7 @@ use Rattle.signature.specs.Challenge.{chalHash, chalPoly, chalHeld}
 use Rattle.signature.specs.Keygen.{atS, atT, atX}
 use Rattle.signature.specs.Masked.{Noise, maskedNoise, maskedImage, behindProduct, transformed, untransformed}
 use Rattle.signature.specs.declared.challenge.Challenged.{Challenged}
-use Rattle.signature.specs.Sign.{Tapes, noiseSize, maskedResponse, refreshedKey, refreshedResponse}
+use Rattle.signature.specs.Sign.{Coins, noiseSize, maskedResponse, refreshedKey, refreshedResponse}
 use Rattle.signature.specs.SignCalls.{Key, packed, expanded}
 
 -- the key that a call is lent: a signing key's bytes, or the public key's bytes and the words of all shares
@@ -30,11 +30,11 @@ keyFrom true bytes words = packed bytes
 keyFrom false bytes words = expanded bytes words
 
 -- what all attempts draw on: of the two forms of noise that which is used, and the mask seeds
-abbrev pub tapesOf : Bool → List ℕ → List ℕ → List ℕ → Tapes
-tapesOf explicit seeds words masks = record { explicit = explicit; noise = pick explicit words seeds; masks = masks }
+abbrev pub coinsOf : Bool → List ℕ → List ℕ → List ℕ → Coins
+coinsOf explicit seeds words masks = record { explicit = explicit; noise = pick explicit words seeds; masks = masks }
 
 -- they hold attempt number a + 1, and explicit noise is words below q
-pub record Within (p : Params) (T : Tapes) (a : ℕ) : Type 0 where
+pub record Within (p : Params) (T : Coins) (a : ℕ) : Type 0 where
   pub noise-long : a * noiseSize p (T .explicit) + noiseSize p (T .explicit) ≤ length (T .noise)
   pub noise-low : T .explicit ≡ true → Below q (T .noise)
   pub few : a ≤ 16

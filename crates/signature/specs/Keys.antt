@@ -56,7 +56,7 @@ compressed p seeds s = compressedOf (p .edition) (seedBytes p) seeds (p .l) (p .
 
 -- ---- Algorithm 1
 
--- what key generation is lent: the matrix seed, one noise tape, d - 1 share seeds
+-- what key generation is lent: the matrix seed, the noise seeds, d - 1 share seeds
 abbrev pub keygenBytes : Params → ℕ
 keygenBytes p = seedBytes p + noiseBytes p + (p .shares - 1) * seedBytes p
 
@@ -68,10 +68,10 @@ sharePart p seeds = drop (seedBytes p + noiseBytes p) seeds
 
 -- the shares of s in the transform domain, and t
 unfoldable pub keyShares : Params → List ℕ → MaskGen → List ℕ
-keyShares p tape g = build (p .l) (λ (i : ℕ). each (p .shares) ntt (block (p .shares * 512) i (maskedNoise p (seeded p (p .ut) tape) g)))
+keyShares p coins g = build (p .l) (λ (i : ℕ). each (p .shares) ntt (block (p .shares * 512) i (maskedNoise p (seeded p (p .ut) coins) g)))
 
 unfoldable pub keyVector : Params → List ℕ → MaskGen → List ℕ → List ℕ
-keyVector p tape g A = roundT (totals (p .k) (p .shares) (maskedImage p (seeded p (p .ut) tape) g A))
+keyVector p coins g A = roundT (totals (p .k) (p .shares) (maskedImage p (seeded p (p .ut) coins) g A))
 
 -- the signing key, if matrix and share seeds fill
 abbrev madeKey : Params → List ℕ → MaskGen → Option (List ℕ) → Option (List ℕ) → Option (List ℕ)

@@ -13,7 +13,7 @@ pub mod KeySizes
 pub mod Keys
 pub mod Masked
 pub mod Matrix
-pub mod Opening
+pub mod Expanding
 pub mod Recover
 pub mod Sign
 pub mod SignCalls

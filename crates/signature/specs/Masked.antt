@@ -19,11 +19,11 @@ pub record Noise : Type 0 where
 
 -- from seeds of kappa bits, samples of u bits (01: noise tape); the seeds of the k polynomials come behind those of the l
 unfoldable pub seeded : Params → ℕ → List ℕ → Noise
-seeded p u tape =
+seeded p u coins =
     record {
       reps = p .rep;
-      first = seedNoise (p .shares) (p .rep) u (p .kappa / 8) tape;
-      second = seedNoise (p .shares) (p .rep) u (p .kappa / 8) (drop (p .l * p .rep * p .shares * (p .kappa / 8)) tape);
+      first = seedNoise (p .shares) (p .rep) u (p .kappa / 8) coins;
+      second = seedNoise (p .shares) (p .rep) u (p .kappa / 8) (drop (p .l * p .rep * p .shares * (p .kappa / 8)) coins);
     }
 
 -- explicit (01: bench form): lent words, added once

@@ -98,7 +98,7 @@ attempted p P N g s =
 -- ---- the attempts
 
 -- what each attempt draws on (01: tapes): from seeds or explicit, the noise of all attempts, and the mask seeds of all attempts
-pub record Tapes : Type 0 where
+pub record Coins : Type 0 where
   pub explicit : Bool
   pub noise : List ℕ
   pub masks : List ℕ
@@ -112,10 +112,10 @@ abbrev pub noiseFrom : Params → Bool → List ℕ → Noise
 noiseFrom p true part = explicit p part
 noiseFrom p false part = seeded p (p .uw) part
 
-unfoldable pub noiseAt : Params → Tapes → ℕ → Noise
+unfoldable pub noiseAt : Params → Coins → ℕ → Noise
 noiseAt p T a = noiseFrom p (T .explicit) (block (noiseSize p (T .explicit)) a (T .noise))
 
-unfoldable pub maskAt : Tapes → ℕ → MaskGen
+unfoldable pub maskAt : Coins → ℕ → MaskGen
 maskAt T a = maskStart (block 32 a (T .masks))
 
 -- the end of attempt number a + 1, or what the later ones give
@@ -124,8 +124,8 @@ ended a (made b) later = answer 0 (suc a) b
 ended a over later = later
 ended a stuck later = answer 11 (suc a) []
 
--- `left` attempts in the order of the tapes, from number a + 1, with the key's shares s; 12 where none passes
-unfoldable pub signFrom : Params → Public → Tapes → ℕ → ℕ → List ℕ → Answer
+-- `left` attempts in the order of the coins, from number a + 1, with the key's shares s; 12 where none passes
+unfoldable pub signFrom : Params → Public → Coins → ℕ → ℕ → List ℕ → Answer
 signFrom p P T zero a s = answer 12 a []
 signFrom p P T (suc left) a s =
     ended a (attempted p P (noiseAt p T a) (maskAt T a) s) (signFrom p P T left (suc a) (refreshedKey p (noiseAt p T a) (maskAt T a) s))

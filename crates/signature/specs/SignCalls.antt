@@ -15,7 +15,7 @@ use Rattle.signature.specs.Checks.{ask, both, signingKeySized, expandedK
 use Rattle.signature.specs.Keys.{vkSeed, vkVector, expandOf}
 use Rattle.signature.specs.Matrix.{matrix}
 use Rattle.signature.specs.Recover.{muOf}
-use Rattle.signature.specs.Sign.{Public, Answer, answer, Tapes, signFrom}
+use Rattle.signature.specs.Sign.{Public, Answer, answer, Coins, signFrom}
 
 -- a signing key's bytes; or an expanded key (01: opened key): the public key's bytes and the words of all shares
 pub data Key : Type 0 where
@@ -43,37 +43,37 @@ abbrev pub sharesOf : Params → Key → Option (List ℕ)
 sharesOf p (packed key) = expandOf p key
 sharesOf p (expanded vk words) = some words
 
-abbrev pub tapesGood : Params → ℕ → Tapes → Bool
-tapesGood p n T = pick (T .explicit) (signNoiseGood p n (T .noise) (T .masks)) (signSeedsSized p n (T .noise) (T .masks))
+abbrev pub coinsGood : Params → ℕ → Coins → Bool
+coinsGood p n T = pick (T .explicit) (signNoiseGood p n (T .noise) (T .masks)) (signSeedsSized p n (T .noise) (T .masks))
 
 -- checks 3 to 9; 0 where none is a no
-unfoldable pub signNo : Params → Key → ℕ → List ℕ → Tapes → List ℕ → List ℕ → ℕ
+unfoldable pub signNo : Params → Key → ℕ → List ℕ → Coins → List ℕ → List ℕ → ℕ
 signNo p key n msg T out work =
     ask 3 (keySized p key)
     (ask 4 (keyGood p key)
     (ask 5 (sharesGood p key)
     (ask 6 (attemptsAllowed n)
-    (ask 7 (tapesGood p n T) (ask 8 (signBuffersSized p out work) (ask 9 (messageSized msg) 0))))))
+    (ask 7 (coinsGood p n T) (ask 8 (signBuffersSized p out work) (ask 9 (messageSized msg) 0))))))
 
 abbrev pub publicFor : Params → List ℕ → List ℕ → List ℕ → Public
 publicFor p vk msg A = record { matrix = A; vector = vkVector p vk; mu = muOf p vk msg }
 
 -- check 10, the matrix and the share seeds; then the attempts
-abbrev pub signMade : Params → List ℕ → List ℕ → Tapes → ℕ → Option (List ℕ) → Option (List ℕ) → Answer
+abbrev pub signMade : Params → List ℕ → List ℕ → Coins → ℕ → Option (List ℕ) → Option (List ℕ) → Answer
 signMade p vk msg T n none s = answer 10 0 []
 signMade p vk msg T n (some A) none = answer 10 0 []
 signMade p vk msg T n (some A) (some s) = signFrom p (publicFor p vk msg A) T n 0 s
 
-abbrev pub signGo : ℕ → Params → Key → ℕ → List ℕ → Tapes → Answer
+abbrev pub signGo : ℕ → Params → Key → ℕ → List ℕ → Coins → Answer
 signGo zero p key n msg T = signMade p (publicOf p key) msg T n (matrix p (vkSeed p (publicOf p key))) (sharesOf p key)
 signGo (suc m) p key n msg T = answer (suc m) 0 []
 
-abbrev pub signFor : Selected → Key → ℕ → List ℕ → Tapes → List ℕ → List ℕ → Answer
+abbrev pub signFor : Selected → Key → ℕ → List ℕ → Coins → List ℕ → List ℕ → Answer
 signFor Selected.NoSet key n msg T out work = answer 1 0 []
 signFor Selected.NoShares key n msg T out work = answer 2 0 []
 signFor (Selected.Found p) key n msg T out work = signGo (signNo p key n msg T out work) p key n msg T
 
-unfoldable pub signOf : Edition → ℕ → ℕ → Key → ℕ → List ℕ → Tapes → List ℕ → List ℕ → Answer
+unfoldable pub signOf : Edition → ℕ → ℕ → Key → ℕ → List ℕ → Coins → List ℕ → List ℕ → Answer
 signOf e set d key n msg T out work = signFor (lookupOf set d e) key n msg T out work
 
 -- what a call gives and leaves: the result is written with 0 only; the work buffer is as it was up to 8, all zero after
@@ -92,5 +92,5 @@ leftBy A out work =
     (pick (eqb (A .status) 0) (A .signature) out)
     (pick (both (leb 1 (A .status)) (leb (A .status) 8)) work (zeros (length work)))
 
-unfoldable pub signCall : Edition → ℕ → ℕ → Key → ℕ → List ℕ → Tapes → List ℕ → List ℕ → Signing
+unfoldable pub signCall : Edition → ℕ → ℕ → Key → ℕ → List ℕ → Coins → List ℕ → List ℕ → Signing
 signCall e set d key n msg T out work = leftBy (signOf e set d key n msg T out work) out work

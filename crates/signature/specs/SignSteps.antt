@@ -10,17 +10,17 @@ use Rattle.hash.specs.declared.params.Params.{Params}
 use Rattle.signature.specs.Checks.{ask, attemptsAllowed, signBuffersSized, messageSized}
 use Rattle.signature.specs.Keys.{vkSeed, vkVector}
 use Rattle.signature.specs.Matrix.{matrix, filled}
-use Rattle.signature.specs.Sign.{Public, Attempted, made, over, stuck, Answer, answer, refreshedKey, attempted, Tapes, noiseAt, maskAt}
-use Rattle.signature.specs.SignCalls.{Key, keySized, keyGood, sharesGood, tapesGood}
+use Rattle.signature.specs.Sign.{Public, Attempted, made, over, stuck, Answer, answer, refreshedKey, attempted, Coins, noiseAt, maskAt}
+use Rattle.signature.specs.SignCalls.{Key, keySized, keyGood, sharesGood, coinsGood}
 use Rattle.signature.specs.declared.sign.AttemptEnd.{AttemptEnd}
 
 -- signNo in two parts: checks 3 to 5, of the key; checks 6 to 9
 unfoldable pub keyNo : Params → Key → ℕ
 keyNo p key = ask 3 (keySized p key) (ask 4 (keyGood p key) (ask 5 (sharesGood p key) 0))
 
-unfoldable pub callNo : Params → ℕ → List ℕ → Tapes → List ℕ → List ℕ → ℕ
+unfoldable pub callNo : Params → ℕ → List ℕ → Coins → List ℕ → List ℕ → ℕ
 callNo p n msg T out work =
-    ask 6 (attemptsAllowed n) (ask 7 (tapesGood p n T) (ask 8 (signBuffersSized p out work) (ask 9 (messageSized msg) 0)))
+    ask 6 (attemptsAllowed n) (ask 7 (coinsGood p n T) (ask 8 (signBuffersSized p out work) (ask 9 (messageSized msg) 0)))
 
 -- what all attempts have, by mu
 abbrev pub publicBy : Params → List ℕ → List ℕ → List ℕ → Public
@@ -35,7 +35,7 @@ EndedAs AttemptEnd.Stuck m E K k xs ys = (filled m ≡ true) × ((A : List ℕ) 
 EndedAs AttemptEnd.Unfilled m E K k xs ys = (m ≡ none) × (ys ≡ xs)
 
 -- attempt number a + 1, with the key's shares s
-abbrev pub EndedAt : Params → List ℕ → List ℕ → Tapes → ℕ → List ℕ → AttemptEnd → List ℕ → List ℕ → List ℕ → Type 0
+abbrev pub EndedAt : Params → List ℕ → List ℕ → Coins → ℕ → List ℕ → AttemptEnd → List ℕ → List ℕ → List ℕ → Type 0
 EndedAt p vk mu T a s r k xs ys =
     EndedAs r (matrix p (vkSeed p vk)) (λ (A : List ℕ). attempted p (publicBy p vk mu A) (noiseAt p T a) (maskAt T a) s)
     (refreshedKey p (noiseAt p T a) (maskAt T a) s) k xs ys

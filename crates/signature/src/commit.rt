@@ -6,7 +6,7 @@ ghost use Prim.Native.Nat.{ℕ, _+_, _*_};
 ghost use lib.ListN.{length};
 ghost use Rattle.ring.specs.Words.{q, Below};
 ghost use Rattle.sharing.specs.Noise.{noiseBytes};
-ghost use Rattle.signature.specs.Attempt.{tapesOf, Within, Committed};
+ghost use Rattle.signature.specs.Attempt.{coinsOf, Within, Committed};
 ghost use Rattle.signature.specs.Checks.{workWords};
 ghost use Rattle.signature.specs.Keygen.{Small};
 ghost use Rattle.signature.specs.Masked.{seeded, explicit};
@@ -21,11 +21,11 @@ use hash::params::Params;
 use sharing::masks::MaskGen;
 use sharing::masks::start;
 
-// With noise from seeds: one attempt's tape. False where the matrix does not fill.
-fn commit_seeds(work: &mut [u64], p: Params, seed: &[u8], tape: &[u8], g: MaskGen) -> Imaged
-    requires { ⌜ Small p × (length (now work) ≡ workWords p) × Below q (now work) × (length (now tape) ≡ noiseBytes p) ⌝ }
+// With noise from seeds: the seeds of one attempt. False where the matrix does not fill.
+fn commit_seeds(work: &mut [u64], p: Params, seed: &[u8], coins: &[u8], g: MaskGen) -> Imaged
+    requires { ⌜ Small p × (length (now work) ≡ workWords p) × Below q (now work) × (length (now coins) ≡ noiseBytes p) ⌝ }
     ensures { λ r. ⌜ (r .ok ≡ filled (matrix p (now (seed .entry)))) × (length (now (work .exit)) ≡ length (now (work .entry))) × Below q (now (work .exit)) ⌝ }
-    ensures { λ r. ⌜ ((A : List ℕ) → matrix p (now (seed .entry)) ≡ some A → Committed p (seeded p (p .uw) (now (tape .entry))) g A (r .next) (now (work .entry)) (now (work .exit))) ⌝ }
+    ensures { λ r. ⌜ ((A : List ℕ) → matrix p (now (seed .entry)) ≡ some A → Committed p (seeded p (p .uw) (now (coins .entry))) g A (r .next) (now (work .entry)) (now (work .exit))) ⌝ }
 {
     let k = p.k;
     let l = p.l;
@@ -36,7 +36,7 @@ fn commit_seeds(work: &mut [u64], p: Params, seed: &[u8], tape: &[u8], g: MaskGe
     let at = 4 * (d * 512) + 4096 + l * (d * 512);
     let to = at + l * (d * 512);
     let b = l * rep * d * n;
-    let x = noise_seeds(work, at, l, d, rep, u, tape, n, g);
+    let x = noise_seeds(work, at, l, d, rep, u, coins, n, g);
     image_seeds(
         work,
         d * 512,
@@ -48,7 +48,7 @@ fn commit_seeds(work: &mut [u64], p: Params, seed: &[u8], tape: &[u8], g: MaskGe
         d,
         rep,
         u,
-        &tape[b..],
+        &coins[b..],
         n,
         x,
     )
@@ -82,9 +82,9 @@ pub(crate) fn commit(
     a: usize,
 ) -> Imaged
     requires { ⌜ Small p × (length (now work) ≡ workWords p) × Below q (now work) ⌝ }
-    requires { ⌜ Within p (tapesOf explicit (now seeds) (now words) (now «mask_seeds»)) a ⌝ }
+    requires { ⌜ Within p (coinsOf explicit (now seeds) (now words) (now «mask_seeds»)) a ⌝ }
     ensures { λ r. ⌜ (r .ok ≡ filled (matrix p (now (seed .entry)))) × (length (now (work .exit)) ≡ length (now (work .entry))) × Below q (now (work .exit)) ⌝ }
-    ensures { λ r. ⌜ ((A : List ℕ) → matrix p (now (seed .entry)) ≡ some A → Committed p (noiseAt p (tapesOf explicit (now (seeds .entry)) (now (words .entry)) (now («mask_seeds» .entry))) a) (maskAt (tapesOf explicit (now (seeds .entry)) (now (words .entry)) (now («mask_seeds» .entry))) a) A (r .next) (now (work .entry)) (now (work .exit))) ⌝ }
+    ensures { λ r. ⌜ ((A : List ℕ) → matrix p (now (seed .entry)) ≡ some A → Committed p (noiseAt p (coinsOf explicit (now (seeds .entry)) (now (words .entry)) (now («mask_seeds» .entry))) a) (maskAt (coinsOf explicit (now (seeds .entry)) (now (words .entry)) (now («mask_seeds» .entry))) a) A (r .next) (now (work .entry)) (now (work .exit))) ⌝ }
 {
     let m = a * 32;
     let o = m + 32;

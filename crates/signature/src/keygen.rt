@@ -66,13 +66,13 @@ fn make_parts(
     work: &mut [u64],
     p: Params,
     seed: &[u8],
-    tape: &[u8],
+    coins: &[u8],
     shares: &[u8],
     mask_seed: &[u8],
 ) -> bool
-    requires { ⌜ Small p × (length (now work) ≡ workWords p) × (length (now tape) ≡ noiseBytes p) × (length (now shares) ≡ (p .shares - 1) * (p .kappa / 8)) ⌝ }
-    ensures { λ r. ⌜ (r ≡ both (filled (matrix p (now (seed .entry)))) (filled (compressed p (now (shares .entry)) (keyShares p (now (tape .entry)) (maskStart (now («mask_seed» .entry))))))) × (length (now (work .exit)) ≡ length (now (work .entry))) × Below q (now (work .exit)) ⌝ }
-    ensures { λ r. ⌜ ((A x : List ℕ) → matrix p (now (seed .entry)) ≡ some A → compressed p (now (shares .entry)) (keyShares p (now (tape .entry)) (maskStart (now («mask_seed» .entry)))) ≡ some x → (sub (now (work .exit)) (atT (p .l) (p .shares)) (p .k * 512) ≡ keyVector p (now (tape .entry)) (maskStart (now («mask_seed» .entry))) A) × (sub (now (work .exit)) (atX (p .k) (p .l) (p .shares)) (p .l * 512) ≡ x)) ⌝ }
+    requires { ⌜ Small p × (length (now work) ≡ workWords p) × (length (now coins) ≡ noiseBytes p) × (length (now shares) ≡ (p .shares - 1) * (p .kappa / 8)) ⌝ }
+    ensures { λ r. ⌜ (r ≡ both (filled (matrix p (now (seed .entry)))) (filled (compressed p (now (shares .entry)) (keyShares p (now (coins .entry)) (maskStart (now («mask_seed» .entry))))))) × (length (now (work .exit)) ≡ length (now (work .entry))) × Below q (now (work .exit)) ⌝ }
+    ensures { λ r. ⌜ ((A x : List ℕ) → matrix p (now (seed .entry)) ≡ some A → compressed p (now (shares .entry)) (keyShares p (now (coins .entry)) (maskStart (now («mask_seed» .entry)))) ≡ some x → (sub (now (work .exit)) (atT (p .l) (p .shares)) (p .k * 512) ≡ keyVector p (now (coins .entry)) (maskStart (now («mask_seed» .entry))) A) × (sub (now (work .exit)) (atX (p .k) (p .l) (p .shares)) (p .l * 512) ≡ x)) ⌝ }
 {
     let k = p.k;
     let l = p.l;
@@ -86,14 +86,14 @@ fn make_parts(
     let b = l * rep * d * n;
     clear(work);
     let g = start(mask_seed);
-    let x = noise_seeds(work, at, l, d, rep, u, tape, n, g);
-    if !public_vector(work, at, to, seed, k, l, d, rep, u, &tape[b..], n, x) {
+    let x = noise_seeds(work, at, l, d, rep, u, coins, n, g);
+    if !public_vector(work, at, to, seed, k, l, d, rep, u, &coins[b..], n, x) {
         return false;
     }
     compress_vector(work, at, to + k * 512, l, d, edition, shares, n)
 }
 
-// Lines 2 to 8 and the compression. Lent are the matrix seed, one noise tape and d - 1 share seeds, one behind the other.
+// Lines 2 to 8 and the compression. Lent are the matrix seed, the noise seeds (01: noise tape) and d - 1 share seeds, one behind the other.
 pub(crate) fn make_key(work: &mut [u64], p: Params, seeds: &[u8], mask_seed: &[u8]) -> bool
     requires { ⌜ Small p × (length (now work) ≡ workWords p) × (length (now seeds) ≡ keygenBytes p) ⌝ }
     ensures { λ r. ⌜ (r ≡ both (filled (matrix p (vkSeed p (now (seeds .entry))))) (filled (compressed p (sharePart p (now (seeds .entry))) (keyShares p (noisePart p (now (seeds .entry))) (maskStart (now («mask_seed» .entry))))))) × (length (now (work .exit)) ≡ length (now (work .entry))) × Below q (now (work .exit)) ⌝ }

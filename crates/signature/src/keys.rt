@@ -1,4 +1,4 @@
-// Keys: opening and refreshing (01, "Questions put to a call"; 000, Algorithms 11 and 15). A call puts its questions in their order; the
+// Keys: expanding and refreshing (01, "Questions put to a call"; 000, Algorithms 11 and 15). A call puts its questions in their order; the
 // first no is its status, and the results are then as they were.
 ghost use mathlib.Core.Path.{_≡_};
 ghost use Prim.Native.Nat.{_+_, _*_, _^_, _≤_, _<_};
@@ -15,7 +15,7 @@ ghost use Rattle.signature.specs.Bits.{repack};
 ghost use Rattle.signature.specs.Checks.{both};
 ghost use Rattle.signature.specs.Matrix.{buildAll, filled};
 ghost use Rattle.signature.specs.Keys.{fullShare, seededShare, shareAt, decompressed};
-ghost use Rattle.signature.specs.Opening.{Listed, partBytes, openedAt, opened, openedKey};
+ghost use Rattle.signature.specs.Expanding.{Listed, partBytes, expandedAt, expandedShares, expandedKey};
 ghost use Rattle.signature.specs.KeyCalls.{outcome, expandNo, expandCall, refreshNo, refreshCall};
 use crate::bits::unpack;
 use crate::compress::seeded_share;
@@ -223,7 +223,7 @@ pub(crate) fn full_share_good(p: Params, part: &[u8]) -> bool
 fn share_at(p: Params, part: &[u8], full: &[u64], j: usize, i: usize) -> [u64; 512]
     requires { ⌜ Listed p × (length (now part) ≡ partBytes p) × (j < p .l) × (i < p .shares) ⌝ }
     requires { ⌜ (now full ≡ fullShare p (now part)) × Words (p .l * 512) (now full) ⌝ }
-    ensures { λ r. ⌜ (r ≡ openedAt p (now (part .entry)) j i) × Words 512 r ⌝ }
+    ensures { λ r. ⌜ (r ≡ expandedAt p (now (part .entry)) j i) × Words 512 r ⌝ }
 {
     if i == 0 {
         return load(full, j * 512);
@@ -233,10 +233,10 @@ fn share_at(p: Params, part: &[u8], full: &[u64], j: usize, i: usize) -> [u64; 5
 }
 
 // The shares of polynomial j (000, Algorithm 15).
-fn open_polynomial(p: Params, part: &[u8], full: &[u64], j: usize, out: &mut [u64])
+fn decompress_polynomial(p: Params, part: &[u8], full: &[u64], j: usize, out: &mut [u64])
     requires { ⌜ Listed p × (length (now part) ≡ partBytes p) × (j < p .l) ⌝ }
     requires { ⌜ (now full ≡ fullShare p (now part)) × Words (p .l * 512) (now full) × Words (p .l * (p .shares * 512)) (now out) ⌝ }
-    ensures { λ _. ⌜ Wrote 0 (j * (p .shares * 512)) (p .shares * 512) (build (p .shares) (openedAt p (now (part .entry)) j)) (now (out .entry)) (now (out .exit)) ⌝ }
+    ensures { λ _. ⌜ Wrote 0 (j * (p .shares * 512)) (p .shares * 512) (build (p .shares) (expandedAt p (now (part .entry)) j)) (now (out .entry)) (now (out .exit)) ⌝ }
 {
     let d = p.shares;
     for i in 0..d {
@@ -246,28 +246,28 @@ fn open_polynomial(p: Params, part: &[u8], full: &[u64], j: usize, out: &mut [u6
 }
 
 // .. of all polynomials, over words that are zero.
-fn open_all(p: Params, part: &[u8], full: &[u64], out: &mut [u64])
+fn decompress_all(p: Params, part: &[u8], full: &[u64], out: &mut [u64])
     requires { ⌜ Listed p × (length (now part) ≡ partBytes p) ⌝ }
     requires { ⌜ (now full ≡ fullShare p (now part)) × Words (p .l * 512) (now full) × (length (now out) ≡ p .l * (p .shares * 512)) ⌝ }
-    ensures { λ _. ⌜ now (out .exit) ≡ opened p (now (part .entry)) ⌝ }
+    ensures { λ _. ⌜ now (out .exit) ≡ expandedShares p (now (part .entry)) ⌝ }
 {
     let l = p.l;
     clear(out);
     for j in 0..l {
-        open_polynomial(p, part, full, j, out);
+        decompress_polynomial(p, part, full, j, out);
     }
 }
 
 // MaskDecompress (000, Algorithm 15), where all seeded shares fill.
-pub(crate) fn open_shares(p: Params, part: &[u8], out: &mut [u64])
+pub(crate) fn decompress_shares(p: Params, part: &[u8], out: &mut [u64])
     requires { ⌜ Listed p × (length (now part) ≡ partBytes p) ⌝ }
     requires { ⌜ (length (now out) ≡ p .l * (p .shares * 512)) × Below q (fullShare p (now part)) ⌝ }
-    ensures { λ _. ⌜ now (out .exit) ≡ opened p (now (part .entry)) ⌝ }
+    ensures { λ _. ⌜ now (out .exit) ≡ expandedShares p (now (part .entry)) ⌝ }
 {
     let mut full = [0u64; 3584];
     let n = p.l * 512;
     full_share(p, part, &mut full[0..n]);
-    open_all(p, part, &full[0..n], out);
+    decompress_all(p, part, &full[0..n], out);
 }
 
 // The first no of expanding behind the look-up, but question 10, or 0.
@@ -292,17 +292,17 @@ fn expand_no(p: Params, key: &[u8], bytes_out: &[u8], words_out: &[u64]) -> u32
 }
 
 // Question 10, before anything is written; then the results of expanding: the public key's bytes, and the words of all shares.
-fn open_key(p: Params, key: &[u8], bytes_out: &mut [u8], words_out: &mut [u64]) -> u32
+fn expand_found(p: Params, key: &[u8], bytes_out: &mut [u8], words_out: &mut [u64]) -> u32
     requires { ⌜ Listed p × (length (now key) ≡ p .«sk_bytes») × Below q (fullShare p (drop (p .«vk_bytes») (now key))) ⌝ }
     requires { ⌜ (length (now «bytes_out») ≡ p .«vk_bytes») × (length (now «words_out») ≡ p .l * (p .shares * 512)) ⌝ }
-    ensures { λ r. ⌜ outcome r (now («bytes_out» .exit)) (now («words_out» .exit)) ≡ openedKey p (now (key .entry)) (now («bytes_out» .entry)) (now («words_out» .entry)) ⌝ }
+    ensures { λ r. ⌜ outcome r (now («bytes_out» .exit)) (now («words_out» .exit)) ≡ expandedKey p (now (key .entry)) (now («bytes_out» .entry)) (now («words_out» .entry)) ⌝ }
 {
     let vk = p.vk_bytes;
     if !shares_fill(p, &key[vk..]) {
         return 10;
     }
     copy_bytes(&key[0..vk], bytes_out);
-    open_shares(p, &key[vk..], words_out);
+    decompress_shares(p, &key[vk..], words_out);
     0
 }
 
@@ -323,7 +323,7 @@ pub fn expand_key(
         Selected::Found(p) => {
             let k = expand_no(p, key, bytes_out, words_out);
             if k == 0 {
-                return open_key(p, key, bytes_out, words_out);
+                return expand_found(p, key, bytes_out, words_out);
             }
             k
         }

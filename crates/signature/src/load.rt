@@ -12,9 +12,9 @@ ghost use Rattle.signature.specs.Checks.{workWords};
 ghost use Rattle.signature.specs.Keygen.{atS};
 ghost use Rattle.signature.specs.Keys.{fullShare, decompressed};
 ghost use Rattle.signature.specs.Matrix.{filled};
-ghost use Rattle.signature.specs.Opening.{Listed, partBytes};
+ghost use Rattle.signature.specs.Expanding.{Listed, partBytes};
 ghost use Rattle.signature.specs.SignCalls.{keySized, sharesGood, sharesOf};
-use crate::keys::open_shares;
+use crate::keys::decompress_shares;
 use crate::keys::shares_fill;
 use hash::params::Params;
 use ring::poly::copy_into;
@@ -41,7 +41,7 @@ fn load_part(s: &mut [u64], at: usize, p: Params, part: &[u8]) -> bool
     }
     let d = p.shares;
     let e = at + p.l * (d * 512);
-    open_shares(p, part, &mut s[at..e]);
+    decompress_shares(p, part, &mut s[at..e]);
     true
 }
 

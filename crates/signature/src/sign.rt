@@ -7,16 +7,16 @@ ghost use Prim.Native.Nat.{ℕ, _*_, _/_, _≤_};
 ghost use lib.ListN.{length};
 ghost use Rattle.ring.specs.Words.{q, Below};
 ghost use Rattle.sharing.specs.Region.{sub};
-ghost use Rattle.signature.specs.Attempt.{keyFrom, tapesOf, Within};
+ghost use Rattle.signature.specs.Attempt.{keyFrom, coinsOf, Within};
 ghost use Rattle.signature.specs.Checks.{workWords};
 ghost use Rattle.signature.specs.Keygen.{atS, Small};
 ghost use Rattle.signature.specs.KeySizes.{Ranges};
 ghost use Rattle.signature.specs.Keys.{vkSeed, vkVector};
 ghost use Rattle.signature.specs.Matrix.{matrix};
-ghost use Rattle.signature.specs.Opening.{Listed};
+ghost use Rattle.signature.specs.Expanding.{Listed};
 ghost use Rattle.signature.specs.Recover.{muOf};
 ghost use Rattle.signature.specs.Sign.{answer};
-ghost use Rattle.signature.specs.SignCalls.{packed, expanded, publicOf, sharesOf, tapesGood, signNo, signMade, signGo, signing, leftBy, signCall};
+ghost use Rattle.signature.specs.SignCalls.{packed, expanded, publicOf, sharesOf, coinsGood, signNo, signMade, signGo, signing, leftBy, signCall};
 ghost use Rattle.signature.specs.SignSteps.{EndedAt, kept};
 ghost use Rattle.signature.specs.Table.{Tabled};
 use crate::attempt::answer;
@@ -61,9 +61,9 @@ fn attempt(
 ) -> AttemptEnd
     requires { ⌜ Tabled p × Small p × (length (now work) ≡ workWords p) × Below q (now work) ⌝ }
     requires { ⌜ (length (now vk) ≡ p .«vk_bytes») × Below 125 (vkVector p (now vk)) × (length (now out) ≡ p .«sig_bytes») ⌝ }
-    requires { ⌜ Within p (tapesOf explicit (now seeds) (now noise) (now «mask_seeds»)) a ⌝ }
+    requires { ⌜ Within p (coinsOf explicit (now seeds) (now noise) (now «mask_seeds»)) a ⌝ }
     ensures { λ r. ⌜ (length (now (work .exit)) ≡ length (now (work .entry))) × Below q (now (work .exit)) ⌝ }
-    ensures { λ r. ⌜ EndedAt p (now (vk .entry)) (now (mu .entry)) (tapesOf explicit (now (seeds .entry)) (now (noise .entry)) (now («mask_seeds» .entry))) a (sub (now (work .entry)) (atS (p .shares)) (p .l * (p .shares * 512))) r (sub (now (work .exit)) (atS (p .shares)) (p .l * (p .shares * 512))) (now (out .entry)) (now (out .exit)) ⌝ }
+    ensures { λ r. ⌜ EndedAt p (now (vk .entry)) (now (mu .entry)) (coinsOf explicit (now (seeds .entry)) (now (noise .entry)) (now («mask_seeds» .entry))) a (sub (now (work .entry)) (atS (p .shares)) (p .l * (p .shares * 512))) r (sub (now (work .exit)) (atS (p .shares)) (p .l * (p .shares * 512))) (now (out .entry)) (now (out .exit)) ⌝ }
 {
     let n = p.kappa / 8;
     let b = p.kappa / 4;
@@ -83,7 +83,7 @@ fn attempt(
     AttemptEnd::Over
 }
 
-// Up to n attempts, in the order of the tapes: checks 10 (the matrix), 11 and 12.
+// Up to n attempts, in the order of their seeds or noise: checks 10 (the matrix), 11 and 12.
 fn attempt_all(
     work: &mut [u64],
     p: Params,
@@ -98,9 +98,9 @@ fn attempt_all(
 ) -> Signed
     requires { ⌜ Tabled p × Small p × (length (now work) ≡ workWords p) × Below q (now work) ⌝ }
     requires { ⌜ (length (now vk) ≡ p .«vk_bytes») × Below 125 (vkVector p (now vk)) × (length (now out) ≡ p .«sig_bytes») ⌝ }
-    requires { ⌜ (1 ≤ n) × (n ≤ 16) × (tapesGood p n (tapesOf explicit (now seeds) (now noise) (now «mask_seeds»)) ≡ true) ⌝ }
+    requires { ⌜ (1 ≤ n) × (n ≤ 16) × (coinsGood p n (coinsOf explicit (now seeds) (now noise) (now «mask_seeds»)) ≡ true) ⌝ }
     ensures { λ r. ⌜ length (now (work .exit)) ≡ length (now (work .entry)) ⌝ }
-    ensures { λ r. ⌜ ((msg : List ℕ) → now (mu .entry) ≡ muOf p (now (vk .entry)) msg → answer (r .status) (r .attempts) (now (out .exit)) ≡ kept (signMade p (now (vk .entry)) msg (tapesOf explicit (now (seeds .entry)) (now (noise .entry)) (now («mask_seeds» .entry))) n (matrix p (vkSeed p (now (vk .entry)))) (some (sub (now (work .entry)) (atS (p .shares)) (p .l * (p .shares * 512))))) (now (out .entry))) ⌝ }
+    ensures { λ r. ⌜ ((msg : List ℕ) → now (mu .entry) ≡ muOf p (now (vk .entry)) msg → answer (r .status) (r .attempts) (now (out .exit)) ≡ kept (signMade p (now (vk .entry)) msg (coinsOf explicit (now (seeds .entry)) (now (noise .entry)) (now («mask_seeds» .entry))) n (matrix p (vkSeed p (now (vk .entry)))) (some (sub (now (work .entry)) (atS (p .shares)) (p .l * (p .shares * 512))))) (now (out .entry))) ⌝ }
 {
     let mut a: usize = 0;
     while a < n {
@@ -150,8 +150,8 @@ fn sign_with(
     work: &mut [u64],
 ) -> Signed
     requires { ⌜ Tabled p × Listed p × Small p ⌝ }
-    requires { ⌜ signNo p (keyFrom packed (now key) (now words)) n (now message) (tapesOf explicit (now seeds) (now noise) (now «mask_seeds»)) (now out) (now work) ≡ 0 ⌝ }
-    ensures { λ r. ⌜ signing (r .status) (r .attempts) (now (out .exit)) (now (work .exit)) ≡ leftBy (signMade p (publicOf p (keyFrom packed (now (key .entry)) (now (words .entry)))) (now (message .entry)) (tapesOf explicit (now (seeds .entry)) (now (noise .entry)) (now («mask_seeds» .entry))) n (matrix p (vkSeed p (publicOf p (keyFrom packed (now (key .entry)) (now (words .entry)))))) (sharesOf p (keyFrom packed (now (key .entry)) (now (words .entry))))) (now (out .entry)) (now (work .entry)) ⌝ }
+    requires { ⌜ signNo p (keyFrom packed (now key) (now words)) n (now message) (coinsOf explicit (now seeds) (now noise) (now «mask_seeds»)) (now out) (now work) ≡ 0 ⌝ }
+    ensures { λ r. ⌜ signing (r .status) (r .attempts) (now (out .exit)) (now (work .exit)) ≡ leftBy (signMade p (publicOf p (keyFrom packed (now (key .entry)) (now (words .entry)))) (now (message .entry)) (coinsOf explicit (now (seeds .entry)) (now (noise .entry)) (now («mask_seeds» .entry))) n (matrix p (vkSeed p (publicOf p (keyFrom packed (now (key .entry)) (now (words .entry)))))) (sharesOf p (keyFrom packed (now (key .entry)) (now (words .entry))))) (now (out .entry)) (now (work .entry)) ⌝ }
 {
     let e = p.vk_bytes;
     let b = p.kappa / 4;
@@ -196,7 +196,7 @@ fn sign_found(
     work: &mut [u64],
 ) -> Signed
     requires { ⌜ Tabled p × Listed p × Small p × Ranges p ⌝ }
-    ensures { λ r. ⌜ signing (r .status) (r .attempts) (now (out .exit)) (now (work .exit)) ≡ leftBy (signGo (signNo p (keyFrom packed (now (key .entry)) (now (words .entry))) attempts (now (message .entry)) (tapesOf explicit (now (seeds .entry)) (now (noise .entry)) (now («mask_seeds» .entry))) (now (out .entry)) (now (work .entry))) p (keyFrom packed (now (key .entry)) (now (words .entry))) attempts (now (message .entry)) (tapesOf explicit (now (seeds .entry)) (now (noise .entry)) (now («mask_seeds» .entry)))) (now (out .entry)) (now (work .entry)) ⌝ }
+    ensures { λ r. ⌜ signing (r .status) (r .attempts) (now (out .exit)) (now (work .exit)) ≡ leftBy (signGo (signNo p (keyFrom packed (now (key .entry)) (now (words .entry))) attempts (now (message .entry)) (coinsOf explicit (now (seeds .entry)) (now (noise .entry)) (now («mask_seeds» .entry))) (now (out .entry)) (now (work .entry))) p (keyFrom packed (now (key .entry)) (now (words .entry))) attempts (now (message .entry)) (coinsOf explicit (now (seeds .entry)) (now (noise .entry)) (now («mask_seeds» .entry)))) (now (out .entry)) (now (work .entry)) ⌝ }
 {
     let k = sign_no(
         p,
@@ -255,7 +255,7 @@ fn sign_any(
     out: &mut [u8],
     work: &mut [u64],
 ) -> Signed
-    ensures { λ r. ⌜ signing (r .status) (r .attempts) (now (out .exit)) (now (work .exit)) ≡ signCall edition set shares (keyFrom packed (now (key .entry)) (now (words .entry))) attempts (now (message .entry)) (tapesOf explicit (now (seeds .entry)) (now (noise .entry)) (now («mask_seeds» .entry))) (now (out .entry)) (now (work .entry)) ⌝ }
+    ensures { λ r. ⌜ signing (r .status) (r .attempts) (now (out .exit)) (now (work .exit)) ≡ signCall edition set shares (keyFrom packed (now (key .entry)) (now (words .entry))) attempts (now (message .entry)) (coinsOf explicit (now (seeds .entry)) (now (noise .entry)) (now («mask_seeds» .entry))) (now (out .entry)) (now (work .entry)) ⌝ }
 {
     match lookup(set, shares, edition) {
         Selected::NoSet => Signed {

@@ -1,11 +1,11 @@
 // The checks of signing behind the look-up (01, questions 3 to 9): the number of the first no, or 0.
 ghost use mathlib.Core.Path.{_≡_};
 ghost use Prim.Native.Nat.{_≤_};
-ghost use Rattle.signature.specs.Attempt.{keyFrom, tapesOf};
+ghost use Rattle.signature.specs.Attempt.{keyFrom, coinsOf};
 ghost use Rattle.signature.specs.Keygen.{Small};
 ghost use Rattle.signature.specs.KeySizes.{Ranges};
-ghost use Rattle.signature.specs.Opening.{Listed};
-ghost use Rattle.signature.specs.SignCalls.{packed, expanded, tapesGood, signNo};
+ghost use Rattle.signature.specs.Expanding.{Listed};
+ghost use Rattle.signature.specs.SignCalls.{packed, expanded, coinsGood, signNo};
 ghost use Rattle.signature.specs.SignSteps.{keyNo, callNo};
 use crate::int::Q;
 use crate::keycheck::work_words;
@@ -63,7 +63,7 @@ fn key_no(p: Params, packed: bool, key: &[u8], words: &[u64]) -> u32
 }
 
 // Check 7, where n attempts are allowed: explicit noise is in `noise`, seeds of noise are in `seeds`.
-fn tapes_good(
+fn coins_good(
     p: Params,
     n: usize,
     explicit: bool,
@@ -72,7 +72,7 @@ fn tapes_good(
     mask_seeds: &[u8],
 ) -> bool
     requires { ⌜ Small p × (n ≤ 16) ⌝ }
-    ensures { λ r. ⌜ r ≡ tapesGood p n (tapesOf explicit (now (seeds .entry)) (now (noise .entry)) (now («mask_seeds» .entry))) ⌝ }
+    ensures { λ r. ⌜ r ≡ coinsGood p n (coinsOf explicit (now (seeds .entry)) (now (noise .entry)) (now («mask_seeds» .entry))) ⌝ }
 {
     if mask_seeds.len() != n * 32 {
         return false;
@@ -100,7 +100,7 @@ fn call_no(
     work: &[u64],
 ) -> u32
     requires { ⌜ Small p × Ranges p ⌝ }
-    ensures { λ r. ⌜ r ≡ callNo p attempts (now (message .entry)) (tapesOf explicit (now (seeds .entry)) (now (noise .entry)) (now («mask_seeds» .entry))) (now (out .entry)) (now (work .entry)) ⌝ }
+    ensures { λ r. ⌜ r ≡ callNo p attempts (now (message .entry)) (coinsOf explicit (now (seeds .entry)) (now (noise .entry)) (now («mask_seeds» .entry))) (now (out .entry)) (now (work .entry)) ⌝ }
 {
     if attempts < 1 {
         return 6;
@@ -108,7 +108,7 @@ fn call_no(
     if attempts > 16 {
         return 6;
     }
-    if !tapes_good(p, attempts as usize, explicit, seeds, noise, mask_seeds) {
+    if !coins_good(p, attempts as usize, explicit, seeds, noise, mask_seeds) {
         return 7;
     }
     if out.len() != p.sig_bytes {
@@ -139,7 +139,7 @@ pub(crate) fn sign_no(
     work: &[u64],
 ) -> u32
     requires { ⌜ Listed p × Small p × Ranges p ⌝ }
-    ensures { λ r. ⌜ r ≡ signNo p (keyFrom packed (now (key .entry)) (now (words .entry))) attempts (now (message .entry)) (tapesOf explicit (now (seeds .entry)) (now (noise .entry)) (now («mask_seeds» .entry))) (now (out .entry)) (now (work .entry)) ⌝ }
+    ensures { λ r. ⌜ r ≡ signNo p (keyFrom packed (now (key .entry)) (now (words .entry))) attempts (now (message .entry)) (coinsOf explicit (now (seeds .entry)) (now (noise .entry)) (now («mask_seeds» .entry))) (now (out .entry)) (now (work .entry)) ⌝ }
 {
     let k = key_no(p, packed, key, words);
     if k != 0 {

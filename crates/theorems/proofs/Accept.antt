@@ -29,7 +29,7 @@ use Rattle.signature.specs.Keys.{vkSeed}
 use Rattle.signature.specs.Masked.{Noise, maskedImage}
 use Rattle.signature.specs.Matrix.{matrix}
 use Rattle.signature.specs.Recover.{productRow, recoveredRow, recovered, hintOf, adjusted}
-use Rattle.signature.specs.Sign.{Public, Attempted, Answer, Tapes, signedFields, wrote, finished, challenged, concluded, refreshedKey, refreshedResponse, attempted, noiseAt, maskAt, ended, signFrom}
+use Rattle.signature.specs.Sign.{Public, Attempted, Answer, Coins, signedFields, wrote, finished, challenged, concluded, refreshedKey, refreshedResponse, attempted, noiseAt, maskAt, ended, signFrom}
 use Rattle.signature.specs.Sign.Attempted.{made, over, stuck}
 use Rattle.signature.specs.SignCalls.{publicFor}
 use Rattle.signature.specs.Verify.{recomputed, verifyChallenge, verifyFields, verifyOf}
@@ -163,7 +163,7 @@ module _ (p r : Params) (h : setOf p ≡ setOf r) (vk msg A : List ℕ) (eA : ma
   ended-good a over later f g e = g e
   ended-good a stuck later f g e = absurd (omega arith)
 
-  pub from-good : (T : Tapes) (left a : ℕ) (s : List ℕ) → signFrom p (publicFor p vk msg A) T left a s .status ≡ 0
+  pub from-good : (T : Coins) (left a : ℕ) (s : List ℕ) → signFrom p (publicFor p vk msg A) T left a s .status ≡ 0
       → Good r vk msg A eA (signFrom p (publicFor p vk msg A) T left a s .signature)
   unfolding signFrom
   from-good T zero a s e = absurd (omega arith)

@@ -18,7 +18,7 @@ use Rattle.signature.specs.Bits.{repack}
 use Rattle.signature.specs.Checks.{publicKeySized, publicKeyGood}
 use Rattle.signature.specs.Keys.{seedBytes, vkSeed, vkVector}
 use Rattle.signature.specs.Matrix.{matrix}
-use Rattle.signature.specs.Sign.{Answer, Tapes, signFrom}
+use Rattle.signature.specs.Sign.{Answer, Coins, signFrom}
 use Rattle.signature.specs.SignCalls.{Key, keySized, keyGood, publicOf, sharesOf, signNo, publicFor, signMade, signGo, signFor, signOf}
 use Rattle.signature.specs.SignCalls.Key.{packed, expanded}
 use Rattle.signature.specs.Verify.{verifyOf, verifyCall}
@@ -50,7 +50,7 @@ module _ (p : Params) (r : Rule p) where
       ∙ ap (λ (x : List ℕ). allBelow 125 (repack 8 7 (p .k * 512) x)) (front (seedBytes p) (p .k * 448) key (omega (arith, r .sk, r .vk))) ∙ e
   good-public (expanded vk words) s e = e
 
-  no-public : (key : Key) (n : ℕ) (msg : List ℕ) (T : Tapes) (out work : List ℕ) → signNo p key n msg T out work ≡ 0 → plainNo p (publicOf p key) n msg ≡ 0
+  no-public : (key : Key) (n : ℕ) (msg : List ℕ) (T : Coins) (out work : List ℕ) → signNo p key n msg T out work ≡ 0 → plainNo p (publicOf p key) n msg ≡ 0
   unfolding plainNo
   no-public key n msg T out work e =
       let a : AllPassed p key n msg T out work = all-passed p key n msg T out work e in
@@ -69,7 +69,7 @@ module _ (e : Edition) (set d : ℕ) (p : Params) (is : lookupOf set d e ≡ Sel
   one : Single set e p
   one = single set d e p is
 
-  made-accepted : (vk msg : List ℕ) (T : Tapes) (n : ℕ) (o s : Option (List ℕ)) → plainNo p vk n msg ≡ 0 → matrix p (vkSeed p vk) ≡ o
+  made-accepted : (vk msg : List ℕ) (T : Coins) (n : ℕ) (o s : Option (List ℕ)) → plainNo p vk n msg ≡ 0 → matrix p (vkSeed p vk) ≡ o
       → signMade p vk msg T n o s .status ≡ 0 → verifyCall e set vk msg (signMade p vk msg T n o s .signature) ≡ 0
   made-accepted vk msg T n none s z eA h = absurd (omega arith)
   made-accepted vk msg T n (some A) none z eA h = absurd (omega arith)
@@ -79,14 +79,14 @@ module _ (e : Edition) (set d : ℕ) (p : Params) (is : lookupOf set d e ≡ Sel
       ∙ verify-good (one .one) vk msg A m n (signFrom p (publicFor p vk msg A) T n 0 s .signature) (sym (no-same p (one .one) (one .same) vk n msg) ∙ z)
       (from-good p (one .one) (one .same) vk msg A m T n 0 s h)
 
-  go-accepted : (key : Key) (n : ℕ) (msg : List ℕ) (T : Tapes) (out work : List ℕ) (m : ℕ) → signNo p key n msg T out work ≡ m
+  go-accepted : (key : Key) (n : ℕ) (msg : List ℕ) (T : Coins) (out work : List ℕ) (m : ℕ) → signNo p key n msg T out work ≡ m
       → signGo m p key n msg T .status ≡ 0 → verifyCall e set (publicOf p key) msg (signGo m p key n msg T .signature) ≡ 0
   go-accepted key n msg T out work zero i h =
       made-accepted (publicOf p key) msg T n (matrix p (vkSeed p (publicOf p key))) (sharesOf p key)
       (no-public p (found set d e p is .rule) key n msg T out work i) refl h
   go-accepted key n msg T out work (suc m) i h = absurd (omega arith)
 
-  pub known-accepted : (key : Key) (n : ℕ) (msg : List ℕ) (T : Tapes) (out work : List ℕ) → signOf e set d key n msg T out work .status ≡ 0
+  pub known-accepted : (key : Key) (n : ℕ) (msg : List ℕ) (T : Coins) (out work : List ℕ) → signOf e set d key n msg T out work .status ≡ 0
       → verifyCall e set (publicOf p key) msg (signOf e set d key n msg T out work .signature) ≡ 0
   unfolding signOf
   known-accepted key n msg T out work h =
@@ -96,7 +96,7 @@ module _ (e : Edition) (set d : ℕ) (p : Params) (is : lookupOf set d e ≡ Sel
       ∙ go-accepted key n msg T out work (signNo p key n msg T out work) refl (ap (λ (a : Answer). a .status) (sym f) ∙ h)
 
 -- with status 0 the set and the share count were found
-pub found-with : (e : Edition) (set d : ℕ) (key : Key) (n : ℕ) (msg : List ℕ) (T : Tapes) (out work : List ℕ)
+pub found-with : (e : Edition) (set d : ℕ) (key : Key) (n : ℕ) (msg : List ℕ) (T : Coins) (out work : List ℕ)
     → signOf e set d key n msg T out work .status ≡ 0 → (p : Params) × (lookupOf set d e ≡ Selected.Found p)
 unfolding signOf
 found-with e set d key n msg T out work h = go (lookupOf set d e) refl h

@@ -1,5 +1,5 @@
 -- Collapse: a sound unit answers as plain signing on the sums of its shares. Its noise is words below q, and the checks that look at its shares,
--- tapes and buffers are passed.
+-- coins and buffers are passed.
 use mathlib.Core.Path.{_≡_, refl, sym, ap, _∙_, subst}
 use mathlib.Core.Bool.{Bool, true, false}
 use mathlib.Core.List.{List, []}
@@ -24,9 +24,9 @@ use Rattle.signature.specs.Keys.{vkSeed}
 use Rattle.signature.specs.Masked.{Noise, seeded, explicit}
 use Rattle.signature.specs.Matrix.{matrix}
 use Rattle.signature.specs.Sign.{answer, noiseSize, noiseFrom, noiseAt}
-use Rattle.signature.specs.SignCalls.{tapesGood, signNo, publicFor, signMade, signGo, signFor, signOf}
+use Rattle.signature.specs.SignCalls.{coinsGood, signNo, publicFor, signMade, signGo, signFor, signOf}
 use Rattle.theorems.specs.Plain.{Totals, totalsOf, plainNo, plainMade, plainGo, signPlain}
-use Rattle.theorems.specs.Unit.{UnitCall, keyOf, tapesOf, signUnit, recordOf, Fits}
+use Rattle.theorems.specs.Unit.{UnitCall, keyOf, coinsOf, signUnit, recordOf, Fits}
 use Rattle.theorems.proofs.Checks.{both-true, both-yes, below-all}
 use Rattle.theorems.proofs.Steps.{GoodNoise, collapse}
 
@@ -73,7 +73,7 @@ abbrev pub secretOf : Params → UnitCall → List ℕ
 secretOf p u = totals (p .l) (p .shares) (u .words)
 
 abbrev pub noiseOf : Params → UnitCall → ℕ → Noise
-noiseOf p u a = noiseAt p (tapesOf u) a
+noiseOf p u a = noiseAt p (coinsOf u) a
 
 abbrev pub noiseTotals : Params → UnitCall → ℕ → Totals
 noiseTotals p u a = totalsOf p (noiseOf p u a)
@@ -91,26 +91,26 @@ module _ (u : UnitCall) (p : Params) (is : recordOf u ≡ Selected.Found p) (h :
   pub good : (a : ℕ) → a < u .attempts → GoodNoise p (noiseOf p u a)
   unfolding noiseAt
   good a l =
-      noise-good p uw-low (u .attempts) (u .noise) (u .masks) a l (u .explicit) (h .tapes)
+      noise-good p uw-low (u .attempts) (u .noise) (u .masks) a l (u .explicit) (h .coins)
 
   -- the checks that it passes fall away
-  no-plain : signNo p (keyOf u) (u .attempts) (u .message) (tapesOf u) (u .result) (u .work) ≡ plainNo p (u .vk) (u .attempts) (u .message)
+  no-plain : signNo p (keyOf u) (u .attempts) (u .message) (coinsOf u) (u .result) (u .work) ≡ plainNo p (u .vk) (u .attempts) (u .message)
   unfolding signNo plainNo
   no-plain =
       let e3 : eqb (length (u .words)) (p .l * (p .shares * 512)) ≡ true = eq-eqb _ _ (h .share-words .long) in
       let e5 : allBelow q (u .words) ≡ true = below-all q (u .words) (h .share-words .low) in
-      let e7 : tapesGood p (u .attempts) (tapesOf u) ≡ true = h .tapes in
+      let e7 : coinsGood p (u .attempts) (coinsOf u) ≡ true = h .coins in
       let e8 : signBuffersSized p (u .result) (u .work) ≡ true = h .buffers in
       rw (e3, e5, e7, e8, both-yes) refl
 
-  made-plain : (o : Option (List ℕ)) → signMade p (u .vk) (u .message) (tapesOf u) (u .attempts) o (some (u .words))
+  made-plain : (o : Option (List ℕ)) → signMade p (u .vk) (u .message) (coinsOf u) (u .attempts) o (some (u .words))
       ≡ plainMade p (u .vk) (u .attempts) (u .message) (secretOf p u) (noiseTotals p u) o
   made-plain none = refl
   made-plain (some A) =
-      collapse p (subst (λ (x : ℕ). x ≡ 2 ^ orderIndex x) (sym shares-are) (row .power)) (publicFor p (u .vk) (u .message) A) (tapesOf u) (u .attempts) 0
+      collapse p (subst (λ (x : ℕ). x ≡ 2 ^ orderIndex x) (sym shares-are) (row .power)) (publicFor p (u .vk) (u .message) A) (coinsOf u) (u .attempts) 0
       (λ (b : ℕ) (l : b < 0 + u .attempts). good b (omega arith)) (u .words) (h .share-words)
 
-  go-plain : (m : ℕ) → signGo m p (keyOf u) (u .attempts) (u .message) (tapesOf u)
+  go-plain : (m : ℕ) → signGo m p (keyOf u) (u .attempts) (u .message) (coinsOf u)
       ≡ plainGo m p (u .vk) (u .attempts) (u .message) (secretOf p u) (noiseTotals p u)
   go-plain zero = made-plain (matrix p (vkSeed p (u .vk)))
   go-plain (suc m) = refl
@@ -119,11 +119,11 @@ module _ (u : UnitCall) (p : Params) (is : recordOf u ≡ Selected.Found p) (h :
   pub sign-plain : signUnit u ≡ signPlain p (u .vk) (u .attempts) (u .message) (secretOf p u) (noiseTotals p u)
   unfolding signUnit signOf signPlain
   sign-plain =
-      ap (λ (s : Selected). signFor s (keyOf u) (u .attempts) (u .message) (tapesOf u) (u .result) (u .work)) is
-      ∙ go-plain (signNo p (keyOf u) (u .attempts) (u .message) (tapesOf u) (u .result) (u .work))
+      ap (λ (s : Selected). signFor s (keyOf u) (u .attempts) (u .message) (coinsOf u) (u .result) (u .work)) is
+      ∙ go-plain (signNo p (keyOf u) (u .attempts) (u .message) (coinsOf u) (u .result) (u .work))
       ∙ ap (λ (m : ℕ). plainGo m p (u .vk) (u .attempts) (u .message) (secretOf p u) (noiseTotals p u)) no-plain
 
 -- of an unknown set there is one answer
 pub sign-unknown : (u : UnitCall) → recordOf u ≡ Selected.NoSet → signUnit u ≡ answer 1 0 []
 unfolding signUnit signOf
-sign-unknown u is = ap (λ (s : Selected). signFor s (keyOf u) (u .attempts) (u .message) (tapesOf u) (u .result) (u .work)) is
+sign-unknown u is = ap (λ (s : Selected). signFor s (keyOf u) (u .attempts) (u .message) (coinsOf u) (u .result) (u .work)) is

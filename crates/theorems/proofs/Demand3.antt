@@ -9,16 +9,16 @@ use Rattle.hash.specs.Params.{lookupOf}
 use Rattle.hash.specs.declared.params.Edition.{Edition}
 use Rattle.hash.specs.declared.params.Params.{Params}
 use Rattle.hash.specs.declared.params.Selected.{Selected}
-use Rattle.signature.specs.Sign.{Answer, Tapes}
+use Rattle.signature.specs.Sign.{Answer, Coins}
 use Rattle.signature.specs.SignCalls.{Key, Signing, leftBy, signOf, signCall}
 use Rattle.signature.specs.Verify.{verifyCall}
-use Rattle.theorems.specs.Unit.{UnitCall, tapesOf, signUnit, callUnit, Sound, Alike, SameSecret, EqualTotals}
+use Rattle.theorems.specs.Unit.{UnitCall, coinsOf, signUnit, callUnit, Sound, Alike, SameSecret, EqualTotals}
 use Rattle.theorems.proofs.Agree.{answers-agree}
 use Rattle.theorems.proofs.AcceptCall.{known-accepted, found-with}
 
 -- The verifier accepts what is signed with an expanded key: whatever the set, share count, key, message, noise and masks, if signing returns 0,
 -- verifying that signature with that public key and message returns 0.
-pub accepted : (e : Edition) (set d : ℕ) (vk words : List ℕ) (n : ℕ) (msg : List ℕ) (T : Tapes) (out work : List ℕ)
+pub accepted : (e : Edition) (set d : ℕ) (vk words : List ℕ) (n : ℕ) (msg : List ℕ) (T : Coins) (out work : List ℕ)
     → signOf e set d (Key.expanded vk words) n msg T out work .status ≡ 0
     → verifyCall e set vk msg (signOf e set d (Key.expanded vk words) n msg T out work .signature) ≡ 0
 accepted e set d vk words n msg T out work h =
@@ -27,14 +27,14 @@ accepted e set d vk words n msg T out work h =
 
 -- It accepts what is signed with a signing key too; the public key is the signing key's front.
 pub accepted-packed : (e : Edition) (set d : ℕ) (p : Params) → lookupOf set d e ≡ Selected.Found p
-    → (key : List ℕ) (n : ℕ) (msg : List ℕ) (T : Tapes) (out work : List ℕ)
+    → (key : List ℕ) (n : ℕ) (msg : List ℕ) (T : Coins) (out work : List ℕ)
     → signOf e set d (Key.packed key) n msg T out work .status ≡ 0
     → verifyCall e set (take (p .«vk_bytes») key) msg (signOf e set d (Key.packed key) n msg T out work .signature) ≡ 0
 accepted-packed e set d p is key n msg T out work h = known-accepted e set d p is (Key.packed key) n msg T out work h
 
 pub accepted-unit : (u : UnitCall) → signUnit u .status ≡ 0 → verifyCall (u .edition) (u .set) (u .vk) (u .message) (signUnit u .signature) ≡ 0
 unfolding signUnit
-accepted-unit u h = accepted (u .edition) (u .set) (u .shares) (u .vk) (u .words) (u .attempts) (u .message) (tapesOf u) (u .result) (u .work) h
+accepted-unit u h = accepted (u .edition) (u .set) (u .shares) (u .vk) (u .words) (u .attempts) (u .message) (coinsOf u) (u .result) (u .work) h
 
 -- Two units alike in set, public key, message and allowed attempts, each with an expanded key of any of the six share counts; their shares add to
 -- the same secret, and in every allowed attempt their noise adds to equal totals at every coefficient. Whatever the share counts, the sharings, the

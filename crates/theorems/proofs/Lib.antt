@@ -11,4 +11,4 @@ pub mod NoiseTotals
 pub mod ShareCount
 pub mod Sound
 pub mod Steps
-pub mod Tape
+pub mod Coins

@@ -22,7 +22,7 @@ use Rattle.theorems.specs.Plain.{noiseTotal}
 use Rattle.theorems.specs.Unit.{UnitCall, recordOf, lentAt, sampledAt, noiseTotalAt, Fits}
 use Rattle.theorems.proofs.Steps.{GoodNoise}
 use Rattle.theorems.proofs.Collapse.{noiseOf, shares-are, uw-low, good}
-use Rattle.theorems.proofs.Tape.{explicit-first, explicit-second, seeded-first, seeded-second}
+use Rattle.theorems.proofs.Coins.{explicit-first, explicit-second, seeded-first, seeded-second}
 
 -- the sum over r repetitions and d shares at coefficient x
 total-is : (d r : ℕ) (f : ℕ → ℕ → List ℕ) (i : ℕ) → ((t : ℕ) → t < r → Words (d * 512) (f i t)) → (x : ℕ) → x < 512

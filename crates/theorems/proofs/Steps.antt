@@ -20,7 +20,7 @@ use Rattle.sharing.proofs.Lists.{add-zeros-left, block-words, block-build, buil
 use Rattle.sharing.proofs.Totals.{each-words, each-total, zeroNo-total, refreshed-words, refreshed-totals, noise-words, noise-totals, zeroVector-words, zeroVector-block}
 use Rattle.signature.specs.Masked.{Noise, maskedRow, maskedProduct, maskedNoise, beforeProduct, behindProduct, maskedImage}
 use Rattle.signature.specs.Recover.{productRow}
-use Rattle.signature.specs.Sign.{Public, Tapes, concluded, maskedResponse, refreshedKey, refreshedNoise, refreshedResponse, attempted, noiseAt, maskAt, signFrom}
+use Rattle.signature.specs.Sign.{Public, Coins, concluded, maskedResponse, refreshedKey, refreshedNoise, refreshedResponse, attempted, noiseAt, maskAt, signFrom}
 use Rattle.theorems.specs.Plain.{noiseTotal, totalsOf, plainCommitment, plainResponse, plainAttempt, plainFrom}
 
 -- noise of words below q
@@ -190,7 +190,7 @@ module _ (p : Params) (power : p .shares ≡ 2 ^ orderIndex (p .shares)) where
       (w-totals N good g (P .matrix)) (z-totals N good g s ws)
 
   -- all attempts: the key's shares change from one to the next, their sums do not
-  pub collapse : (P : Public) (T : Tapes) (left a : ℕ) → ((b : ℕ) → b < a + left → GoodNoise p (noiseAt p T b))
+  pub collapse : (P : Public) (T : Coins) (left a : ℕ) → ((b : ℕ) → b < a + left → GoodNoise p (noiseAt p T b))
       → (s : List ℕ) → Words (l * (d * 512)) s
       → signFrom p P T left a s ≡ plainFrom p P (λ (b : ℕ). totalsOf p (noiseAt p T b)) left a (totals l d s)
   unfolding signFrom plainFrom

@@ -14,8 +14,8 @@ use Rattle.ring.specs.Words.{q, Words}
 use Rattle.sharing.specs.Blocks.{block, sumN}
 use Rattle.sharing.specs.Noise.{sampleU, noiseHeader}
 use Rattle.signature.specs.Checks.{signBuffersSized}
-use Rattle.signature.specs.Sign.{Answer, Tapes}
-use Rattle.signature.specs.SignCalls.{Key, Signing, tapesGood, signOf, signCall}
+use Rattle.signature.specs.Sign.{Answer, Coins}
+use Rattle.signature.specs.SignCalls.{Key, Signing, coinsGood, signOf, signCall}
 
 pub record UnitCall : Type 0 where
   pub edition : Edition
@@ -38,15 +38,15 @@ pub record UnitCall : Type 0 where
 abbrev pub keyOf : UnitCall → Key
 keyOf u = Key.expanded (u .vk) (u .words)
 
-abbrev pub tapesOf : UnitCall → Tapes
-tapesOf u = record { explicit = u .explicit; noise = u .noise; masks = u .masks }
+abbrev pub coinsOf : UnitCall → Coins
+coinsOf u = record { explicit = u .explicit; noise = u .noise; masks = u .masks }
 
 -- what the call answers; and with it what it leaves in its buffers
 unfoldable pub signUnit : UnitCall → Answer
-signUnit u = signOf (u .edition) (u .set) (u .shares) (keyOf u) (u .attempts) (u .message) (tapesOf u) (u .result) (u .work)
+signUnit u = signOf (u .edition) (u .set) (u .shares) (keyOf u) (u .attempts) (u .message) (coinsOf u) (u .result) (u .work)
 
 unfoldable pub callUnit : UnitCall → Signing
-callUnit u = signCall (u .edition) (u .set) (u .shares) (keyOf u) (u .attempts) (u .message) (tapesOf u) (u .result) (u .work)
+callUnit u = signCall (u .edition) (u .set) (u .shares) (keyOf u) (u .attempts) (u .message) (coinsOf u) (u .result) (u .work)
 
 -- the record of the unit's set and share count, if the set is one of the three
 abbrev pub recordOf : UnitCall → Selected
@@ -87,7 +87,7 @@ noiseTotalAt p u a i x =
 -- an expanded key of the call's own set and share count, every share word below q; noise, mask seeds and buffers that checks 7 and 8 pass
 pub record Fits (p : Params) (u : UnitCall) : Type 0 where
   pub share-words : Words (p .l * (p .shares * 512)) (u .words)
-  pub tapes : tapesGood p (u .attempts) (tapesOf u) ≡ true
+  pub coins : coinsGood p (u .attempts) (coinsOf u) ≡ true
   pub buffers : signBuffersSized p (u .result) (u .work) ≡ true
 
 -- the share count is one of the six; of an unknown set nothing more is asked

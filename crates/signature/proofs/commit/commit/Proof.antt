@@ -5,8 +5,8 @@ use Rattle.sharing.specs.Masks.{maskStart}
 use Rattle.sharing.specs.Noise.{noiseBytes}
 use Rattle.signature.specs.Masked.{seeded, explicit}
 use Rattle.signature.proofs.Commits.{below-part}
-use Rattle.signature.proofs.Sizes.{tape-low}
-use Rattle.signature.proofs.Tapes.{part-block, part-long, fits-mid, words-size, seeds-size, explicit-long, explicit-low, explicit-at, seeds-long, seeds-at, mask-at, committed-at}
+use Rattle.signature.proofs.Sizes.{coins-low}
+use Rattle.signature.proofs.Coins.{part-block, part-long, fits-mid, words-size, seeds-size, explicit-long, explicit-low, explicit-at, seeds-long, seeds-at, mask-at, committed-at}
 use borrow.Author.Needs.{needs}
 use Rattle.signature.proofs.commit.commit.Statement.{statement}
 use Rattle.signature.proofs.commit.commit.Tie as tie
@@ -14,7 +14,7 @@ use Rattle.signature.proofs.commit.commit.Tie as tie
 mul-c : tie.Need-mul-c
 mul-c c =
     let a = c .before .before .before .before .before .before .before .before .before in
-    let m = tape-low (a .args .p) (a .pre .0 .0) .0 in
+    let m = coins-low (a .args .p) (a .pre .0 .0) .0 in
     fits-mid _ (omega (arith, m))
 
 mul-n : tie.Need-mul-n
@@ -71,7 +71,7 @@ returns c =
 mul-n-2 : tie.Need-mul-n-2
 mul-n-2 c =
     let a = c .before .before .before .before .before .before .before .before .before .before .before in
-    let m = tape-low (a .args .p) (a .pre .0 .0) .1 in
+    let m = coins-low (a .args .p) (a .pre .0 .0) .1 in
     fits-mid _ (omega (arith, m))
 
 mul-n-3 : tie.Need-mul-n-3

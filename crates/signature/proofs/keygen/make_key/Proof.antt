@@ -3,7 +3,7 @@ use Prim.Native.Nat.{_+_, _*_, _/_}
 use native.Mathlib.Omega.{arith}
 use Rattle.signature.specs.Keys.{vkSeed}
 use Rattle.signature.proofs.KeySteps.{three-parts, Made}
-use Rattle.signature.proofs.Sizes.{fits-low, tape-low, tape-ends, seed-long, tape-part, share-part, tape-long, share-long}
+use Rattle.signature.proofs.Sizes.{fits-low, coins-low, coins-ends, seed-long, coins-part, share-part, coins-long, share-long}
 use Rattle.sharing.specs.Masks.{maskStart}
 use lib.ListN.{length}
 use borrow.Author.Needs.{needs}
@@ -17,7 +17,7 @@ mul-e c =
     let p = b .p in
     let h = a .pre .0 in
     let xs = b .seeds .now in
-    let m = tape-low p h .0 in
+    let m = coins-low p h .0 in
     fits-low ((p .l + p .k) * p .shares) (omega (arith, m))
 
 mul-e-2 : tie.Need-mul-e-2
@@ -27,7 +27,7 @@ mul-e-2 c =
     let p = b .p in
     let h = a .pre .0 in
     let xs = b .seeds .now in
-    let m = tape-low p h .1 in
+    let m = coins-low p h .1 in
     fits-low ((p .l + p .k) * p .shares * p .rep) (omega (arith, m))
 
 mul-e-3 : tie.Need-mul-e-3
@@ -37,7 +37,7 @@ mul-e-3 c =
     let p = b .p in
     let h = a .pre .0 in
     let xs = b .seeds .now in
-    let m = tape-low p h .2 in
+    let m = coins-low p h .2 in
     fits-low ((p .l + p .k) * p .shares * p .rep * (p .kappa / 8)) (omega (arith, m))
 
 add-e-2 : tie.Need-add-e-2
@@ -47,7 +47,7 @@ add-e-2 c =
     let p = b .p in
     let h = a .pre .0 in
     let xs = b .seeds .now in
-    let m = tape-low p h .2 in
+    let m = coins-low p h .2 in
     let k = h .kappa-low in
     fits-low (p .kappa / 8 + (p .l + p .k) * p .shares * p .rep * (p .kappa / 8)) (omega (arith, m, k))
 
@@ -67,7 +67,7 @@ part-make-parts-end c =
     let p = b .p in
     let h = a .pre .0 in
     let xs = b .seeds .now in
-    tape-ends p h xs (a .pre .2)
+    coins-ends p h xs (a .pre .2)
 
 sub-make-parts-2 : tie.Need-sub-make-parts-2
 sub-make-parts-2 c =
@@ -76,7 +76,7 @@ sub-make-parts-2 c =
     let p = b .p in
     let h = a .pre .0 in
     let xs = b .seeds .now in
-    tape-ends p h xs (a .pre .2)
+    coins-ends p h xs (a .pre .2)
 
 part-make-parts-start-2 : tie.Need-part-make-parts-start-2
 part-make-parts-start-2 c =
@@ -85,7 +85,7 @@ part-make-parts-start-2 c =
     let p = b .p in
     let h = a .pre .0 in
     let xs = b .seeds .now in
-    tape-ends p h xs (a .pre .2)
+    coins-ends p h xs (a .pre .2)
 
 make-parts-requires : tie.Need-make-parts-requires
 make-parts-requires c κs =
@@ -95,7 +95,7 @@ make-parts-requires c κs =
     let h = a .pre .0 in
     let xs = b .seeds .now in
     let e = a .pre .2 in
-    (h, a .pre .1, ap length (tape-part p h xs e) ∙ tape-long p h xs e, ap length (share-part p h xs e) ∙ share-long p h xs e)
+    (h, a .pre .1, ap length (coins-part p h xs e) ∙ coins-long p h xs e, ap length (share-part p h xs e) ∙ share-long p h xs e)
 
 returns : tie.Need-returns
 unfolding vkSeed
@@ -106,7 +106,7 @@ returns c =
     let h = a .pre .0 in
     let xs = b .seeds .now in
     let e = a .pre .2 in
-    three-parts (Made p (maskStart (b .mask-seed .now)) _ (b .work .now) _) refl (tape-part p h xs e) (share-part p h xs e) (c .before .before .make-parts .ensures)
+    three-parts (Made p (maskStart (b .mask-seed .now)) _ (b .work .now) _) refl (coins-part p h xs e) (share-part p h xs e) (c .before .before .make-parts .ensures)
 
 pub make-key-spec : {M : Type 1} → statement M
 make-key-spec =

@@ -2,7 +2,7 @@ use mathlib.Core.Path.{_∙_}
 use Prim.Native.Nat.{_+_, _*_, _/_}
 use native.Mathlib.Omega.{arith}
 use Rattle.signature.proofs.KeyDone.{part-lengths, parts-key}
-use Rattle.signature.proofs.Sizes.{fits-low, tape-low, tape-ends}
+use Rattle.signature.proofs.Sizes.{fits-low, coins-low, coins-ends}
 use borrow.Author.Needs.{needs}
 use Rattle.signature.proofs.keygen.write_made.Statement.{statement}
 use Rattle.signature.proofs.keygen.write_made.Tie as tie
@@ -18,7 +18,7 @@ mul-e c =
     let a = c .before .before .before .before in
     let p = a .args .p in
     let h = a .pre .0 .0 in
-    let m = tape-low p h .0 in
+    let m = coins-low p h .0 in
     fits-low ((p .l + p .k) * p .shares) (omega (arith, m))
 
 mul-e-2 : tie.Need-mul-e-2
@@ -26,7 +26,7 @@ mul-e-2 c =
     let a = c .before .before .before .before in
     let p = a .args .p in
     let h = a .pre .0 .0 in
-    let m = tape-low p h .1 in
+    let m = coins-low p h .1 in
     fits-low ((p .l + p .k) * p .shares * p .rep) (omega (arith, m))
 
 mul-e-3 : tie.Need-mul-e-3
@@ -34,7 +34,7 @@ mul-e-3 c =
     let a = c .before .before .before .before in
     let p = a .args .p in
     let h = a .pre .0 .0 in
-    let m = tape-low p h .2 in
+    let m = coins-low p h .2 in
     fits-low ((p .l + p .k) * p .shares * p .rep * (p .kappa / 8)) (omega (arith, m))
 
 add-e-2 : tie.Need-add-e-2
@@ -42,7 +42,7 @@ add-e-2 c =
     let a = c .before .before .before .before in
     let p = a .args .p in
     let h = a .pre .0 .0 in
-    let m = tape-low p h .2 in
+    let m = coins-low p h .2 in
     let k = h .kappa-low in
     fits-low (p .kappa / 8 + (p .l + p .k) * p .shares * p .rep * (p .kappa / 8)) (omega (arith, m, k))
 
@@ -110,13 +110,13 @@ sub-write-key-3 : tie.Need-sub-write-key-3
 sub-write-key-3 c =
     let a = c .before .before .before .before .before .before in
     let p = a .args .p in
-    tape-ends p (a .pre .0 .0) (a .args .seeds .now) (a .pre .0 .2)
+    coins-ends p (a .pre .0 .0) (a .args .seeds .now) (a .pre .0 .2)
 
 part-write-key-start-3 : tie.Need-part-write-key-start-3
 part-write-key-start-3 c =
     let a = c .before .before .before .before .before .before in
     let p = a .args .p in
-    tape-ends p (a .pre .0 .0) (a .args .seeds .now) (a .pre .0 .2)
+    coins-ends p (a .pre .0 .0) (a .args .seeds .now) (a .pre .0 .2)
 
 part-write-key-end-3 : tie.Need-part-write-key-end-3
 part-write-key-end-3 c = search needs

@@ -10,8 +10,8 @@ expand-no-requires c κs =
     let a = m .before .before .before .before .before .before .args in
     listed (a .set) (a .shares) (a .edition) (m .p .given .0 .0) (sym (m .before .before .lookup .ensures) ∙ m .p .given .1)
 
-open-key-requires : tie.Need-open-key-requires
-open-key-requires c κs =
+expand-found-requires : tie.Need-expand-found-requires
+expand-found-requires c κs =
     let k = c .before .before .before in
     let m = k .before .before .before .before in
     let a = m .before .before .before .before .before .before .args in
@@ -27,7 +27,7 @@ returns c =
     let m = k .before .before .before .before in
     let a = m .before .before .before .before .before .before .args in
     expand-done (a .edition) (a .set) (a .shares) (a .key .now) (a .bytes-out .now) (a .words-out .now) (m .p .given .0 .0)
-    (sym (m .p .given .1) ∙ m .before .before .lookup .ensures) (k .expand-no .result) (k .expand-no .ensures) (w .before .before .before .if1 .taken) _ (w .open-key .ensures)
+    (sym (m .p .given .1) ∙ m .before .before .lookup .ensures) (k .expand-no .result) (k .expand-no .ensures) (w .before .before .before .if1 .taken) _ (w .expand-found .ensures)
 
 returns-2 : tie.Need-returns-2
 returns-2 c =
@@ -54,5 +54,5 @@ returns-4 c =
 pub expand-key-spec : {M : Type 1} → statement M
 expand-key-spec =
     tie.close (tie.spec (λ c κs. search needs) (λ c. search needs) (λ c. search needs) (λ c. search needs)
-    expand-no-requires open-key-requires (λ c. search needs) (λ c. search needs) returns returns-2 returns-3
+    expand-no-requires expand-found-requires (λ c. search needs) (λ c. search needs) returns returns-2 returns-3
     (λ c. search needs) (λ c. search needs) returns-4)

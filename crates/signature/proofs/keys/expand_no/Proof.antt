@@ -7,7 +7,7 @@ use Rattle.ring.specs.Words.{q, allBelow}
 use Rattle.signature.specs.Keys.{vkVector, fullShare}
 use Rattle.signature.specs.KeyCalls.{expandNo}
 use Rattle.signature.proofs.Checks.{no-here, yes-here}
-use Rattle.signature.proofs.Opened.{tail-is, words-few}
+use Rattle.signature.proofs.Expanded.{tail-is, words-few}
 use borrow.Author.Needs.{needs}
 use Rattle.signature.proofs.keys.expand_no.Statement.{statement}
 use Rattle.signature.proofs.keys.expand_no.Tie as tie

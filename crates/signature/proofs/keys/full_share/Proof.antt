@@ -1,4 +1,4 @@
-use Rattle.signature.proofs.Opened.{full-made}
+use Rattle.signature.proofs.Expanded.{full-made}
 use borrow.Author.Needs.{needs}
 use Rattle.signature.proofs.keys.full_share.Statement.{statement}
 use Rattle.signature.proofs.keys.full_share.Tie as tie

@@ -5,7 +5,7 @@ use native.Mathlib.Omega.{arith}
 use lib.ListN.{length, replicate}
 use Rattle.ring.specs.Words.{q, allBelow}
 use Rattle.signature.proofs.Fronts.{front-in, front-is}
-use Rattle.signature.proofs.Opened.{full-length}
+use Rattle.signature.proofs.Expanded.{full-length}
 use borrow.Author.Needs.{needs}
 use Rattle.signature.proofs.keys.full_share_good.Statement.{statement}
 use Rattle.signature.proofs.keys.full_share_good.Tie as tie

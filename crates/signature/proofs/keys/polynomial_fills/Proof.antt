@@ -6,7 +6,7 @@ use borrow.Author.Tests.{not-true, not-false}
 use Rattle.signature.specs.Matrix.{buildAll, filled}
 use Rattle.signature.specs.Keys.{shareAt}
 use Rattle.signature.proofs.Entries.{all-more, all-not}
-use Rattle.signature.proofs.Opened.{first-fills, share-fills}
+use Rattle.signature.proofs.Expanded.{first-fills, share-fills}
 use borrow.Author.Needs.{needs}
 use Rattle.signature.proofs.keys.polynomial_fills.Statement.{statement}
 use Rattle.signature.proofs.keys.polynomial_fills.Tie as tie

@@ -1,5 +1,5 @@
 use native.Mathlib.Omega.{arith}
-use Rattle.signature.proofs.Opened.{seed-in}
+use Rattle.signature.proofs.Expanded.{seed-in}
 use borrow.Author.Needs.{needs}
 use Rattle.signature.proofs.keys.seeded_at.Statement.{statement}
 use Rattle.signature.proofs.keys.seeded_at.Tie as tie

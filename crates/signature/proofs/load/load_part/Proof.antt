@@ -16,8 +16,8 @@ returns c =
     let no = sym (c .before .shares-fill .ensures) ∙ not-true _ (c .if1 .taken) in
     ((sym no, refl, c .before .before .before .before .pre .1 .1), λ X e. absurd-bool (sym (some-filled _ X e) ∙ no))
 
-open-shares-requires : tie.Need-open-shares-requires
-open-shares-requires c κs =
+decompress-shares-requires : tie.Need-decompress-shares-requires
+decompress-shares-requires c κs =
     let a = c .before .before .before .before .before .before in
     let b = a .args in
     let n = b .p .l * (b .p .shares * 512) in
@@ -30,11 +30,11 @@ returns-2 c =
     let b = a .args in
     let r = c .before .before .before .before .before .before .shares-fill in
     let yes = sym (not-false _ (c .before .before .before .before .before .if1 .left)) ∙ r .ensures in
-    let w = part-loaded (b .p) (b .part .now) (b .at) (b .s .now) _ (a .pre .0 .2) (a .pre .1 .0) (a .pre .1 .1) (c .before .before .open-shares .ensures) in
+    let w = part-loaded (b .p) (b .part .now) (b .at) (b .s .now) _ (a .pre .0 .2) (a .pre .1 .0) (a .pre .1 .1) (c .before .before .decompress-shares .ensures) in
     ((yes, w .long, w .low), λ X e. wrote-value (part-value (b .p) (b .part .now) X (sym yes) e) w)
 
 pub load-part-spec : {M : Type 1} → statement M
 load-part-spec =
     tie.close (tie.spec (λ c κs. search needs) returns (λ c. search needs) (λ c. search needs) (λ c. search needs)
-    (λ c. search needs) (λ c. search needs) (λ c. search needs) (λ c. search needs) open-shares-requires
+    (λ c. search needs) (λ c. search needs) (λ c. search needs) (λ c. search needs) decompress-shares-requires
     (λ c. search needs) returns-2)

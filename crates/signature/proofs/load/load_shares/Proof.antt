@@ -5,7 +5,7 @@ use Rattle.sharing.specs.Region.{sub}
 use Rattle.signature.specs.Matrix.{filled}
 use Rattle.signature.proofs.KeyMade.{some-same}
 use Rattle.signature.proofs.Loads.{packed-long, packed-low, packed-shares, expanded-long, expanded-low, expanded-shares}
-use Rattle.signature.proofs.Opened.{vk-in, part-long, part-low}
+use Rattle.signature.proofs.Expanded.{vk-in, part-long, part-low}
 use Rattle.signature.proofs.Sizes.{cleared}
 use borrow.Author.Needs.{needs}
 use Rattle.signature.proofs.load.load_shares.Statement.{statement}

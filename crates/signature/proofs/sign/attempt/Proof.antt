@@ -7,7 +7,7 @@ use borrow.Author.Tests.{not-true, not-false}
 use borrow.Rule.Slice.PartMut.{mid-len}
 use Rattle.ring.specs.Uniform.{heldOf}
 use Rattle.sharing.specs.Region.{sub}
-use Rattle.signature.specs.Attempt.{tapesOf}
+use Rattle.signature.specs.Attempt.{coinsOf}
 use Rattle.signature.specs.Keygen.{atS}
 use Rattle.signature.specs.Keys.{vkSeed}
 use Rattle.signature.specs.Matrix.{matrix, filled}
@@ -47,7 +47,7 @@ returns-2 c =
     let p = b .p in
     let z = c .before .before .before .before .before .before .before .before .before .before .before .before .commit .ensures in
     let v = c .before .before .before .before .before .answer .ensures in
-    let T = tapesOf (b .explicit) (b .seeds .now) (b .noise .now) (b .mask-seeds .now) in
+    let T = coinsOf (b .explicit) (b .seeds .now) (b .noise .now) (b .mask-seeds .now) in
     let e = seed-front p (b .vk .now) in
     let fill = ap (λ (l : List ℕ). filled (matrix p l)) (sym e) ∙ sym (z .0 .0) ∙ not-false _ (c .before .before .before .before .before .before .before .before .if1 .left) in
     let u = answered-all p (b .vk .now) (b .mu .now) (noiseAt p T (b .a)) (maskAt T (b .a)) _ _ (b .work .now) _ _ _ _ e (z .1) (v .1) in
@@ -60,7 +60,7 @@ part-finish-end c =
     let p = b .p in
     let z = c .before .before .before .before .before .before .before .before .before .before .before .before .before .before .before .commit .ensures in
     let v = c .before .before .before .before .before .before .before .before .answer .ensures in
-    let T = tapesOf (b .explicit) (b .seeds .now) (b .noise .now) (b .mask-seeds .now) in
+    let T = coinsOf (b .explicit) (b .seeds .now) (b .noise .now) (b .mask-seeds .now) in
     let e = seed-front p (b .vk .now) in
     let fill = ap (λ (l : List ℕ). filled (matrix p l)) (sym e) ∙ sym (z .0 .0) ∙ not-false _ (c .before .before .before .before .before .before .before .before .before .before .before .if1 .left) in
     let u = answered-all p (b .vk .now) (b .mu .now) (noiseAt p T (b .a)) (maskAt T (b .a)) _ _ (b .work .now) _ _ _ _ e (z .1) (v .1) in
@@ -73,7 +73,7 @@ finish-requires c κs =
     let p = b .p in
     let z = c .before .before .before .before .before .before .before .before .before .before .before .before .before .before .before .before .before .commit .ensures in
     let v = c .before .before .before .before .before .before .before .before .before .before .answer .ensures in
-    let T = tapesOf (b .explicit) (b .seeds .now) (b .noise .now) (b .mask-seeds .now) in
+    let T = coinsOf (b .explicit) (b .seeds .now) (b .noise .now) (b .mask-seeds .now) in
     let s = sub (b .work .now) (atS (p .shares)) (p .l * (p .shares * 512)) in
     let e = seed-front p (b .vk .now) in
     let fill = ap (λ (l : List ℕ). filled (matrix p l)) (sym e) ∙ sym (z .0 .0) ∙ not-false _ (c .before .before .before .before .before .before .before .before .before .before .before .before .before .if1 .left) in
@@ -91,7 +91,7 @@ returns-3 c =
     let z = c .before .before .before .before .before .before .before .before .before .before .before .before .before .before .before .before .before .before .before .before .before .before .before .commit .ensures in
     let v = c .before .before .before .before .before .before .before .before .before .before .before .before .before .before .before .before .answer .ensures in
     let f = c .before .before .before .before .before .finish .ensures in
-    let T = tapesOf (b .explicit) (b .seeds .now) (b .noise .now) (b .mask-seeds .now) in
+    let T = coinsOf (b .explicit) (b .seeds .now) (b .noise .now) (b .mask-seeds .now) in
     let s = sub (b .work .now) (atS (p .shares)) (p .l * (p .shares * 512)) in
     let e = seed-front p (b .vk .now) in
     let fill = ap (λ (l : List ℕ). filled (matrix p l)) (sym e) ∙ sym (z .0 .0) ∙ not-false _ (c .before .before .before .before .before .before .before .before .before .before .before .before .before .before .before .before .before .before .before .if1 .left) in
@@ -108,7 +108,7 @@ returns-4 c =
     let z = c .before .before .before .before .before .before .before .before .before .before .before .before .before .before .before .before .before .before .before .before .before .before .before .commit .ensures in
     let v = c .before .before .before .before .before .before .before .before .before .before .before .before .before .before .before .before .answer .ensures in
     let f = c .before .before .before .before .before .finish .ensures in
-    let T = tapesOf (b .explicit) (b .seeds .now) (b .noise .now) (b .mask-seeds .now) in
+    let T = coinsOf (b .explicit) (b .seeds .now) (b .noise .now) (b .mask-seeds .now) in
     let N = noiseAt p T (b .a) in
     let g = maskAt T (b .a) in
     let s = sub (b .work .now) (atS (p .shares)) (p .l * (p .shares * 512)) in

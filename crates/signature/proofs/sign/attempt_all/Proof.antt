@@ -7,14 +7,14 @@ use native.Mathlib.Omega.{arith}
 use lib.ListN.{length}
 use Rattle.ring.specs.Words.{q, Below}
 use Rattle.sharing.specs.Region.{sub}
-use Rattle.signature.specs.Attempt.{tapesOf}
+use Rattle.signature.specs.Attempt.{coinsOf}
 use Rattle.signature.specs.Keygen.{atS}
 use Rattle.signature.specs.Keys.{vkSeed}
 use Rattle.signature.specs.Matrix.{matrix, filled}
 use Rattle.signature.specs.Sign.{signFrom}
 use Rattle.signature.specs.SignSteps.{publicBy}
 use Rattle.signature.proofs.AttemptEnds.{all-over, all-pass, all-stuck, all-unfilled, all-next}
-use Rattle.signature.proofs.Tapes.{tapes-within}
+use Rattle.signature.proofs.Coins.{coins-within}
 use borrow.Author.Needs.{needs}
 use Rattle.signature.proofs.sign.attempt_all.Statement.{statement}
 use Rattle.signature.proofs.sign.attempt_all.Tie as tie
@@ -23,8 +23,8 @@ abbrev Inv-loop : tie.InvT-loop
 Inv-loop work₀ p vk mu explicit seeds noise mask-seeds n out₀ a₀ work out a =
     (a ≤ n) × (length work ≡ length work₀) × Below q work × (out ≡ out₀) × (1 ≤ a → filled (matrix p (vkSeed p vk)) ≡ true)
     × ((A : List ℕ) → matrix p (vkSeed p vk) ≡ some A
-    → signFrom p (publicBy p vk mu A) (tapesOf explicit seeds noise mask-seeds) n 0 (sub work₀ (atS (p .shares)) (p .l * (p .shares * 512)))
-    ≡ signFrom p (publicBy p vk mu A) (tapesOf explicit seeds noise mask-seeds) (n - a) a (sub work (atS (p .shares)) (p .l * (p .shares * 512))))
+    → signFrom p (publicBy p vk mu A) (coinsOf explicit seeds noise mask-seeds) n 0 (sub work₀ (atS (p .shares)) (p .l * (p .shares * 512)))
+    ≡ signFrom p (publicBy p vk mu A) (coinsOf explicit seeds noise mask-seeds) (n - a) a (sub work (atS (p .shares)) (p .l * (p .shares * 512))))
 
 abbrev μ-loop : tie.MeasureT-loop
 μ-loop work₀ p vk mu explicit seeds noise mask-seeds n out₀ a₀ work out a = n - a
@@ -35,15 +35,15 @@ loop-holds c =
     let b = a .args in
     let p = b .p in
     let e : b .n ≡ b .n - 0 = omega arith in
-    (omega arith, refl, a .pre .0 .3, refl, λ o. absurd (omega (arith, o)), λ (A : List ℕ) h. ap (λ (m : ℕ). signFrom p (publicBy p (b .vk .now) (b .mu .now) A) (tapesOf (b .explicit) (b .seeds .now) (b .noise .now) (b .mask-seeds .now)) m 0 (sub (b .work .now) (atS (p .shares)) (p .l * (p .shares * 512)))) e)
+    (omega arith, refl, a .pre .0 .3, refl, λ o. absurd (omega (arith, o)), λ (A : List ℕ) h. ap (λ (m : ℕ). signFrom p (publicBy p (b .vk .now) (b .mu .now) A) (coinsOf (b .explicit) (b .seeds .now) (b .noise .now) (b .mask-seeds .now)) m 0 (sub (b .work .now) (atS (p .shares)) (p .l * (p .shares * 512)))) e)
 
 attempt-requires : tie.Need-attempt-requires Inv-loop μ-loop
 attempt-requires c κs =
     let a = c .before .before .before .before .before .before .before .before .before .before .before in
     let b = a .args in
     let i = c .before .before .before .loop .inv in
-    let T = tapesOf (b .explicit) (b .seeds .now) (b .noise .now) (b .mask-seeds .now) in
-    let w = tapes-within (b .p) (b .n) (c .before .before .before .loop .a) (c .before .before .loop-test .taken) (a .pre .1 .1 .1) T (a .pre .1 .1 .2) in
+    let T = coinsOf (b .explicit) (b .seeds .now) (b .noise .now) (b .mask-seeds .now) in
+    let w = coins-within (b .p) (b .n) (c .before .before .before .loop .a) (c .before .before .loop-test .taken) (a .pre .1 .1 .1) T (a .pre .1 .1 .2) in
     ((a .pre .0 .0, a .pre .0 .1, i .1 ∙ a .pre .0 .2, i .2), ((a .pre .1 .0 .0, a .pre .1 .0 .1, ap (λ (l : List ℕ). length l) (i .3) ∙ a .pre .1 .0 .2), w))
 
 cast-t19 : tie.Need-cast-t19 Inv-loop μ-loop
@@ -57,7 +57,7 @@ returns c =
     let b = a .args in
     let i = c .before .before .before .before .before .before .before .before .before .before .loop .inv in
     let v = c .before .before .before .before .before .before .attempt .ensures in
-    let T = tapesOf (b .explicit) (b .seeds .now) (b .noise .now) (b .mask-seeds .now) in
+    let T = coinsOf (b .explicit) (b .seeds .now) (b .noise .now) (b .mask-seeds .now) in
     (v .0 .0 ∙ i .1, λ (msg : List ℕ) e. all-pass (b .p) (b .vk .now) (b .mu .now) msg T (b .n) _ (b .out .now) e (c .before .before .before .before .before .before .before .before .before .before .loop .a) _ (i .5) (c .before .before .before .before .before .before .before .before .before .loop-test .taken) _ _ _ _ (i .3) (v .1) (c .enum-told .given .1))
 
 loop-less : tie.Need-loop-less Inv-loop μ-loop
@@ -69,7 +69,7 @@ loop-again c =
     let b = a .args in
     let i = c .before .before .before .before .before .before .before .before .before .before .loop .inv in
     let v = c .before .before .before .before .before .before .attempt .ensures in
-    let T = tapesOf (b .explicit) (b .seeds .now) (b .noise .now) (b .mask-seeds .now) in
+    let T = coinsOf (b .explicit) (b .seeds .now) (b .noise .now) (b .mask-seeds .now) in
     let n = all-next (b .p) (b .vk .now) (b .mu .now) T (b .n) (c .before .before .before .before .before .before .before .before .before .before .loop .a) _ _ (b .out .now) (i .5) (c .before .before .before .before .before .before .before .before .before .loop-test .taken) _ _ _ _ (i .3) (v .1) (c .enum-told2 .given .1) in
     (omega (arith, c .before .before .before .before .before .before .before .before .before .loop-test .taken), v .0 .0 ∙ i .1, v .0 .1, n .0, λ o. n .1, n .2)
 
@@ -84,7 +84,7 @@ returns-2 c =
     let b = a .args in
     let i = c .before .before .before .before .before .before .before .before .before .before .loop .inv in
     let v = c .before .before .before .before .before .before .attempt .ensures in
-    let T = tapesOf (b .explicit) (b .seeds .now) (b .noise .now) (b .mask-seeds .now) in
+    let T = coinsOf (b .explicit) (b .seeds .now) (b .noise .now) (b .mask-seeds .now) in
     (v .0 .0 ∙ i .1, λ (msg : List ℕ) e. all-stuck (b .p) (b .vk .now) (b .mu .now) msg T (b .n) _ (b .out .now) e (c .before .before .before .before .before .before .before .before .before .before .loop .a) _ (i .5) (c .before .before .before .before .before .before .before .before .before .loop-test .taken) _ _ _ _ (i .3) (v .1) (c .enum-told3 .given .1))
 
 returns-3 : tie.Need-returns-3 Inv-loop μ-loop
@@ -93,7 +93,7 @@ returns-3 c =
     let b = a .args in
     let i = c .before .before .before .before .before .before .before .before .before .before .loop .inv in
     let v = c .before .before .before .before .before .before .attempt .ensures in
-    let T = tapesOf (b .explicit) (b .seeds .now) (b .noise .now) (b .mask-seeds .now) in
+    let T = coinsOf (b .explicit) (b .seeds .now) (b .noise .now) (b .mask-seeds .now) in
     (v .0 .0 ∙ i .1, λ (msg : List ℕ) e. all-unfilled (b .p) (b .vk .now) (b .mu .now) msg T (b .n) _ (b .out .now) e (c .before .before .before .before .before .before .before .before .before .before .loop .a) _ (i .5) (c .before .before .before .before .before .before .before .before .before .loop-test .taken) _ _ _ _ (i .3) (v .1) (c .enum-told4 .given .1))
 
 cast-t22 : tie.Need-cast-t22 Inv-loop μ-loop
@@ -107,7 +107,7 @@ returns-4 c =
     let a = c .before .before .before .before .before .before .before .before .before in
     let b = a .args in
     let i = c .before .loop .inv in
-    let T = tapesOf (b .explicit) (b .seeds .now) (b .noise .now) (b .mask-seeds .now) in
+    let T = coinsOf (b .explicit) (b .seeds .now) (b .noise .now) (b .mask-seeds .now) in
     let z : b .n - c .before .loop .a ≡ 0 = omega (arith, c .loop-test .left) in
     let m : 1 ≤ c .before .loop .a = omega (arith, c .loop-test .left, a .pre .1 .1 .0) in
     (i .1, λ (msg : List ℕ) e. all-over (b .p) (b .vk .now) (b .mu .now) msg T (b .n) _ (b .out .now) e (c .before .loop .a) _ (i .5) _ (i .3) (i .4 m) z)

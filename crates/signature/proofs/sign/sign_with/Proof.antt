@@ -7,7 +7,7 @@ use borrow.Author.Tests.{not-true, not-false}
 use Rattle.ring.specs.Uniform.{heldOf}
 use Rattle.ring.specs.Words.{Below}
 use Rattle.sharing.specs.Region.{sub}
-use Rattle.signature.specs.Attempt.{keyFrom, tapesOf}
+use Rattle.signature.specs.Attempt.{keyFrom, coinsOf}
 use Rattle.signature.specs.Keygen.{atS}
 use Rattle.signature.specs.Keys.{vkVector}
 use Rattle.signature.specs.SignCalls.{sharesOf, signing}
@@ -23,7 +23,7 @@ load-shares-requires : tie.Need-load-shares-requires
 load-shares-requires c κs =
     let a = c .before .before .before .before .before .before .before .before .before .before in
     let b = a .args in
-    let g = signable (b .p) (keyFrom (b .packed) (b .key .now) (b .words .now)) (b .n) (b .message .now) (tapesOf (b .explicit) (b .seeds .now) (b .noise .now) (b .mask-seeds .now)) (b .out .now) (b .work .now) (a .pre .1) in
+    let g = signable (b .p) (keyFrom (b .packed) (b .key .now) (b .words .now)) (b .n) (b .message .now) (coinsOf (b .explicit) (b .seeds .now) (b .noise .now) (b .mask-seeds .now)) (b .out .now) (b .work .now) (a .pre .1) in
     ((a .pre .0 .1, g .work-long), (g .sized, g .low))
 
 returns : tie.Need-returns
@@ -32,21 +32,21 @@ returns c =
     let b = a .args in
     let z = c .before .before .before .before .before .before .before .load-shares .ensures in
     ap (signing 10 0 (b .out .now)) (c .before .before .clear .ensures)
-    ∙ end-unfilled (b .p) (keyFrom (b .packed) (b .key .now) (b .words .now)) (b .message .now) (tapesOf (b .explicit) (b .seeds .now) (b .noise .now) (b .mask-seeds .now)) (b .n) (b .out .now) (b .work .now)
+    ∙ end-unfilled (b .p) (keyFrom (b .packed) (b .key .now) (b .words .now)) (b .message .now) (coinsOf (b .explicit) (b .seeds .now) (b .noise .now) (b .mask-seeds .now)) (b .n) (b .out .now) (b .work .now)
     (c .before .before .before .before .before .before .before .load-shares .last .0) (z .0 .1) (sym (z .0 .0) ∙ not-true _ (c .before .before .before .before .if1 .taken))
 
 part-bind-end : tie.Need-part-bind-end
 part-bind-end c =
     let a = c .before .before .before .before .before .before .before .before .before .before .before .before .before .before in
     let b = a .args in
-    let g = signable (b .p) (keyFrom (b .packed) (b .key .now) (b .words .now)) (b .n) (b .message .now) (tapesOf (b .explicit) (b .seeds .now) (b .noise .now) (b .mask-seeds .now)) (b .out .now) (b .work .now) (a .pre .1) in
+    let g = signable (b .p) (keyFrom (b .packed) (b .key .now) (b .words .now)) (b .n) (b .message .now) (coinsOf (b .explicit) (b .seeds .now) (b .noise .now) (b .mask-seeds .now)) (b .out .now) (b .work .now) (a .pre .1) in
     public-in (b .p) (a .pre .0 .1) (b .key .now) (b .words .now) (b .packed) (g .sized)
 
 part-attempt-all-end : tie.Need-part-attempt-all-end
 part-attempt-all-end c =
     let a = c .before .before .before .before .before .before .before .before .before .before .before .before .before .before .before .before .before .before .before in
     let b = a .args in
-    let g = signable (b .p) (keyFrom (b .packed) (b .key .now) (b .words .now)) (b .n) (b .message .now) (tapesOf (b .explicit) (b .seeds .now) (b .noise .now) (b .mask-seeds .now)) (b .out .now) (b .work .now) (a .pre .1) in
+    let g = signable (b .p) (keyFrom (b .packed) (b .key .now) (b .words .now)) (b .n) (b .message .now) (coinsOf (b .explicit) (b .seeds .now) (b .noise .now) (b .mask-seeds .now)) (b .out .now) (b .work .now) (a .pre .1) in
     public-in (b .p) (a .pre .0 .1) (b .key .now) (b .words .now) (b .packed) (g .sized)
 
 part-attempt-all-end-2 : tie.Need-part-attempt-all-end-2
@@ -59,7 +59,7 @@ attempt-all-requires c κs =
     let a = c .before .before .before .before .before .before .before .before .before .before .before .before .before .before .before .before .before .before .before .before .before .before .before in
     let b = a .args in
     let K = keyFrom (b .packed) (b .key .now) (b .words .now) in
-    let g = signable (b .p) K (b .n) (b .message .now) (tapesOf (b .explicit) (b .seeds .now) (b .noise .now) (b .mask-seeds .now)) (b .out .now) (b .work .now) (a .pre .1) in
+    let g = signable (b .p) K (b .n) (b .message .now) (coinsOf (b .explicit) (b .seeds .now) (b .noise .now) (b .mask-seeds .now)) (b .out .now) (b .work .now) (a .pre .1) in
     let z = c .before .before .before .before .before .before .before .before .before .before .before .before .load-shares .ensures in
     let e = public-front (b .p) (a .pre .0 .1) (b .key .now) (b .words .now) (b .packed) (g .sized) in
     let n = public-long (b .p) (a .pre .0 .1) (b .key .now) (b .words .now) (b .packed) (g .sized) in
@@ -67,7 +67,7 @@ attempt-all-requires c κs =
       (a .pre .0 .0, a .pre .0 .2, z .0 .1 ∙ g .work-long, z .0 .2),
       (
         (ap (λ (l : List ℕ). length l) e ∙ n, subst (λ (l : List ℕ). Below 125 (vkVector (b .p) l)) (sym e) v, g .out-long),
-        (g .some-attempt, g .most, g .tapes),
+        (g .some-attempt, g .most, g .coins),
       ),
     )
 
@@ -77,7 +77,7 @@ returns-2 c =
     let b = a .args in
     let p = b .p in
     let K = keyFrom (b .packed) (b .key .now) (b .words .now) in
-    let T = tapesOf (b .explicit) (b .seeds .now) (b .noise .now) (b .mask-seeds .now) in
+    let T = coinsOf (b .explicit) (b .seeds .now) (b .noise .now) (b .mask-seeds .now) in
     let g = signable p K (b .n) (b .message .now) T (b .out .now) (b .work .now) (a .pre .1) in
     let z = c .before .before .before .before .before .before .before .before .before .before .before .before .before .before .before .before .before .before .before .before .before .load-shares .ensures in
     let f = filled-some (sharesOf p K) (sym (z .0 .0) ∙ not-false _ (c .before .before .before .before .before .before .before .before .before .before .before .before .before .before .before .before .before .before .if1 .left)) in

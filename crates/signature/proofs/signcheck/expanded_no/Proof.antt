@@ -7,7 +7,7 @@ use Rattle.signature.specs.Keys.{vkVector}
 use Rattle.signature.specs.SignSteps.{keyNo}
 use Rattle.signature.proofs.Asked.{sizes}
 use Rattle.signature.proofs.Checks.{no-here, yes-here}
-use Rattle.signature.proofs.Opened.{words-few}
+use Rattle.signature.proofs.Expanded.{words-few}
 use borrow.Author.Needs.{needs}
 use Rattle.signature.proofs.signcheck.expanded_no.Statement.{statement}
 use Rattle.signature.proofs.signcheck.expanded_no.Tie as tie

@@ -6,7 +6,7 @@ use Rattle.ring.specs.Words.{q, allBelow}
 use Rattle.signature.specs.Keys.{vkVector, fullShare}
 use Rattle.signature.specs.SignSteps.{keyNo}
 use Rattle.signature.proofs.Checks.{no-here, yes-here}
-use Rattle.signature.proofs.Opened.{tail-is}
+use Rattle.signature.proofs.Expanded.{tail-is}
 use borrow.Author.Needs.{needs}
 use Rattle.signature.proofs.signcheck.packed_no.Statement.{statement}
 use Rattle.signature.proofs.signcheck.packed_no.Tie as tie

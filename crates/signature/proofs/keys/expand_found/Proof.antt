@@ -1,8 +1,8 @@
 use borrow.Author.Tests.{not-true, not-false}
-use Rattle.signature.proofs.Opened.{vk-in, part-long, part-low, key-unfilled, key-opened}
+use Rattle.signature.proofs.Expanded.{vk-in, part-long, part-low, key-unfilled, key-expanded}
 use borrow.Author.Needs.{needs}
-use Rattle.signature.proofs.keys.open_key.Statement.{statement}
-use Rattle.signature.proofs.keys.open_key.Tie as tie
+use Rattle.signature.proofs.keys.expand_found.Statement.{statement}
+use Rattle.signature.proofs.keys.expand_found.Tie as tie
 
 sub-shares-fill : tie.Need-sub-shares-fill
 sub-shares-fill c = let a = c .before .before .before in vk-in (a .args .p) (a .pre .0 .0) (a .args .key .now) (a .pre .0 .1)
@@ -13,8 +13,8 @@ returns c =
     let r = c .before .shares-fill in
     key-unfilled (b .p) (b .key .now) (b .bytes-out .now) (b .words-out .now) (r .result) (r .ensures) (not-true _ (c .if1 .taken))
 
-open-shares-requires : tie.Need-open-shares-requires
-open-shares-requires c κs =
+decompress-shares-requires : tie.Need-decompress-shares-requires
+decompress-shares-requires c κs =
     let a = c .before .before .before .before .before .before .before .before .before .before .before .before .before in
     let b = a .args in (
       (a .pre .0 .0, part-long (b .p) (a .pre .0 .0) (b .key .now) (a .pre .0 .1)),
@@ -25,11 +25,11 @@ returns-2 : tie.Need-returns-2
 returns-2 c =
     let b = c .before .before .before .before .before .before .before .before .before .before .before .before .before .before .before .before .args in
     let r = c .before .before .before .before .before .before .before .before .before .before .before .shares-fill in
-    key-opened (b .p) (b .key .now) (b .bytes-out .now) (b .words-out .now) (r .result) (r .ensures) (not-false _ (c .before .before .before .before .before .before .before .before .before .before .if1 .left))
-    (c .before .before .before .before .before .before .before .copy-bytes .last .1 .0) (c .before .before .open-shares .last .1 .1 .0) (c .before .before .before .before .before .before .before .copy-bytes .ensures) (c .before .before .open-shares .ensures)
+    key-expanded (b .p) (b .key .now) (b .bytes-out .now) (b .words-out .now) (r .result) (r .ensures) (not-false _ (c .before .before .before .before .before .before .before .before .before .before .if1 .left))
+    (c .before .before .before .before .before .before .before .copy-bytes .last .1 .0) (c .before .before .decompress-shares .last .1 .1 .0) (c .before .before .before .before .before .before .before .copy-bytes .ensures) (c .before .before .decompress-shares .ensures)
 
-pub open-key-spec : {M : Type 1} → statement M
-open-key-spec =
+pub expand-found-spec : {M : Type 1} → statement M
+expand-found-spec =
     tie.close (tie.spec sub-shares-fill (λ c. search needs) (λ c. search needs) (λ c κs. search needs) returns
     (λ c. search needs) (λ c. search needs) (λ c. search needs) (λ c κs. search needs) (λ c. search needs)
-    (λ c. search needs) (λ c. search needs) open-shares-requires (λ c. search needs) (λ c. search needs) returns-2)
+    (λ c. search needs) (λ c. search needs) decompress-shares-requires (λ c. search needs) (λ c. search needs) returns-2)

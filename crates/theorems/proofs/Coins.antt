@@ -1,4 +1,4 @@
--- The noise that an attempt has (Masked: seeded, explicit) at its places in the unit's tape: word by word and seed by seed.
+-- The noise that an attempt has (Masked: seeded, explicit) at its places in the unit's noise: word by word and seed by seed.
 use mathlib.Core.Path.{_≡_, sym, ap, _∙_}
 use mathlib.Core.List.{List}
 use Prim.Native.Nat.{ℕ, _+_, _*_, _/_, _≤_, _<_}

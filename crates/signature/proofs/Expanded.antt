@@ -1,4 +1,4 @@
--- Opening (000, Algorithm 15): polynomials that may not fill, one behind the other; parts of a key; the loops over shares.
+-- Expanding (000, Algorithm 15): polynomials that may not fill, one behind the other; parts of a key; the loops over shares.
 use mathlib.Core.Path.{_≡_, refl, sym, ap, subst, _∙_}
 use mathlib.Core.Bool.{Bool, true, false}
 use mathlib.Core.List.{List}
@@ -22,7 +22,7 @@ use Rattle.signature.proofs.Checks.{filled-some, some-filled, held-is, 
 use Rattle.signature.proofs.Entries.{All, all-some}
 use Rattle.signature.proofs.Packing.{length-repack}
 use Rattle.signature.specs.Keys.{seedBytes, fullShare, seededShare, shareAt, decompressed, expandOf}
-use Rattle.signature.specs.Opening.{Listed, partBytes, openedAt, opened, openedKey}
+use Rattle.signature.specs.Expanding.{Listed, partBytes, expandedAt, expandedShares, expandedKey}
 use Rattle.signature.specs.KeyCalls.{outcome}
 
 -- ---- the seeds of a key, and the words of an expanded one
@@ -64,31 +64,31 @@ module _ (p : Params) (part : List ℕ) where
   share-is j zero h = let x : ⊥ = omega arith in absurd x
   share-is j (suc i) h = refl
 
-  full-is : (j : ℕ) → block 512 j (fullShare p part) ≡ openedAt p part j 0
+  full-is : (j : ℕ) → block 512 j (fullShare p part) ≡ expandedAt p part j 0
   unfolding shareAt heldOf
   full-is j = refl
 
-  pub opened-all : filled (decompressed p part) ≡ true → decompressed p part ≡ some (opened p part)
-  unfolding decompressed opened
-  opened-all h =
+  pub expanded-all : filled (decompressed p part) ≡ true → decompressed p part ≡ some (expandedShares p part)
+  unfolding decompressed expandedShares
+  expanded-all h =
       let F : ℕ → Option (List ℕ) = λ (j : ℕ). buildAll (p .shares) (shareAt p part j) in
       built F (p .l) h
-      ∙ ap some (build-ext (p .l) (λ (j : ℕ). heldOf (F j) .poly) (λ (j : ℕ). build (p .shares) (openedAt p part j))
-      (λ (j : ℕ) (l : j < p .l). held-is (F j) (build (p .shares) (openedAt p part j))
+      ∙ ap some (build-ext (p .l) (λ (j : ℕ). heldOf (F j) .poly) (λ (j : ℕ). build (p .shares) (expandedAt p part j))
+      (λ (j : ℕ) (l : j < p .l). held-is (F j) (build (p .shares) (expandedAt p part j))
       (built (shareAt p part j) (p .shares) (fill-each F (p .l) h j l))))
 
   pub share-fills : (j i : ℕ) (r : Sampled) → 1 ≤ i → r ≡ heldOf (seededShare p part j i) → filled (shareAt p part j i) ≡ r .ok
   share-fills j i r h e =
       sym (ap (λ (s : Sampled). s .ok) e ∙ held-ok (seededShare p part j i) ∙ ap filled (share-is j i h))
 
-  pub share-opens : (j i : ℕ) (r : Sampled) → (i ≡ 0 → ⊥) → r ≡ heldOf (seededShare p part j i) → r .poly ≡ openedAt p part j i
-  share-opens j i r h e =
+  pub share-expands : (j i : ℕ) (r : Sampled) → (i ≡ 0 → ⊥) → r ≡ heldOf (seededShare p part j i) → r .poly ≡ expandedAt p part j i
+  share-expands j i r h e =
       let k : 1 ≤ i = omega arith in
       ap (λ (s : Sampled). s .poly) e ∙ ap (λ (o : Option (List ℕ)). heldOf o .poly) (share-is j i k)
 
-  pub full-opens : (j i : ℕ) (full : List ℕ) → i ≡ 0 → full ≡ fullShare p part → sub full (j * 512) 512 ≡ openedAt p part j i
+  pub full-expands : (j i : ℕ) (full : List ℕ) → i ≡ 0 → full ≡ fullShare p part → sub full (j * 512) 512 ≡ expandedAt p part j i
   unfolding block
-  full-opens j i full z e = ap (λ (l : List ℕ). sub l (j * 512) 512) e ∙ full-is j ∙ sym (ap (openedAt p part j) z)
+  full-expands j i full z e = ap (λ (l : List ℕ). sub l (j * 512) 512) e ∙ full-is j ∙ sym (ap (expandedAt p part j) z)
 
   pub full-length : length (fullShare p part) ≡ p .l * 512
   unfolding fullShare
@@ -102,24 +102,24 @@ module _ (p : Params) (part : List ℕ) where
 
   -- ---- the loop over the polynomials, from words that are zero
   abbrev pub polynomial : ℕ → List ℕ
-  polynomial j = build (p .shares) (openedAt p part j)
+  polynomial j = build (p .shares) (expandedAt p part j)
 
-  pub open-start : (s s₀ : List ℕ) → s ≡ zeros (length s₀) → Wrote 0 0 (0 * (p .shares * 512)) (build 0 polynomial) s s
-  open-start s s₀ e =
+  pub expand-start : (s s₀ : List ℕ) → s ≡ zeros (length s₀) → Wrote 0 0 (0 * (p .shares * 512)) (build 0 polynomial) s s
+  expand-start s s₀ e =
       wrote-start (p .shares * 512) polynomial 0 0 s (subst (λ (l : List ℕ). Below q l) (sym e) (zeros-words (length s₀) .low))
 
-  pub open-turn : (j : ℕ) (s₀ s t : List ℕ) → Wrote 0 0 (j * (p .shares * 512)) (build j polynomial) s₀ s
+  pub expand-turn : (j : ℕ) (s₀ s t : List ℕ) → Wrote 0 0 (j * (p .shares * 512)) (build j polynomial) s₀ s
       → Wrote 0 (j * (p .shares * 512)) (p .shares * 512) (polynomial j) s t
       → Wrote 0 0 ((j + 1) * (p .shares * 512)) (build (j + 1) polynomial) s₀ t
-  open-turn j s₀ s t u w =
+  expand-turn j s₀ s t u w =
       let k : j * (p .shares * 512) ≡ 0 + j * (p .shares * 512) = omega arith in
       wrote-turn (p .shares * 512) j polynomial (omega arith) u
       (subst (λ (a : ℕ). Wrote 0 a (p .shares * 512) (polynomial j) s t) k w)
 
-  pub open-end : (j : ℕ) (s₀ s : List ℕ) → j ≡ p .l → length s ≡ p .l * (p .shares * 512)
-      → Wrote 0 0 (j * (p .shares * 512)) (build j polynomial) s₀ s → s ≡ opened p part
-  unfolding opened
-  open-end j s₀ s e n u =
+  pub expand-end : (j : ℕ) (s₀ s : List ℕ) → j ≡ p .l → length s ≡ p .l * (p .shares * 512)
+      → Wrote 0 0 (j * (p .shares * 512)) (build j polynomial) s₀ s → s ≡ expandedShares p part
+  unfolding expandedShares
+  expand-end j s₀ s e n u =
       let w = wrote-end (p .shares * 512) polynomial e u in
       sym (take-all (p .l * (p .shares * 512)) s (omega arith)) ∙ w .new
 
@@ -142,16 +142,16 @@ module _ (p : Params) (key bytes words : List ℕ) (r : Bool)
   unfolding expandOf
   fills = e ∙ ap (λ (l : List ℕ). filled (decompressed p l)) (tail-is key (p .«vk_bytes»))
 
-  pub key-unfilled : r ≡ false → outcome 10 bytes words ≡ openedKey p key bytes words
-  unfolding openedKey
+  pub key-unfilled : r ≡ false → outcome 10 bytes words ≡ expandedKey p key bytes words
+  unfolding expandedKey
   key-unfilled z = simp (sym fills ∙ z)
 
-  pub key-opened : r ≡ true → (b w : List ℕ) → b ≡ take (p .«vk_bytes» - 0) key
-      → w ≡ opened p (take (length key - p .«vk_bytes») (drop (p .«vk_bytes») key)) → outcome 0 b w ≡ openedKey p key bytes words
-  unfolding openedKey
-  key-opened z b w eb ew =
+  pub key-expanded : r ≡ true → (b w : List ℕ) → b ≡ take (p .«vk_bytes» - 0) key
+      → w ≡ expandedShares p (take (length key - p .«vk_bytes») (drop (p .«vk_bytes») key)) → outcome 0 b w ≡ expandedKey p key bytes words
+  unfolding expandedKey
+  key-expanded z b w eb ew =
       let k : p .«vk_bytes» - 0 ≡ p .«vk_bytes» = omega arith in
       let fb : b ≡ take (p .«vk_bytes») key = eb ∙ ap (λ (m : ℕ). take m key) k in
-      let fw : w ≡ opened p (drop (p .«vk_bytes») key) = ew ∙ ap (opened p) (tail-is key (p .«vk_bytes»)) in
-      let m : outcome 0 (take (p .«vk_bytes») key) (opened p (drop (p .«vk_bytes») key)) ≡ openedKey p key bytes words = simp (sym fills ∙ z) in
+      let fw : w ≡ expandedShares p (drop (p .«vk_bytes») key) = ew ∙ ap (expandedShares p) (tail-is key (p .«vk_bytes»)) in
+      let m : outcome 0 (take (p .«vk_bytes») key) (expandedShares p (drop (p .«vk_bytes») key)) ≡ expandedKey p key bytes words = simp (sym fills ∙ z) in
       (λ i. outcome 0 (fb i) (fw i)) ∙ m

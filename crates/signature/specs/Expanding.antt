@@ -1,4 +1,4 @@
--- Opening a key (01: opening; 000, Algorithm 15): the sizes of a record of the table, and the shares one by one.
+-- Expanding a key (01: opening; 000, Algorithm 15): the sizes of a record of the table, and the shares one by one.
 use mathlib.Core.Path.{_≡_}
 use mathlib.Core.List.{List}
 use Prim.Native.Nat.{ℕ, _+_, _-_, _*_, _^_, _≤_}
@@ -28,13 +28,13 @@ abbrev pub partBytes : Params → ℕ
 partBytes p = (p .shares - 1) * seedBytes p + p .l * 3136
 
 -- share i of polynomial j, zero where it does not fill; all of them
-abbrev pub openedAt : Params → List ℕ → ℕ → ℕ → List ℕ
-openedAt p part j i = heldOf (shareAt p part j i) .poly
+abbrev pub expandedAt : Params → List ℕ → ℕ → ℕ → List ℕ
+expandedAt p part j i = heldOf (shareAt p part j i) .poly
 
-unfoldable pub opened : Params → List ℕ → List ℕ
-opened p part = build (p .l) (λ (j : ℕ). build (p .shares) (openedAt p part j))
+unfoldable pub expandedShares : Params → List ℕ → List ℕ
+expandedShares p part = build (p .l) (λ (j : ℕ). build (p .shares) (expandedAt p part j))
 
 -- what the call leaves where only question 10 is open
-unfoldable pub openedKey : Params → List ℕ → List ℕ → List ℕ → Outcome
-openedKey p key bytes words =
-    pick (filled (expandOf p key)) (outcome 0 (take (p .«vk_bytes») key) (opened p (drop (p .«vk_bytes») key))) (outcome 10 bytes words)
+unfoldable pub expandedKey : Params → List ℕ → List ℕ → List ℕ → Outcome
+expandedKey p key bytes words =
+    pick (filled (expandOf p key)) (outcome 0 (take (p .«vk_bytes») key) (expandedShares p (drop (p .«vk_bytes») key))) (outcome 10 bytes words)

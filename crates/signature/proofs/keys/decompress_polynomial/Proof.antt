@@ -4,15 +4,15 @@ use native.Mathlib.Omega.{arith}
 use Rattle.sharing.specs.Blocks.{build}
 use Rattle.sharing.specs.Region.{Wrote}
 use Rattle.sharing.proofs.Regions.{wrote-start, wrote-turn, wrote-value, wrote-end}
-use Rattle.signature.specs.Opening.{openedAt}
-use Rattle.signature.proofs.Opened.{words-few, share-in}
+use Rattle.signature.specs.Expanding.{expandedAt}
+use Rattle.signature.proofs.Expanded.{words-few, share-in}
 use borrow.Author.Needs.{needs}
-use Rattle.signature.proofs.keys.open_polynomial.Statement.{statement}
-use Rattle.signature.proofs.keys.open_polynomial.Tie as tie
+use Rattle.signature.proofs.keys.decompress_polynomial.Statement.{statement}
+use Rattle.signature.proofs.keys.decompress_polynomial.Tie as tie
 
 abbrev Inv-loop : tie.InvT-loop
 Inv-loop p part full j out₀ d i₀ out i =
-    (i ≤ d) × (d ≡ p .shares) × Wrote 0 (j * (p .shares * 512)) (i * 512) (build i (openedAt p part j)) out₀ out
+    (i ≤ d) × (d ≡ p .shares) × Wrote 0 (j * (p .shares * 512)) (i * 512) (build i (expandedAt p part j)) out₀ out
 
 abbrev μ-loop : tie.MeasureT-loop
 μ-loop p part full j out₀ d i₀ out i = d - i
@@ -21,7 +21,7 @@ loop-holds : tie.Need-loop-holds Inv-loop μ-loop
 loop-holds c =
     let a = c .before .before .before in
     let b = a .args in
-    (omega arith, refl, wrote-start 512 (openedAt (b .p) (b .part .now) (b .j)) 0 (b .j * (b .p .shares * 512)) (b .out .now) (a .pre .1 .2 .low))
+    (omega arith, refl, wrote-start 512 (expandedAt (b .p) (b .part .now) (b .j)) 0 (b .j * (b .p .shares * 512)) (b .out .now) (a .pre .1 .2 .low))
 
 share-at-requires : tie.Need-share-at-requires Inv-loop μ-loop
 share-at-requires c κs =
@@ -62,7 +62,7 @@ loop-again c =
     let r = c .before .before .before .before .before .share-at in (
       omega arith,
       refl,
-      wrote-turn 512 (l .i) (openedAt (b .p) (b .part .now) (b .j)) (omega arith) (l .inv .2)
+      wrote-turn 512 (l .i) (expandedAt (b .p) (b .part .now) (b .j)) (omega arith) (l .inv .2)
           (wrote-value (r .ensures .0) (c .before .before .store-at .ensures)),
     )
 
@@ -71,9 +71,9 @@ returns c =
     let b = c .before .before .before .before .before .args in
     let l = c .before .loop in
     let e : l .i ≡ b .p .shares = omega arith in
-    wrote-end 512 (openedAt (b .p) (b .part .now) (b .j)) e (l .inv .2)
+    wrote-end 512 (expandedAt (b .p) (b .part .now) (b .j)) e (l .inv .2)
 
-pub open-polynomial-spec : {M : Type 1} → statement M
-open-polynomial-spec =
+pub decompress-polynomial-spec : {M : Type 1} → statement M
+decompress-polynomial-spec =
     tie.close (tie.spec Inv-loop μ-loop loop-holds share-at-requires mul-store-at mul-store-at-2 mul-store-at-3
     add-store-at store-at-requires (λ c. search needs) (λ c. search needs) loop-again (λ c. search needs) returns)

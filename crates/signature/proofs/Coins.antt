@@ -1,4 +1,4 @@
--- The tapes of all attempts (01: noise tape, masking tape), and the part of each attempt.
+-- The coins of all attempts (01: noise tape, masking tape), and the part of each attempt.
 use mathlib.Core.Path.{_≡_, refl, sym, ap, subst}
 use mathlib.Core.Bool.{Bool, true, false}
 use mathlib.Core.List.{List}
@@ -19,14 +19,14 @@ use Rattle.sharing.specs.Noise.{noiseBytes}
 use Rattle.sharing.specs.declared.masks.MaskGen.{MaskGen}
 use Rattle.sharing.proofs.Lists.{inside}
 use Rattle.sharing.proofs.Regions.{length-sub}
-use Rattle.signature.specs.Attempt.{tapesOf, Within, Committed}
+use Rattle.signature.specs.Attempt.{coinsOf, Within, Committed}
 use Rattle.signature.specs.Checks.{both}
 use Rattle.signature.specs.Keygen.{Small}
 use Rattle.signature.specs.Masked.{Noise, seeded, explicit}
-use Rattle.signature.specs.Sign.{Tapes, noiseAt, maskAt}
-use Rattle.signature.specs.SignCalls.{tapesGood}
+use Rattle.signature.specs.Sign.{Coins, noiseAt, maskAt}
+use Rattle.signature.specs.SignCalls.{coinsGood}
 use Rattle.signature.proofs.Checks.{absurd-bool, both-true}
-use Rattle.signature.proofs.Sizes.{tape-low}
+use Rattle.signature.proofs.Sizes.{coins-low}
 
 -- a part of n words from a n on is block a
 pub part-block : (n a : ℕ) (xs : List ℕ) → take (a * n + n - a * n) (drop (a * n) xs) ≡ block n a xs
@@ -43,47 +43,47 @@ fits-mid x h = record { fits = omega arith }
 module _ (p : Params) (h : Small p) (a : ℕ) (few : a ≤ 16) where
   pub words-size : ((p .l + p .k) * p .shares * 512 ≤ 524288) × (a * ((p .l + p .k) * p .shares * 512) ≤ 8388608)
   words-size =
-      let x : (p .l + p .k) * p .shares * 512 ≤ 524288 = let y = tape-low p h .0 in omega arith in
+      let x : (p .l + p .k) * p .shares * 512 ≤ 524288 = let y = coins-low p h .0 in omega arith in
       let z : a * ((p .l + p .k) * p .shares * 512) ≤ 16 * 524288 = mul-le-mul few x in
       (x, omega arith)
 
   pub seeds-size : ((p .l + p .k) * p .shares * p .rep * (p .kappa / 8) ≤ 262144) × (a * ((p .l + p .k) * p .shares * p .rep * (p .kappa / 8)) ≤ 4194304)
   seeds-size =
-      let x : (p .l + p .k) * p .shares * p .rep * (p .kappa / 8) ≤ 262144 = tape-low p h .2 in
+      let x : (p .l + p .k) * p .shares * p .rep * (p .kappa / 8) ≤ 262144 = coins-low p h .2 in
       let z : a * ((p .l + p .k) * p .shares * p .rep * (p .kappa / 8)) ≤ 16 * 262144 = mul-le-mul few x in
       (x, omega arith)
 
 module _ (p : Params) (seeds words masks : List ℕ) (a : ℕ) where
   -- explicit
-  pub explicit-long : (x : Bool) → x ≡ true → Within p (tapesOf x seeds words masks) a
+  pub explicit-long : (x : Bool) → x ≡ true → Within p (coinsOf x seeds words masks) a
       → a * ((p .l + p .k) * p .shares * 512) + (p .l + p .k) * p .shares * 512 ≤ length words
   explicit-long true e w = w .noise-long
   explicit-long false e w = absurd-bool (sym e)
 
-  pub explicit-low : (x : Bool) → x ≡ true → Within p (tapesOf x seeds words masks) a → Below q words
+  pub explicit-low : (x : Bool) → x ≡ true → Within p (coinsOf x seeds words masks) a → Below q words
   explicit-low true e w = w .noise-low refl
   explicit-low false e w = absurd-bool (sym e)
 
   pub explicit-at : (x : Bool) → x ≡ true
-      → explicit p (block ((p .l + p .k) * p .shares * 512) a words) ≡ noiseAt p (tapesOf x seeds words masks) a
+      → explicit p (block ((p .l + p .k) * p .shares * 512) a words) ≡ noiseAt p (coinsOf x seeds words masks) a
   unfolding noiseAt
   explicit-at true e = refl
   explicit-at false e = absurd-bool (sym e)
 
   -- from seeds
-  pub seeds-long : (x : Bool) → x ≡ false → Within p (tapesOf x seeds words masks) a
+  pub seeds-long : (x : Bool) → x ≡ false → Within p (coinsOf x seeds words masks) a
       → a * ((p .l + p .k) * p .shares * p .rep * (p .kappa / 8)) + (p .l + p .k) * p .shares * p .rep * (p .kappa / 8) ≤ length seeds
   unfolding noiseBytes
   seeds-long false e w = w .noise-long
   seeds-long true e w = absurd-bool e
 
   pub seeds-at : (x : Bool) → x ≡ false
-      → seeded p (p .uw) (block ((p .l + p .k) * p .shares * p .rep * (p .kappa / 8)) a seeds) ≡ noiseAt p (tapesOf x seeds words masks) a
+      → seeded p (p .uw) (block ((p .l + p .k) * p .shares * p .rep * (p .kappa / 8)) a seeds) ≡ noiseAt p (coinsOf x seeds words masks) a
   unfolding noiseAt noiseBytes
   seeds-at false e = refl
   seeds-at true e = absurd-bool e
 
-  pub mask-at : (x : Bool) → maskStart (block 32 a masks) ≡ maskAt (tapesOf x seeds words masks) a
+  pub mask-at : (x : Bool) → maskStart (block 32 a masks) ≡ maskAt (coinsOf x seeds words masks) a
   unfolding maskAt
   mask-at x = refl
 
@@ -92,9 +92,9 @@ pub committed-at : (p : Params) {N M : Noise} {g h : MaskGen} (A : List ℕ) {y 
 committed-at p {N} {M} {g} {h} A {y} {xs} {ys} e f c =
     subst (λ (k : MaskGen). Committed p M k A y xs ys) f (subst (λ (K : Noise). Committed p K g A y xs ys) e c)
 
--- check 7: the tapes hold each of the n attempts allowed
+-- check 7: the coins hold each of the n attempts allowed
 module _ (p : Params) (n a : ℕ) (l : a < n) (most : n ≤ 16) where
-  held : (x : Bool) (noise masks : List ℕ) → tapesGood p n (record { explicit = x; noise = noise; masks = masks }) ≡ true
+  held : (x : Bool) (noise masks : List ℕ) → coinsGood p n (record { explicit = x; noise = noise; masks = masks }) ≡ true
       → Within p (record { explicit = x; noise = noise; masks = masks }) a
   held true noise masks h =
       let w = (p .l + p .k) * p .shares * 512 in
@@ -120,5 +120,5 @@ module _ (p : Params) (n a : ℕ) (l : a < n) (most : n ≤ 16) where
         masks-long = omega (arith, inside a n 32 l, m);
       }
 
-  pub tapes-within : (T : Tapes) → tapesGood p n T ≡ true → Within p T a
-  tapes-within T h = held (T .explicit) (T .noise) (T .masks) h
+  pub coins-within : (T : Coins) → coinsGood p n T ≡ true → Within p T a
+  coins-within T h = held (T .explicit) (T .noise) (T .masks) h

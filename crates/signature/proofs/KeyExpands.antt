@@ -1,4 +1,4 @@
--- A signing key that key generation made is opened (01, "Figures"): no check of expanding says no, and the secret is that of its shares.
+-- A signing key that key generation made is expanded (01, "Figures"): no check of expanding says no, and the secret is that of its shares.
 use Prim.Native.Nat.{ℕ, _*_}
 use mathlib.Core.Path.{_≡_, refl, sym, ap, _∙_}
 use mathlib.Core.Bool.{Bool, true}
@@ -23,7 +23,7 @@ use Rattle.signature.specs.KeyCalls.{Outcome, outcome, expandNo, expandC
 use Rattle.signature.proofs.Asked.{listed, refreshable, refresh-done}
 use Rattle.signature.proofs.KeyRanges.{ranged}
 use Rattle.signature.proofs.KeyMade.{made, expand-made, vector-words}
-use Rattle.signature.proofs.KeySecret.{Opened, opened}
+use Rattle.signature.proofs.KeySecret.{Expansion, expansion}
 
 below-yes : (m : ℕ) (xs : List ℕ) → Below m xs → allBelow m xs ≡ true
 unfolding allBelow
@@ -49,12 +49,12 @@ module _ (e : Edition) (set d : ℕ) (p : Params) (h : lookupOf set d e ≡ Sele
       (ap (allBelow 125) (r .vector) ∙ below-yes 125 _ (vector-words p (noisePart p seeds) (maskStart mask) (m .A) .low))
       (ap (allBelow q) (r .full) ∙ below-yes q (m .x) (r .words .low)) s
 
-  pub made-opened : Opened p seeds mask key
-  made-opened = opened p seeds mask key (found set d e p h .rule) (ranged set d e p h .shares-pos) l k
+  pub made-expansion : Expansion p seeds mask key
+  made-expansion = expansion p seeds mask key (found set d e p h .rule) (ranged set d e p h .shares-pos) l k
 
-  pub made-opens : (bytes words : List ℕ) → expandedKeySized p bytes words ≡ true
-      → expandCall e set d key bytes words ≡ outcome 0 (take (p .«vk_bytes») key) (made-opened .shares-of)
-  made-opens bytes words s = expand-goes e set d p key bytes words (made-opened .shares-of) h (made-passes bytes words s) (made-opened .is)
+  pub made-expands : (bytes words : List ℕ) → expandedKeySized p bytes words ≡ true
+      → expandCall e set d key bytes words ≡ outcome 0 (take (p .«vk_bytes») key) (made-expansion .shares-of)
+  made-expands bytes words s = expand-goes e set d p key bytes words (made-expansion .shares-of) h (made-passes bytes words s) (made-expansion .is)
 
 -- refreshing that passes its checks keeps the public key and the secret
 pub record Kept (p : Params) (key shares : List ℕ) (o : Outcome) : Type 0 where
