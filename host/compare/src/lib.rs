@@ -1,6 +1,6 @@
 //! The proved code beside the independent implementation.
 //!
-//! * [`unit`]: the proved code, called through its C exports with slices of any length.
+//! * [`mod@unit`]: the proved code, called through its C exports with slices of any length.
 //! * [`known`]: the known answers of the data files.
 //! * [`response`]: the submission's response files.
 //! * [`random`]: a small seeded generator for tests.
