@@ -66,7 +66,7 @@ fn round(a: &mut [u64; 25], constant: u64) {
     a[0] ^= constant;
 }
 
-/// Keccak-f[1600], two rounds to a turn: the usual shape for compilers.
+/// `Keccak-f[1600]`, two rounds to a turn: the usual shape for compilers.
 pub fn permute(a: &mut [u64; 25]) {
     for pair in RC.chunks_exact(2) {
         round(a, pair[0]);
