@@ -1,0 +1,80 @@
+//! The documents name what is there: each file, each must-fail edit and each name in backquotes of docs/TRACE.md stands in the sources, and
+//! the theorems that docs/STATEMENT.md quotes are the theorems' own text.
+
+use std::collections::BTreeSet;
+use std::fs;
+use std::path::{Path, PathBuf};
+
+fn root() -> PathBuf {
+    Path::new(env!("CARGO_MANIFEST_DIR")).join("../..")
+}
+
+fn text(path: &str) -> String {
+    fs::read_to_string(root().join(path)).unwrap_or_else(|error| panic!("{path}: {error}"))
+}
+
+/// All files below a folder, as paths from the root.
+fn files(folder: &str, found: &mut Vec<String>) {
+    for entry in fs::read_dir(root().join(folder)).unwrap() {
+        let entry = entry.unwrap();
+        let path = format!("{folder}/{}", entry.file_name().to_str().unwrap());
+        if entry.file_type().unwrap().is_dir() {
+            files(&path, found);
+        } else {
+            found.push(path);
+        }
+    }
+}
+
+/// What stands in backquotes.
+fn quoted(text: &str) -> BTreeSet<&str> {
+    text.lines().flat_map(|line| line.split('`').skip(1).step_by(2)).collect()
+}
+
+fn is_name_letter(c: char) -> bool {
+    c.is_alphanumeric() || c == '_' || c == '-' || c == '\''
+}
+
+/// The words of all sources, and the names of their folders and files without the ending.
+fn words(sources: &[String]) -> BTreeSet<String> {
+    let mut words = BTreeSet::new();
+    for path in sources {
+        words.extend(path.split('/').map(|part| part.split('.').next().unwrap().to_string()));
+        let Ok(source) = fs::read_to_string(root().join(path)) else { continue };
+        words.extend(source.split(|c| !is_name_letter(c)).map(str::to_string));
+    }
+    words
+}
+
+#[test]
+fn trace_names_what_is_there() {
+    let mut sources = vec!["crates.txt".to_string(), ".ci/run".to_string(), "test".to_string(), "run".to_string()];
+    for folder in ["crates", "host", "include", "examples"] {
+        files(folder, &mut sources);
+    }
+    let words = words(&sources);
+    let trace = text("docs/TRACE.md");
+    let mut names = 0;
+    for quote in quoted(&trace) {
+        for name in quote.split(|c| !is_name_letter(c)).filter(|name| name.chars().any(char::is_alphabetic)) {
+            names += 1;
+            // `output-*` stands for all names that begin so
+            let there = if name.ends_with('-') { words.iter().any(|word| word.starts_with(name)) } else { words.contains(name) };
+            assert!(there, "`{quote}`: there is no {name}");
+        }
+        if quote.contains('/') && quote.contains('.') {
+            assert!(sources.iter().any(|path| path.ends_with(quote.trim_start_matches("./"))), "there is no file {quote}");
+        }
+    }
+    assert!(names > 400, "only {names} names were found");
+}
+
+#[test]
+fn statement_quotes_the_theorems() {
+    let (statement, theorems) = (text("docs/STATEMENT.md"), text("crates/theorems/proofs/Demand3.antt"));
+    let quotes: Vec<&str> = statement.lines().filter_map(|line| line.strip_prefix("    ")).collect();
+    assert!(quotes.len() >= 5, "the theorems are not quoted");
+    for quote in quotes {
+        assert!(theorems.lines().any(|line| line == quote), "not in the theorems: {quote}");
+    }
+}
