@@ -43,6 +43,10 @@ fails() {
     if "$@" >/dev/null 2>&1 </dev/null; then missed "$name"; else passed "$name"; fi
 }
 
+absent() {
+    for file in "$@"; do [ ! -e "$file" ] || return 1; done
+}
+
 mode_is() { [ "$(stat -c %a "$1")" = "$2" ]; }
 
 # The commands with their files in order; options may follow
@@ -211,7 +215,7 @@ for place in 0 31 40 400 3000 11000 11523; do
     cp order.sig altered.sig && flip altered.sig $place
     expect "byte $place altered" 1 'refused, 1[456]: ' verify gate.pub order.txt altered.sig
 done
-fails 'no refused command has left a file' ls x.key x.pub x.open x.sig
+holds 'no refused command has left a file' absent x.key x.pub x.open x.sig
 
 # ---- Words that are wrong
 
@@ -255,7 +259,12 @@ expect 'sign over a signature' 2 'order.sig: exists already' sign gate.key order
 for file in gate.key:kept.key gate.pub:kept.pub gate.open:kept.open order.sig:kept.sig; do
     holds "${file%:*} is as it was" cmp "${file%:*}" "${file#*:}"
 done
-fails 'no half of a pair' ls x.key x.pub
+ln -s nowhere/else dangling.key
+expect 'keygen over a link to nothing' 2 'dangling.key: exists already' keygen 128 4 dangling.key x.pub
+holds 'no half of a pair' absent x.key x.pub
+ln -s nowhere/else dangling.sig
+expect 'sign over a link to nothing' 2 'dangling.sig: exists already' sign gate.key order.txt dangling.sig
+holds 'the link to nothing is still one' test -L dangling.sig
 expect 'sign with force' 0 'order.sig: signature' sign gate.key order.txt order.sig --force
 fails 'a new signature' cmp order.sig kept.sig
 expect 'the new signature' 0 '^good: ' verify gate.pub order.txt order.sig
@@ -274,7 +283,7 @@ expect 'file as folder' 2 'order.txt/x.sig: Not a directory' sign gate.key order
 expect 'folder of the kernel' 2 '^koivrast: /proc/x.open: ' "$tool" open gate.key --out /proc/x.open
 expect 'public key cannot be written' 2 'order.txt/x.pub: Not a directory' keygen 128 4 x.key order.txt/x.pub
 expect 'signing key cannot be written' 2 'nowhere/x.key: No such file' keygen 128 4 nowhere/x.key x.pub
-fails 'no half of a pair is left' ls x.key x.pub
+holds 'no half of a pair is left' absent x.key x.pub
 if [ "$(id -u)" -ne 0 ]; then
     chmod 555 inner
     expect 'unwritable folder' 2 'inner/x.sig: Permission denied' sign gate.key order.txt inner/x.sig
@@ -289,7 +298,7 @@ expect 'signature cut in writing' 2 'order.sig: File too large' limited sign gat
 holds 'the old signature is there' cmp order.sig kept.sig
 expect 'refresh cut in writing' 2 'fresh.open: File too large' limited "$tool" refresh fresh.open --out fresh.open
 expect 'the old sharing is there' 0 'contents  *in order' "$tool" inspect fresh.open
-fails 'no half of a key is left' ls x.key x.pub
+holds 'no half of a key is left' absent x.key x.pub
 expect 'full device' 2 '/dev/full: No space left on device' sign gate.key order.txt /dev/full
 expect 'full standard output' 2 'standard output: No space left on device' eval '"$tool" inspect order.sig >/dev/full'
 expect 'signature to a full standard output' 2 'standard output: No space left' eval 'sign gate.key order.txt - >/dev/full'
