@@ -38,9 +38,9 @@ koivrast keygen --set SET --shares COUNT --key FILE --public FILE [--force]
 Makes a signing key and its public key, from random bytes of the operating
 system.
 
-  --set SET       128, 192 or 256: how strong the key is, in bits
-  --shares COUNT  1, 2, 4, 8, 16 or 32: how many shares hold the secret; more
-                  are harder to overhear on the device, and slower
+  --set SET       128, 192 or 256: the strength aimed at, in bits
+  --shares COUNT  1, 2, 4, 8, 16 or 32: how many random shares hold the secret;
+                  with more, signing takes longer
   --key FILE      where the signing key goes; a secret, readable by its owner only
   --public FILE   where the public key goes; '-' is standard output
   --force         replace files that are there
@@ -66,8 +66,8 @@ Example:
 pub const REFRESH: &str = "\
 koivrast refresh KEY --out FILE [--force]
 
-Shares the secret of an expanded key anew. The public key stays, and signatures
-stay good; what somebody learnt of some old shares does not help with the new.
+Shares the secret of an expanded key anew: other random shares, the same secret.
+The public key stays, and signatures stay good.
 
   KEY         an expanded key
   --out FILE  where the new sharing goes; a secret, readable by its owner only.
