@@ -226,7 +226,8 @@ fn pack(words: &[u64], w: usize) -> Vec<u8> {
     out
 }
 
-fn unpack(bytes: &[u8], w: usize) -> Vec<u64> {
+/// The numbers of w bits in bytes.
+pub fn unpack(bytes: &[u8], w: usize) -> Vec<u64> {
     (0..bytes.len() * 8 / w).map(|i| (0..w).map(|b| u64::from(bytes[(i * w + b) / 8] >> ((i * w + b) % 8) & 1) << b).sum()).collect()
 }
 

@@ -162,11 +162,14 @@ impl ExpandedKey {
         ExpandedKey::from_parts(params, public, &words)
     }
 
-    /// The public key, then the words, little-endian: the secret itself, so wipe it after use.
-    pub fn to_bytes(&self) -> Vec<u8> {
-        let mut bytes = Vec::with_capacity(self.params.expanded_key_bytes());
-        bytes.extend_from_slice(&self.public);
-        self.words.iter().for_each(|word| bytes.extend_from_slice(&word.to_le_bytes()));
+    /// The public key, then the words, little-endian.
+    pub fn to_bytes(&self) -> Secret<u8> {
+        let mut bytes = Secret::zeros(self.params.expanded_key_bytes());
+        let (public, rest) = bytes.split_at_mut(self.public.len());
+        public.copy_from_slice(&self.public);
+        for (eight, word) in rest.chunks_exact_mut(8).zip(self.words.iter()) {
+            eight.copy_from_slice(&word.to_le_bytes());
+        }
         bytes
     }
 

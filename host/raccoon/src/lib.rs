@@ -22,6 +22,7 @@
 //!
 //! * [`Params`]: set and share count, and every size that follows from them.
 //! * [`SigningKey`], [`ExpandedKey`], [`PublicKey`], [`Signature`]: the byte forms of paper 000, section 2.5.
+//! * [`Secret`]: bytes or words that are wiped when they are dropped.
 //! * [`KeygenSeeds`], [`SigningSeeds`], [`ExplicitNoise`]: what a call is lent besides.
 //! * [`Refusal`]: the sixteen numbers and their questions.
 //! * [`call`]: the calls themselves, on slices of any length.
@@ -40,5 +41,6 @@ mod sign;
 pub use keys::{ExpandedKey, PublicKey, Signature, SigningKey};
 pub use params::{Params, Set, Shares, MASK_SEED_BYTES, MAX_ATTEMPTS, MAX_MESSAGE_BYTES, N, Q};
 pub use refusal::Refusal;
+pub use secret::Secret;
 pub use seeds::{os_random, ExplicitNoise, KeygenSeeds, SigningSeeds, SigningSeedsBuilder};
 pub use sign::{NotSigned, Signed};

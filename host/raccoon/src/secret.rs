@@ -3,9 +3,15 @@
 use std::ops::{Deref, DerefMut};
 use std::sync::atomic::{compiler_fence, Ordering};
 
-/// Bytes or words of a secret.
+/// Bytes or words of a secret, wiped when they are dropped.
+///
+/// ```
+/// let mut seed = raccoon::Secret::zeros(32);
+/// raccoon::os_random(&mut seed)?;
+/// # std::io::Result::Ok(())
+/// ```
 #[derive(Clone, PartialEq, Eq)]
-pub(crate) struct Secret<T: Copy + Default>(Box<[T]>);
+pub struct Secret<T: Copy + Default>(Box<[T]>);
 
 impl<T: Copy + Default> Secret<T> {
     pub fn zeros(n: usize) -> Secret<T> {

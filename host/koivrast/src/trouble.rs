@@ -1,0 +1,106 @@
+//! Why a command did not do what it was asked, and the exit status that says so.
+
+use raccoon::{NotSigned, Refusal};
+use std::fmt;
+use std::io::{self, Write};
+
+/// What went wrong.
+#[derive(Debug)]
+pub enum Trouble {
+    /// The command was called in a wrong way: exit status 2.
+    Usage { message: String, help: String },
+    /// A file or the system: exit status 2.
+    System(String),
+    /// The unit answered a question with no: exit status 1.
+    Refused { answer: String, advice: String },
+    /// All was said already.
+    Said(u8),
+}
+
+impl Trouble {
+    /// A refusal, with the advice of docs/GUIDE.md.
+    pub fn refused(refusal: Refusal, doing: Doing) -> Trouble {
+        Trouble::Refused { answer: refusal.to_string(), advice: advice(refusal, doing).into() }
+    }
+
+    /// No signature, with the attempts that were made.
+    pub fn not_signed(answer: NotSigned) -> Trouble {
+        Trouble::Refused { answer: answer.to_string(), advice: advice(answer.refusal, Doing::Signing).into() }
+    }
+
+    /// Trouble with a file, by its name.
+    pub fn file(name: impl fmt::Display, error: &io::Error) -> Trouble {
+        Trouble::System(format!("{name}: {}", reason(error)))
+    }
+
+    /// The operating system gave no random bytes.
+    pub fn random(error: io::Error) -> Trouble {
+        Trouble::file("random bytes of the operating system", &error)
+    }
+
+    pub fn status(&self) -> u8 {
+        match self {
+            Trouble::Usage { .. } | Trouble::System(_) => 2,
+            Trouble::Refused { .. } => 1,
+            Trouble::Said(status) => *status,
+        }
+    }
+
+    /// Says it on standard error.
+    pub fn report(&self) {
+        // nobody is left to be told if that fails
+        let _ = write!(io::stderr(), "{self}");
+    }
+}
+
+impl fmt::Display for Trouble {
+    fn fmt(&self, f: &mut fmt::Formatter) -> fmt::Result {
+        match self {
+            Trouble::Usage { message, help } => writeln!(f, "koivrast: {message}\nTry: {help}"),
+            Trouble::System(message) => writeln!(f, "koivrast: {message}"),
+            Trouble::Refused { answer, advice } => writeln!(f, "koivrast: refused, {answer}\n{advice}"),
+            Trouble::Said(_) => Ok(()),
+        }
+    }
+}
+
+/// The system's words for an error, without its number.
+fn reason(error: &io::Error) -> String {
+    let text = error.to_string();
+    text.split(" (os error").next().unwrap_or(&text).to_string()
+}
+
+/// What the unit was asked to do when it refused.
+#[derive(Clone, Copy, PartialEq, Eq, Debug)]
+pub enum Doing {
+    MakingKey,
+    LoadingKey,
+    Signing,
+    Verifying,
+}
+
+/// What to do about a refusal: the table of docs/GUIDE.md.
+fn advice(refusal: Refusal, doing: Doing) -> &'static str {
+    use Refusal::*;
+    match (refusal, doing) {
+        (BadSet, _) => "Take --set 128, 192 or 256.",
+        (BadShareCount, _) => "Take --shares 1, 2, 4, 8, 16 or 32.",
+        (BadKeyLength, _) => "It is a key of another set or share count, or a damaged file.",
+        (BadPublicKey | BadShareWords, _) => "The key is damaged: do not use it.",
+        (BadAttempts, _) => "Take --attempts from 1 to 16.",
+        (BadSeeds | BadBuffer, _) => "koivrast has called the unit in a wrong way: please report this.",
+        (BadMessageLength, Doing::Verifying) => "Do not accept it. If its hash was signed, verify the hash.",
+        (BadMessageLength, _) => "Sign its hash instead, for instance what sha256sum prints of it.",
+        (UniformNotFilled, Doing::MakingKey) => "Run keygen again: it draws new seeds.",
+        (UniformNotFilled, _) => "No key is known that meets this: take another key.",
+        (ChallengeNotFilled, Doing::Verifying) => "Do not accept it.",
+        (ChallengeNotFilled, _) => "Sign again: new seeds are drawn.",
+        (NoAttemptPassed, _) => {
+            "Sign again, with more --attempts. If it stays, the key's shares are not those of its public key."
+        }
+        (BadSignatureLength, _) => "Do not accept it: it is cut, or of another set.",
+        (BadSignatureForm, _) => "Do not accept it: it is damaged or forged.",
+        (BadSignatureBounds, _) => "Do not accept it.",
+        (BadSignatureHash, _) => "Do not accept it: it is of another message or another key, or forged.",
+    }
+}
