@@ -179,7 +179,7 @@ bytes 2256 377 >bad.pub
 expect 'question 4' 1 'refused, 4: Are all public key coefficients below 125' verify bad.pub order.txt order.sig
 expect 'question 4 in inspect' 1 '125..127' "$tool" inspect bad.pub
 { head -c 14000 gate.key && bytes 848 377; } >bad.key
-expect 'question 5, signing key' 1 'refused, 5: Are all words of the shares below q' sign bad.key order.txt x.sig
+expect 'question 5, signing key' 1 'refused, 5: Are all words of the full share' sign bad.key order.txt x.sig
 { head -c 67784 gate.open && bytes 8 377; } >bad.open
 expect 'question 5, expanded key' 1 'The key is damaged: do not use it' "$tool" refresh bad.open --out x.open
 expect 'question 5 in inspect' 1 'contents  *refused, 5: ' "$tool" inspect bad.open
