@@ -112,3 +112,16 @@ fn complete() {
         assert!(calls.contains(&format!("{name}(")), "{name} is not in exports.c");
     }
 }
+
+/// The header alone, for C and for C++.
+#[test]
+fn header_without_warnings() {
+    for (compiler, language, standard) in [("gcc", "c", "-std=c99"), ("gcc", "c", "-std=c17"), ("g++", "c++", "-std=c++11"), ("g++", "c++", "-std=c++17")] {
+        let checked = Command::new(compiler)
+            .args(["-x", language, standard, "-Wall", "-Wextra", "-Wpedantic", "-Werror", "-fsyntax-only"])
+            .arg(root().join("include/raccoon.h"))
+            .output()
+            .unwrap();
+        assert!(checked.status.success(), "{compiler} {standard}: {}", String::from_utf8_lossy(&checked.stderr));
+    }
+}

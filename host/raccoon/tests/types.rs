@@ -145,3 +145,17 @@ fn secrets_are_not_printed() {
     let key = key(Params::new(Set::Raccoon128, Shares::Four));
     assert_eq!(format!("{key:?} {:?}", key.expand().unwrap()), "SigningKey(128-4, ..) ExpandedKey(128-4, ..)");
 }
+
+#[test]
+fn calls_share_nothing() {
+    let params = Params::new(Set::Raccoon128, Shares::Four);
+    let key = key(params);
+    let sign = |number: u8| key.sign(&[number], SigningSeeds::new(params).draw(source("threads")).unwrap()).unwrap();
+    let alone: Vec<Signed> = (0..8).map(sign).collect();
+    let together: Vec<Signed> = std::thread::scope(|scope| {
+        let threads: Vec<_> = (0..8).map(|number| scope.spawn(move || sign(number))).collect();
+        threads.into_iter().map(|thread| thread.join().unwrap()).collect()
+    });
+    assert_eq!(together, alone);
+    assert!((0..8).all(|number| key.public_key().verify(&[number as u8], &alone[number].signature).is_ok()));
+}
