@@ -4,6 +4,7 @@ use independent::drbg::{tests, Drbg};
 use independent::raccoon::{Noise, Params};
 use crate::unit::{self, Key, Signing};
 use std::fmt::Write;
+use std::thread;
 
 /// What one test of a response file is made from: the seed that it names, and the draws that follow from it.
 pub struct Inputs {
@@ -61,10 +62,10 @@ fn upper(text: &mut String, name: &str, bytes: &[u8]) {
     text.push('\n');
 }
 
-/// The text of a response file of so many tests.
-pub fn file(p: &Params, count: usize) -> Result<String, String> {
-    let mut text = format!("# Raccoon-{}-{}\n\n", p.kappa, p.d);
-    for (number, input) in inputs(p, count).iter().enumerate() {
+/// The text of some tests, the first of which has this number.
+fn texts(p: &Params, first: usize, inputs: &[Inputs]) -> Result<String, String> {
+    let mut text = String::new();
+    for (number, input) in (first..).zip(inputs) {
         let test = made(p, input, &[number as u8; 32]).map_err(|answer| format!("test {number}: {answer}"))?;
         writeln!(text, "count = {number}").unwrap();
         upper(&mut text, "seed", &input.entropy);
@@ -77,6 +78,19 @@ pub fn file(p: &Params, count: usize) -> Result<String, String> {
         text.push('\n');
     }
     Ok(text)
+}
+
+/// The text of a response file of so many tests, made on all processors.
+pub fn file(p: &Params, count: usize) -> Result<String, String> {
+    let inputs = inputs(p, count);
+    let part = count.div_ceil(thread::available_parallelism().map_or(1, usize::from));
+    let parts: Vec<Result<String, String>> = thread::scope(|scope| {
+        let make = |(i, inputs)| scope.spawn(move || texts(p, i * part, inputs));
+        let threads: Vec<_> = inputs.chunks(part).enumerate().map(make).collect();
+        threads.into_iter().map(|thread| thread.join().unwrap()).collect()
+    });
+    let tests: Result<String, String> = parts.into_iter().collect();
+    Ok(format!("# Raccoon-{}-{}\n\n{}", p.kappa, p.d, tests?))
 }
 
 /// Set, share count and SHA-256 of each of the 18 files of 100 tests.
