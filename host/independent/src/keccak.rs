@@ -1,5 +1,7 @@
 //! SHAKE256 from FIPS 202. Lanes are numbered x + 5 y.
 
+use std::cell::Cell;
+
 const RATE: usize = 136;
 
 /// The 24 round constants, by the register of FIPS 202, algorithm 5.
@@ -66,8 +68,18 @@ fn round(a: &mut [u64; 25], constant: u64) {
     a[0] ^= constant;
 }
 
+thread_local! {
+    static PERMUTATIONS: Cell<u64> = const { Cell::new(0) };
+}
+
+/// How many permutations this thread has made so far.
+pub fn permutations() -> u64 {
+    PERMUTATIONS.get()
+}
+
 /// `Keccak-f[1600]`, two rounds to a turn: the usual shape for compilers.
 pub fn permute(a: &mut [u64; 25]) {
+    PERMUTATIONS.set(PERMUTATIONS.get() + 1);
     for pair in RC.chunks_exact(2) {
         round(a, pair[0]);
         round(a, pair[1]);

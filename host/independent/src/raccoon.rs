@@ -100,11 +100,19 @@ fn hash(parts: &[&[u8]], n: usize) -> Vec<u8> {
     out
 }
 
-/// SampleQ: nothing after 777 draws (question 10).
+/// A sample of the first bytes of a stream, or, where these are too few for it, of all bytes that it may take.
+fn sampled<T>(mut xof: Shake256, first: usize, all: usize, sample: impl Fn(&[u8]) -> Option<T>) -> Option<T> {
+    let mut stream = vec![0u8; all];
+    xof.squeeze(&mut stream[..first]);
+    sample(&stream[..first]).or_else(|| {
+        xof.squeeze(&mut stream[first..]);
+        sample(&stream)
+    })
+}
+
+/// SampleQ: nothing after 777 draws (question 10). 28 blocks are 544 draws: too few for one polynomial in a million.
 fn uniform(header: [u8; 8], seed: &[u8]) -> Option<Poly> {
-    let mut stream = [0u8; 5439];
-    xof(&header, seed).squeeze(&mut stream);
-    sample_q(&stream)
+    sampled(xof(&header, seed), 28 * 136, 777 * 7, sample_q)
 }
 
 /// SampleU: samples of u bits, signed, modulo q.
@@ -321,9 +329,8 @@ pub fn challenge(edition: Edition, omega: usize, stream: &[u8]) -> Option<[i8; N
 }
 
 fn chal_poly(p: &Params, hash: &[u8]) -> Option<[i8; N]> {
-    let mut stream = [0u8; 2176];
-    xof(&[99, p.omega as u8, 0, 0, 0, 0, 0, 0], hash).squeeze(&mut stream);
-    challenge(p.edition, p.omega, &stream)
+    let xof = xof(&[99, p.omega as u8, 0, 0, 0, 0, 0, 0], hash);
+    sampled(xof, 136, 1088 * 2, |stream| challenge(p.edition, p.omega, stream))
 }
 
 fn chal_hash(p: &Params, w: &[u8], mu: &[u8]) -> Vec<u8> {

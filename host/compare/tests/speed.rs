@@ -1,0 +1,94 @@
+//! The speed report with few turns: positive figures for all 18 pairs, permutations that were counted by hand, and the plot. The
+//! report itself checks that the results of both sides are equal, and the permutations of the independent implementation those of
+//! the formulas.
+
+use std::process::{Command, Output};
+use std::sync::OnceLock;
+
+fn speed(arguments: &[&str]) -> Output {
+    Command::new(env!("CARGO_BIN_EXE_speed")).args(arguments).output().unwrap()
+}
+
+/// One run serves all tests.
+fn report() -> &'static str {
+    static REPORT: OnceLock<String> = OnceLock::new();
+    REPORT.get_or_init(|| {
+        let run = speed(&["--quick"]);
+        assert!(run.status.success(), "{}", String::from_utf8_lossy(&run.stderr));
+        String::from_utf8(run.stdout).unwrap()
+    })
+}
+
+/// The rows of a table: their names and figures.
+fn rows(title: &str) -> Vec<(String, Vec<f64>)> {
+    let table = report().lines().skip_while(|line| !line.starts_with(&format!("{title}: "))).skip(3);
+    let row = |line: &str| {
+        let mut words = line.split_whitespace().map(str::to_string);
+        (words.next().unwrap(), words.map(|figure| figure.parse().unwrap()).collect())
+    };
+    table.take_while(|line| !line.is_empty()).map(row).collect()
+}
+
+/// The figures of a pair, three for each of the five calls.
+fn figures(title: &str, pair: &str) -> [[f64; 3]; 5] {
+    let row = rows(title).into_iter().find(|(name, _)| name == pair).unwrap().1;
+    let cells: Vec<[f64; 3]> = row.chunks(3).map(|cell| cell.try_into().unwrap()).collect();
+    cells.try_into().unwrap()
+}
+
+#[test]
+fn all_pairs() {
+    let names: Vec<String> = [128, 192, 256].iter().flat_map(|set| (0..6).map(move |i| format!("{set}-{}", 1 << i))).collect();
+    for title in ["Calls", "Permutations"] {
+        assert_eq!(rows(title).into_iter().map(|(name, _)| name).collect::<Vec<String>>(), names, "{title}");
+    }
+    for name in names {
+        assert!(figures("Calls", &name).concat().iter().all(|&figure| figure > 0.0), "{name}");
+        assert!(figures("Permutations", &name).concat().iter().all(|&figure| figure >= 0.0), "{name}");
+    }
+}
+
+/// 128-1: no masks but the generator's first block; 72 noise streams of 4 or 23 blocks; 20 entries of the matrix, of 28 blocks;
+/// 17 and 1 blocks of mu, 20 of the challenge hash, 1 of the challenge. In signing the unit makes the entries twice.
+#[test]
+fn permutations_of_one_share() {
+    let matrix = 20 * 28;
+    let (generating, verifying) = (72 * 4 + matrix, matrix + 17 + 1 + 20 + 1);
+    let signing = 72 * 23 + verifying;
+    let counts = [(1 + generating, generating), (0, 0), (1, 0), (1 + signing + matrix, signing), (verifying, verifying)];
+    assert_eq!(counts, [(849, 848), (0, 0), (1, 0), (2816, 2255), (599, 599)]);
+    assert_eq!(figures("Permutations", "128-1").map(|[unit, independent, _]| (unit as u32, independent as u32)), counts);
+}
+
+/// 256-32: a zero encoding is 80 polynomials, 17 words to a block; 71 of them in generating, 7 in refreshing, 92 in signing. 2048
+/// noise streams of 4 or 19 blocks, 63 entries, 217 seeded shares; 30 and 2 blocks of mu, 35 of the challenge hash, 1 of the
+/// challenge.
+#[test]
+fn permutations_of_32_shares() {
+    let masks = |encodings: u32| (encodings * 80 * 512).div_ceil(17);
+    let (generating, refreshing) = (masks(71) + 2048 * 4 + (63 + 217) * 28, masks(7));
+    let verifying = 63 * 28 + 30 + 2 + 35 + 1;
+    let (expanding, signing) = (217 * 28, masks(92) + 2048 * 19 + verifying);
+    let unit = [generating, 2 * expanding, refreshing, signing + 63 * 28, verifying];
+    let independent = [generating, expanding, refreshing, signing, verifying];
+    let counts: [(u32, u32); 5] = std::array::from_fn(|call| (unit[call], independent[call]));
+    assert_eq!(counts, [(187101, 187101), (12152, 6076), (16866, 16866), (264174, 262410), (1832, 1832)]);
+    assert_eq!(figures("Permutations", "256-32").map(|[unit, independent, _]| (unit as u32, independent as u32)), counts);
+}
+
+#[test]
+fn growth() {
+    let plot: Vec<&str> = report().lines().skip_while(|line| !line.starts_with("Growth")).collect();
+    for d in [1, 2, 4, 8, 16, 32] {
+        let rows: Vec<&&str> = plot.iter().filter(|line| line.starts_with(&format!("d = {d} "))).collect();
+        assert_eq!(rows.len(), 3, "d = {d}");
+        assert!(rows.iter().all(|row| row.matches('|').count() == if d > 1 { 3 } else { 0 }), "d = {d}");
+    }
+}
+
+#[test]
+fn other_arguments() {
+    let run = speed(&["--fast"]);
+    assert!(!run.status.success());
+    assert!(run.stdout.is_empty());
+}
