@@ -1,4 +1,4 @@
-//! Links the exports for the benchmark, which `rt staticlib bench` writes to target/staticlib.
+//! Links the exports of the parts, which `rt staticlib bench` writes to target/staticlib.
 fn main() {
     let dir = std::path::Path::new(env!("CARGO_MANIFEST_DIR")).join("../../target/staticlib");
     println!("cargo:rustc-link-search=native={}", dir.display());

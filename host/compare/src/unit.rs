@@ -1,4 +1,4 @@
-//! The proved code: the unit's calls with the types of the independent implementation, and the exports for the benchmark.
+//! The proved code: the unit's calls with the types of the independent implementation, and the exports of its parts.
 
 use independent::raccoon::{Edition, Noise};
 use independent::ring::{Poly, N};

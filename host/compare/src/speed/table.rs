@@ -50,7 +50,7 @@ impl Table {
         let [x, y] = self.joints;
         let join = |[a, b, c]: [&str; 3]| format!("{a}{x}{b}{y}{c}");
         let line = |first: &str, cells: Vec<String>| format!("| {first} | {} |\n", cells.join(" | "));
-        let mut out = format!("**{}**, {}, as {}:\n\n", self.title, self.caption, join(self.figures));
+        let mut out = format!("**{}** ({}): {}.\n\n", self.title, join(self.figures), self.caption);
         out += &line(self.corner, self.heads.iter().map(|head| head.to_string()).collect());
         out += &format!("|---|{}\n", "---:|".repeat(self.heads.len()));
         for (name, cells) in &self.rows {
