@@ -1,20 +1,19 @@
 //! The calls of paper 01 against known answers: name, status, and the SHA-256 of the result.
 
-use compare::independent::raccoon::{challenge, Edition};
-use compare::independent::ring::{sample_q, Q};
+use compare::independent::ring::Q;
 use compare::known::{digest, known, word_bytes, xof};
 use compare::random::Random;
-use compare::unit;
+use compare::{expect, unit};
 
 fn draws(values: &[u64]) -> Vec<u8> {
     values.iter().flat_map(|v| v.to_le_bytes()[..7].to_vec()).collect()
 }
 
-/// Runs the sampler on a result of n words with guards around it, and gives the answer as the file has it.
-fn uniform(bytes: &[u8], n: usize) -> String {
+/// Runs a sampler on a result of n words with guards around it, and gives the answer as the file has it.
+fn uniform(sampler: fn(&[u8], &mut [u64]) -> u32, bytes: &[u8], n: usize) -> String {
     const GUARD: u64 = 0x5555_aaaa_5555_aaaa;
     let mut words = vec![GUARD; n + 8];
-    let status = unit::sample_uniform(bytes, &mut words[4..n + 4]);
+    let status = sampler(bytes, &mut words[4..n + 4]);
     assert!(words[..4].iter().chain(&words[n + 4..]).all(|&w| w == GUARD));
     if status == 0 {
         return format!("0 {}", digest(&word_bytes(&words[4..n + 4])));
@@ -49,7 +48,7 @@ fn uniform_sampler() {
         ("uniform result 511", xof("uniform", 5439), 511),
     ];
     for (name, bytes, n) in cases {
-        assert_eq!(uniform(&bytes, n), known(name), "{name}");
+        assert_eq!(uniform(unit::sample_uniform, &bytes, n), known(name), "{name}");
     }
 }
 
@@ -71,20 +70,15 @@ fn uniform_sampler_on_any_bytes_and_lengths() {
             }
         }
         let n = [0, 511, 512, 512, 512, 512, 513, 1024][random.below(8)];
-        let expected = match (n, sample_q(&bytes)) {
-            (512, Some(poly)) => format!("0 {}", digest(&word_bytes(&poly))),
-            (512, None) => "10 -".to_string(),
-            _ => "8 -".to_string(),
-        };
-        assert_eq!(uniform(&bytes, n), expected);
+        assert_eq!(uniform(unit::sample_uniform, &bytes, n), uniform(expect::sample_uniform, &bytes, n));
     }
 }
 
-/// Runs the challenge sampler on n coefficients with guards around them, and gives the answer as the file has it.
-fn challenged(set: u32, bytes: &[u8], n: usize) -> String {
+/// Runs a challenge sampler on n coefficients with guards around them, and gives the answer as the file has it.
+fn challenged(sampler: fn(u32, &[u8], &mut [i8]) -> u32, set: u32, bytes: &[u8], n: usize) -> String {
     const GUARD: i8 = 0x35;
     let mut coefficients = vec![GUARD; n + 64];
-    let status = unit::sample_challenge(set, bytes, &mut coefficients[32..n + 32]);
+    let status = sampler(set, bytes, &mut coefficients[32..n + 32]);
     assert!(coefficients[..32].iter().chain(&coefficients[n + 32..]).all(|&c| c == GUARD));
     if status == 0 {
         let result: Vec<u8> = coefficients[32..n + 32].iter().map(|&c| c as u8).collect();
@@ -117,7 +111,7 @@ fn challenge_sampler() {
         ("128 challenge result 513", 128, xof("challenge", 2176), 513),
     ];
     for (name, set, bytes, n) in cases {
-        assert_eq!(challenged(set, &bytes, n), known(name), "{name}");
+        assert_eq!(challenged(unit::sample_challenge, set, &bytes, n), known(name), "{name}");
     }
 }
 
@@ -134,18 +128,6 @@ fn challenge_sampler_on_any_bytes_and_lengths() {
         }
         let set = [128, 192, 256, 128, 192, 256, 0, 129, u32::MAX][random.below(9)];
         let n = [0, 511, 512, 512, 512, 512, 513, 2048][random.below(8)];
-        let omega = match set {
-            128 => 19,
-            192 => 31,
-            256 => 44,
-            _ => 0,
-        };
-        let expected = match (omega, n, challenge(Edition::Printed, omega, &bytes)) {
-            (0, _, _) => "1 -".to_string(),
-            (_, 512, Some(c)) => format!("0 {}", digest(&c.map(|x| x as u8))),
-            (_, 512, None) => "11 -".to_string(),
-            _ => "8 -".to_string(),
-        };
-        assert_eq!(challenged(set, &bytes, n), expected);
+        assert_eq!(challenged(unit::sample_challenge, set, &bytes, n), challenged(expect::sample_challenge, set, &bytes, n));
     }
 }

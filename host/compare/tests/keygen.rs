@@ -1,14 +1,12 @@
 //! Key generation of the proved code: known answers, the keys of all 18 response files in both editions, and badly sized inputs, with guards
 //! around the result and the work buffer.
 
+use compare::case::{Calls, EXPECTED, UNIT};
 use compare::independent::drbg::{tests, Drbg};
-use compare::independent::raccoon::{keygen, Edition, Params};
+use compare::independent::raccoon::{Edition, Params};
 use compare::known::{digest, known, response_tests, xof};
+use compare::pool::{SETS, SHARES};
 use compare::random::Random;
-use compare::unit;
-
-const SETS: [usize; 3] = [128, 192, 256];
-const SHARES: [usize; 6] = [1, 2, 4, 8, 16, 32];
 
 /// A call's inputs, and the sizes of the buffers that it is lent.
 #[derive(Clone)]
@@ -27,10 +25,11 @@ impl Call {
         Call { edition: p.edition, set: set as u32, d: p.d as u32, seeds, mask, key: p.sk_bytes(), work: p.work_words() }
     }
     /// The status and, with 0, the key. A refusal must leave the result as it was; 0 and 10 must leave a work buffer of zeros.
-    fn run(&self) -> (u32, Option<Vec<u8>>) {
+    fn run(&self, calls: &Calls) -> (u32, Option<Vec<u8>>) {
         let (mut key, mut work) = (vec![0xa7u8; self.key + 32], vec![0x1234_5678u64; self.work + 8]);
         let (result, lent) = (16..self.key + 16, 4..self.work + 4);
-        let status = unit::keygen(self.edition, self.set, self.d, &self.seeds, &self.mask, &mut key[result.clone()], &mut work[lent.clone()]);
+        let (key_out, work_out) = (&mut key[result.clone()], &mut work[lent.clone()]);
+        let status = (calls.keygen)(self.edition, self.set, self.d, &self.seeds, &self.mask, key_out, work_out);
         assert!(key[..16].iter().chain(&key[result.end..]).all(|&x| x == 0xa7), "a guard was written");
         assert!(work[..4].iter().chain(&work[lent.end..]).all(|&x| x == 0x1234_5678), "a guard was written");
         let left = if status == 0 || status == 10 { 0 } else { 0x1234_5678 };
@@ -42,7 +41,7 @@ impl Call {
         (status, None)
     }
     fn answer(&self) -> String {
-        match self.run() {
+        match self.run(&UNIT) {
             (status, None) => format!("{status} -"),
             (_, Some(key)) => format!("0 {}", digest(&key)),
         }
@@ -89,7 +88,7 @@ fn check(file: &str, edition: Edition) {
         let seeds = (0..p.keygen_bytes() / p.seed_bytes()).flat_map(|_| drbg.bytes(p.seed_bytes())).collect();
         // the key does not depend on the masks
         let call = Call::new(&p, set, seeds, xof(&format!("mask {count}"), 32));
-        let key = call.run().1.unwrap();
+        let key = call.run(&UNIT).1.unwrap();
         assert_eq!(digest(&key[..p.vk_bytes()]), answers["pk"], "pk of {set}-{d}, test {count}");
         assert_eq!(digest(&key), answers["sk"], "sk of {set}-{d}, test {count}");
     }
@@ -123,13 +122,6 @@ fn any_sizes() {
             6 => call.d = random.below(70) as u32,
             _ => {}
         }
-        let expected = match Params::new(call.set as usize, call.d as usize, edition) {
-            None if !SETS.contains(&(call.set as usize)) => (1, None),
-            None => (2, None),
-            Some(p) if call.seeds.len() != p.keygen_bytes() || call.mask.len() != 32 => (7, None),
-            Some(p) if call.key != p.sk_bytes() || call.work != p.work_words() => (8, None),
-            Some(p) => (0, keygen(&p, &call.seeds, &call.mask)),
-        };
-        assert_eq!(call.run(), expected);
+        assert_eq!(call.run(&UNIT), call.run(&EXPECTED));
     }
 }

@@ -1,6 +1,7 @@
 //! Expanding and refreshing of the proved code: known answers, all 18 pairs of set and share count, and damaged or badly sized inputs, each
 //! against the independent implementation, with guards around every result.
 
+use compare::case::{EXPECTED, UNIT};
 use compare::independent::raccoon::{expand, keygen, refresh, Edition, Params};
 use compare::independent::ring::Q;
 use compare::known::{digest, known, word_bytes, xof};
@@ -124,29 +125,7 @@ fn damaged_keys_and_wrong_lengths() {
         }
         let (set, d) = if random.below(4) == 0 { ([0, 127, 192, 256][random.below(4)], random.below(70) as u32) } else { (c.set, c.d) };
         let (bytes, words) = (c.p.vk_bytes() + random.below(12) / 11, c.words() - random.below(12) / 11);
-        let expected = match Params::new(set as usize, d as usize, c.p.edition) {
-            None if ![128, 192, 256].contains(&set) => 1,
-            None => 2,
-            Some(p) if key.len() != p.sk_bytes() => 3,
-            Some(p) => {
-                let coefficient = |i: usize| (0..7).map(|b| (key[p.seed_bytes() + (7 * i + b) / 8] >> ((7 * i + b) % 8) & 1) << b).sum::<u8>();
-                let full = p.vk_bytes() + (p.d - 1) * p.seed_bytes();
-                let word = |i: usize| (0..49).map(|b| u64::from(key[full + (49 * i + b) / 8] >> ((49 * i + b) % 8) & 1) << b).sum::<u64>();
-                if (0..p.k * 512).any(|i| coefficient(i) >= 125) {
-                    4
-                } else if (0..p.l * 512).any(|i| word(i) >= Q) {
-                    5
-                } else if (bytes, words) != (p.vk_bytes(), p.l * p.d * 512) {
-                    8
-                } else {
-                    0
-                }
-            }
-        };
-        let (status, opened) = results(bytes, words, |b, w| unit::expand_key(c.p.edition, set, d, &key, b, w));
-        assert_eq!(status, expected);
-        if let Some((b, w)) = opened {
-            assert_eq!((&b[..], w), (&key[..c.p.vk_bytes()], expand(&c.p, &key).unwrap()));
-        }
+        let answers = [UNIT, EXPECTED].map(|calls| results(bytes, words, |b, w| (calls.expand_key)(c.p.edition, set, d, &key, b, w)));
+        assert_eq!(answers[0], answers[1]);
     }
 }

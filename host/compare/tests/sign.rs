@@ -2,15 +2,14 @@
 //! share counts, attempts that fail, and each refusal. Status, attempts and signature are compared with the independent implementation, with
 //! guards around the result and the work buffer; what was signed is verified.
 
-use compare::independent::raccoon::{expand, form_bits, keygen, read, refresh, sample_u, sign, Edition, Noise, Params};
+use compare::independent::raccoon::{expand, form_bits, keygen, read, refresh, sample_u, Edition, Noise, Params};
 use compare::independent::ring::{N, Q};
 use compare::known::{digest, known, word_bytes, xof};
+use compare::layout::{full_share, laid_out, put_bits, small_totals, sums, words_below_q};
+use compare::pool::{SETS, SHARES};
 use compare::random::Random;
-use compare::unit;
+use compare::{expect, unit};
 use std::collections::BTreeSet;
-
-const SETS: [usize; 3] = [128, 192, 256];
-const SHARES: [usize; 6] = [1, 2, 4, 8, 16, 32];
 
 #[derive(Clone, PartialEq)]
 enum Key {
@@ -42,18 +41,6 @@ struct Call {
 /// The status, the attempts and, with 0, the signature.
 type Answer = (u32, u32, Option<Vec<u8>>);
 
-/// A number of `width` bits.
-fn bits(bytes: &[u8], from: usize, width: usize) -> u64 {
-    (from..from + width).rev().fold(0, |sum, at| sum << 1 | u64::from(bytes[at / 8] >> (at % 8) & 1))
-}
-
-fn put_bits(bytes: &mut [u8], from: usize, width: usize, value: u64) {
-    for b in 0..width {
-        let at = from + b;
-        bytes[at / 8] = bytes[at / 8] & !(1 << (at % 8)) | ((value >> b & 1) as u8) << (at % 8);
-    }
-}
-
 impl Call {
     fn new(p: &Params, key: Key, message: Vec<u8>, noise: Tape) -> Call {
         let attempts = match &noise {
@@ -63,6 +50,20 @@ impl Call {
         let masks = xof("masks", 32 * attempts);
         let (set, d, attempts) = (p.kappa as u32, p.d as u32, attempts as u32);
         Call { edition: p.edition, set, d, attempts, key, message, noise, masks, signature: p.sig_bytes, work: p.work_words() }
+    }
+
+    /// What the call is lent to read.
+    fn signing(&self) -> unit::Signing<'_> {
+        let key = match &self.key {
+            Key::Packed(key) => unit::Key::Packed(key),
+            Key::Expanded(bytes, words) => unit::Key::Expanded(bytes, words),
+        };
+        let noise = match &self.noise {
+            Tape::Seeds(seeds) => Noise::Seeds(seeds),
+            Tape::Words(words) => Noise::Words(words),
+        };
+        let (set, shares, attempts) = (self.set, self.d, self.attempts);
+        unit::Signing { set, shares, attempts, key, message: &self.message, noise, mask_seeds: &self.masks }
     }
 
     /// Runs the unit. The guards and the inputs must be as they were, the result too with a refusal, the work buffer with refusals 1 to 8; else
@@ -75,22 +76,8 @@ impl Call {
         signature[result.clone()].fill(fill as u8);
         work[lent.clone()].fill(fill);
         let inputs = self.clone();
-        let input = unit::Signing {
-            set: self.set,
-            shares: self.d,
-            attempts: self.attempts,
-            key: match &inputs.key {
-                Key::Packed(key) => unit::Key::Packed(key),
-                Key::Expanded(bytes, words) => unit::Key::Expanded(bytes, words),
-            },
-            message: &inputs.message,
-            noise: match &inputs.noise {
-                Tape::Seeds(seeds) => Noise::Seeds(seeds),
-                Tape::Words(words) => Noise::Words(words),
-            },
-            mask_seeds: &inputs.masks,
-        };
-        let unit::Signed { status, attempts } = unit::sign(self.edition, &input, &mut signature[result.clone()], &mut work[lent.clone()]);
+        let (signature_out, work_out) = (&mut signature[result.clone()], &mut work[lent.clone()]);
+        let unit::Signed { status, attempts } = unit::sign(self.edition, &inputs.signing(), signature_out, work_out);
         assert!(inputs == *self, "an input was written");
         assert!(signature[..16].iter().chain(&signature[result.end..]).all(|&x| x == GUARD as u8), "a guard of the result was written");
         assert!(work[..4].iter().chain(&work[lent.end..]).all(|&x| x == GUARD), "a guard of the work buffer was written");
@@ -113,57 +100,9 @@ impl Call {
 
     /// The answer by the checks of paper 01 in their order and the independent implementation.
     fn expected(&self) -> Answer {
-        let no = |number: u32| (number, 0, None);
-        if !SETS.contains(&(self.set as usize)) {
-            return no(1);
-        }
-        let Some(p) = Params::new(self.set as usize, self.d as usize, self.edition) else { return no(2) };
-        let length = match &self.key {
-            Key::Packed(key) => key.len() == p.sk_bytes(),
-            Key::Expanded(bytes, words) => bytes.len() == p.vk_bytes() && words.len() == p.l * p.d * N,
-        };
-        if !length {
-            return no(3);
-        }
-        let (Key::Packed(key) | Key::Expanded(key, _)) = &self.key;
-        let vk = &key[..p.vk_bytes()];
-        if (0..p.k * N).any(|i| bits(vk, 8 * p.seed_bytes() + 7 * i, 7) >= 125) {
-            return no(4);
-        }
-        let full = 8 * (p.vk_bytes() + (p.d - 1) * p.seed_bytes());
-        let over = match &self.key {
-            Key::Packed(key) => (0..p.l * N).any(|i| bits(key, full + 49 * i, 49) >= Q),
-            Key::Expanded(_, words) => words.iter().any(|&x| x >= Q),
-        };
-        if over {
-            return no(5);
-        }
-        if self.attempts < 1 || self.attempts > 16 {
-            return no(6);
-        }
-        let n = self.attempts as usize;
-        let noise: Vec<Noise> = match &self.noise {
-            Tape::Seeds(seeds) if seeds.len() == n * p.noise_bytes() => seeds.chunks_exact(p.noise_bytes()).map(Noise::Seeds).collect(),
-            Tape::Words(words) if words.len() == n * p.noise_words() && words.iter().all(|&x| x < Q) => {
-                words.chunks_exact(p.noise_words()).map(Noise::Words).collect()
-            }
-            _ => return no(7),
-        };
-        if self.masks.len() != 32 * n {
-            return no(7);
-        }
-        if self.signature != p.sig_bytes || self.work != p.work_words() {
-            return no(8);
-        }
-        if self.message.len() > 4096 {
-            return no(9);
-        }
-        let words = match &self.key {
-            Key::Packed(key) => expand(&p, key).unwrap(),
-            Key::Expanded(_, words) => words.clone(),
-        };
-        let attempts: Vec<(Noise, &[u8])> = noise.into_iter().zip(self.masks.chunks_exact(32)).collect();
-        sign(&p, vk, &words, &self.message, &attempts)
+        let (mut signature, mut work) = (vec![0; self.signature], vec![0; self.work]);
+        let unit::Signed { status, attempts } = expect::sign(self.edition, &self.signing(), &mut signature, &mut work);
+        (status, attempts, (status == 0).then_some(signature))
     }
 
     /// The answer, which must be the expected one.
@@ -187,22 +126,6 @@ fn short((status, attempts, signature): &Answer) -> String {
 /// The words of a stream, modulo q.
 fn stream_words(label: &str, n: usize) -> Vec<u64> {
     xof(label, 8 * n).chunks_exact(8).map(|x| u64::from_le_bytes(x.try_into().unwrap()) % Q).collect()
-}
-
-/// Polynomials laid out for d shares: shares 1 to d - 1 are the words in order, share 0 makes up the total.
-fn laid_out(totals: &[u64], d: usize, words: &[u64]) -> Vec<u64> {
-    let mut out = Vec::with_capacity(totals.len() * d);
-    for (i, total) in totals.chunks_exact(N).enumerate() {
-        let others = &words[i * (d - 1) * N..(i + 1) * (d - 1) * N];
-        out.extend((0..N).map(|x| (total[x] + (0..d - 1).map(|j| Q - others[j * N + x]).sum::<u64>()) % Q));
-        out.extend(others);
-    }
-    out
-}
-
-/// The sums of the shares of polynomials.
-fn sums(words: &[u64], d: usize) -> Vec<u64> {
-    words.chunks_exact(d * N).flat_map(|s| (0..N).map(move |x| (0..d).map(|j| s[j * N + x]).sum::<u64>() % Q)).collect()
 }
 
 fn params(set: usize, d: usize) -> Params {
@@ -280,10 +203,9 @@ fn set_coefficient(call: &mut Call, p: &Params, index: usize, value: u64) {
 
 /// Puts a word of the full share, or of the expanded key.
 fn set_share_word(call: &mut Call, p: &Params, last: bool, value: u64) {
-    let full = 8 * (p.vk_bytes() + (p.d - 1) * p.seed_bytes());
     change_key(
         call,
-        |key| put_bits(key, full + if last { 49 * (p.l * N - 1) } else { 0 }, 49, value),
+        |key| put_bits(key, full_share(p) + if last { 49 * (p.l * N - 1) } else { 0 }, 49, value),
         |_, words| *if last { words.last_mut() } else { words.first_mut() }.unwrap() = value,
     );
 }
@@ -373,7 +295,7 @@ fn all_sets_and_share_counts_in_every_form() {
             let key = signing_key(&p);
             let length = random.below(300);
             let (message, seeds) = (random.bytes(length), random.bytes(p.noise_bytes()));
-            let words: Vec<u64> = (0..(p.l + p.k) * (d - 1) * N).map(|_| random.word() % Q).collect();
+            let words = words_below_q((p.l + p.k) * (d - 1) * N, &mut random);
             let explicit = Tape::Words(laid_out(&seed_totals(&p, &seeds), d, &words));
             let seeds = Tape::Seeds(seeds);
             let packed = Call::new(&p, Key::Packed(key.clone()), message.clone(), seeds.clone());
@@ -392,14 +314,9 @@ fn all_sets_and_share_counts_in_every_form() {
     }
 }
 
-/// Noise totals that pass: each below 2^41 in size.
-fn small_totals(p: &Params, random: &mut Random) -> Vec<u64> {
-    (0..(p.l + p.k) * N).map(|_| (random.word() % (1 << 42) + Q - (1 << 41)) % Q).collect()
-}
-
 /// Secret and totals laid out for so many shares.
 fn laid_out_call(p: &Params, vk: &[u8], secret: &[u64], totals: &[&Vec<u64>], message: &[u8], random: &mut Random) -> Call {
-    let mut lay = |x: &[u64]| laid_out(x, p.d, &(0..x.len() * (p.d - 1)).map(|_| random.word() % Q).collect::<Vec<u64>>());
+    let mut lay = |x: &[u64]| laid_out(x, p.d, &words_below_q(x.len() * (p.d - 1), random));
     let key = Key::Expanded(vk.to_vec(), lay(secret));
     let noise = totals.iter().flat_map(|x| lay(x)).collect();
     let mut call = Call::new(p, key, message.to_vec(), Tape::Words(noise));

@@ -1,15 +1,16 @@
 //! Verifying of the proved code: known answers, the signatures of all 18 response files in both editions, flipped bits in every field, fields
 //! at the edges of the bounds and of the length, damaged keys and wrong lengths. Every status is compared with the independent one.
 
-use compare::independent::raccoon::{expand, form_bits, keygen, read, sign, verify, write, Edition, Fields, Noise, Params};
+use compare::independent::raccoon::{expand, form_bits, keygen, read, sign, write, Edition, Fields, Noise, Params};
 use compare::independent::ring::Q;
 use compare::known::{digest, known, response_tests, xof};
+use compare::layout::put_bits;
+use compare::pool::SETS;
 use compare::random::Random;
-use compare::{response, unit};
+use compare::{expect, response, unit};
 use std::collections::BTreeSet;
 use std::ops::Range;
 
-const SETS: [usize; 3] = [128, 192, 256];
 const EDITIONS: [Edition; 2] = [Edition::Printed, Edition::Kat];
 
 /// The unit's status, which must be the independent one. The inputs, at odd addresses, must be as they were.
@@ -19,7 +20,7 @@ fn verdict(edition: Edition, set: usize, vk: &[u8], message: &[u8], signature: &
     let [k, m, s] = [0, 1, 2].map(|i| &lent[i][1..lent[i].len() - 1]);
     let status = unit::verify(edition, set as u32, k, m, s);
     assert!(lent == inputs, "an input was written");
-    assert_eq!(status, verify(set, edition, vk, message, signature), "set {set}, {edition:?}: the unit and the independent status");
+    assert_eq!(status, expect::verify(edition, set as u32, vk, message, signature), "set {set}, {edition:?}: the unit and the expected status");
     status
 }
 
@@ -287,12 +288,9 @@ fn random_bytes() {
 }
 
 /// The public key with one coefficient put to a value.
-fn with_coefficient(p: &Params, vk: &[u8], index: usize, value: u8) -> Vec<u8> {
+fn with_coefficient(p: &Params, vk: &[u8], index: usize, value: u64) -> Vec<u8> {
     let mut out = vk.to_vec();
-    for b in 0..7 {
-        let at = 8 * p.seed_bytes() + 7 * index + b;
-        out[at / 8] = out[at / 8] & !(1 << (at % 8)) | (value >> b & 1) << (at % 8);
-    }
+    put_bits(&mut out, 8 * p.seed_bytes() + 7 * index, 7, value);
     out
 }
 
