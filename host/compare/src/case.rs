@@ -133,7 +133,13 @@ impl Kind {
             (Field::Seeds, Keygen | KatKeygen) => p.keygen_bytes(),
             (Field::Seeds, _) => attempts * p.noise_bytes(),
             (Field::Noise, _) => attempts * p.noise_words(),
-            (Field::MaskSeeds, _) => if self.signs() { 32 * attempts } else { 32 },
+            (Field::MaskSeeds, _) => {
+                if self.signs() {
+                    32 * attempts
+                } else {
+                    32
+                }
+            }
             (Field::ResultBytes, Keygen | KatKeygen) => p.sk_bytes(),
             (Field::ResultBytes, ExpandKey | KatExpandKey | RefreshKey) => p.vk_bytes(),
             (Field::ResultBytes, _) => p.sig_bytes,

@@ -7,8 +7,8 @@
 
 use crate::layout::{bits, full_share, share_words};
 use crate::unit::{Key, Signed, Signing};
-use independent::raccoon::{self as independent_raccoon, challenge, expand, refresh, Edition, Noise, Params};
-use independent::ring::{sample_q, N, Q};
+use independent::raccoon::{self as independent_raccoon, Edition, Noise, Params, challenge, expand, refresh};
+use independent::ring::{N, Q, sample_q};
 
 /// What comes of a call, or the number of the first check whose answer is no.
 type Asked<T = ()> = Result<T, u32>;

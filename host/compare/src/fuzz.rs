@@ -1,10 +1,10 @@
 //! Random cases, most of them damaged, compared with what is expected. Seed and number give a case: any one can be put again.
 
-use crate::case::{Calls, Case, Field, Inputs, Kind, KINDS};
+use crate::case::{Calls, Case, Field, Inputs, KINDS, Kind};
 use crate::layout::{full_share, laid_out, put_bits, small_totals, words_below_q};
 use crate::pool::{Base, Pool, SETS};
 use crate::random::Random;
-use independent::raccoon::{form_bits, read, write, Fields, Params};
+use independent::raccoon::{Fields, Params, form_bits, read, write};
 use independent::ring::{N, Q};
 use std::collections::BTreeMap;
 
@@ -60,7 +60,15 @@ impl Fuzz {
 /// The number of one of the weights, each as likely as it is large.
 fn weighted(random: &mut Random, weights: &[usize]) -> usize {
     let mut left = random.below(weights.iter().sum());
-    weights.iter().position(|&weight| left < weight || { left -= weight; false }).expect("less than the sum")
+    weights
+        .iter()
+        .position(|&weight| {
+            left < weight || {
+                left -= weight;
+                false
+            }
+        })
+        .expect("less than the sum")
 }
 
 fn one_of<T: Copy>(random: &mut Random, from: &[T]) -> T {

@@ -4,8 +4,8 @@
 use crate::layout::{full_share, put_bits, sums};
 use crate::random::Random;
 use independent::keccak::shake256;
-use independent::raccoon::{expand, keygen, sign, Edition, Noise, Params};
-use independent::ring::{sample_q, N, Q};
+use independent::raccoon::{Edition, Noise, Params, expand, keygen, sign};
+use independent::ring::{N, Q, sample_q};
 use std::sync::OnceLock;
 
 pub const SETS: [usize; 3] = [128, 192, 256];

@@ -1,8 +1,8 @@
 //! The submission's response files, made through the unit.
 
-use independent::drbg::{tests, Drbg};
-use independent::raccoon::{Noise, Params};
 use crate::unit::{self, Key, Signing};
+use independent::drbg::{Drbg, tests};
+use independent::raccoon::{Noise, Params};
 use std::fmt::Write;
 use std::thread;
 
@@ -41,7 +41,15 @@ pub fn made(p: &Params, input: &Inputs, mask_seed: &[u8; 32]) -> Result<Test, St
         return Err(format!("keygen {status}"));
     }
     let key = Key::Packed(&sk);
-    let call = Signing { set, shares: d, attempts: 1, key, message: &input.message, noise: Noise::Seeds(&input.noise_seeds), mask_seeds: mask_seed };
+    let call = Signing {
+        set,
+        shares: d,
+        attempts: 1,
+        key,
+        message: &input.message,
+        noise: Noise::Seeds(&input.noise_seeds),
+        mask_seeds: mask_seed,
+    };
     let signed = unit::sign(p.edition, &call, &mut sm, &mut work);
     if (signed.status, signed.attempts) != (0, 1) {
         return Err(format!("sign {} {}", signed.status, signed.attempts));

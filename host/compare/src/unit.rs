@@ -1,9 +1,9 @@
 //! The proved code: the unit's calls with the types of the independent implementation, and the exports of its parts.
 
 use independent::raccoon::{Edition, Noise};
-use independent::ring::{Poly, N};
+use independent::ring::{N, Poly};
 use raccoon::call;
-pub use raccoon::call::{refresh_key, sample_challenge, sample_uniform, Key, Signed};
+pub use raccoon::call::{Key, Signed, refresh_key, sample_challenge, sample_uniform};
 
 mod raw {
     extern "C" {

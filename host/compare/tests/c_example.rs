@@ -32,7 +32,8 @@ fn printed(source: &str) -> String {
 
 /// The lines that are numbers only, `columns` of them.
 fn numbers(text: &str, columns: usize) -> Vec<Vec<usize>> {
-    let rows = text.lines().filter_map(|line| line.trim_start_matches(" *").split_whitespace().map(|word| word.parse().ok()).collect());
+    let rows =
+        text.lines().filter_map(|line| line.trim_start_matches(" *").split_whitespace().map(|word| word.parse().ok()).collect());
     rows.filter(|row: &Vec<usize>| row.len() == columns).collect()
 }
 
@@ -116,7 +117,9 @@ fn complete() {
 /// The header alone, for C and for C++.
 #[test]
 fn header_without_warnings() {
-    for (compiler, language, standard) in [("gcc", "c", "-std=c99"), ("gcc", "c", "-std=c17"), ("g++", "c++", "-std=c++11"), ("g++", "c++", "-std=c++17")] {
+    for (compiler, language, standard) in
+        [("gcc", "c", "-std=c99"), ("gcc", "c", "-std=c17"), ("g++", "c++", "-std=c++11"), ("g++", "c++", "-std=c++17")]
+    {
         let checked = Command::new(compiler)
             .args(["-x", language, standard, "-Wall", "-Wextra", "-Wpedantic", "-Werror", "-fsyntax-only"])
             .arg(root().join("include/raccoon.h"))

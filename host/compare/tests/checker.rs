@@ -1,6 +1,6 @@
 //! The checking program `target/bin/checker`, which `rt check` writes: what it prints on its standard input.
 
-use compare::independent::raccoon::{expand, keygen, sign, verify, Edition, Noise, Params};
+use compare::independent::raccoon::{Edition, Noise, Params, expand, keygen, sign, verify};
 use compare::known::xof;
 use std::io::Write;
 use std::path::Path;

@@ -1,7 +1,7 @@
 //! Random and damaged calls with a fixed seed, every answer compared with the expected one; lengths around every limit at all 18
 //! pairs of set and share count; and that the comparison notices what it has to notice. The program `fuzz` runs for longer.
 
-use compare::case::{compare, only_read, Answer, Calls, Case, Field, Inputs, Kind, EXPECTED, GUARD, KINDS, UNIT};
+use compare::case::{Answer, Calls, Case, EXPECTED, Field, GUARD, Inputs, KINDS, Kind, UNIT, compare, only_read};
 use compare::fuzz::{Fuzz, Tally};
 use compare::independent::raccoon::{Edition, Params};
 use compare::pool::{SETS, SHARES};
@@ -240,8 +240,9 @@ fn wrong_on_signatures() -> Vec<Wrong> {
         work.fill(0);
         signed
     };
-    let first_attempt = |edition, input: &Signing, signature: &mut [u8], work: &mut [u64]| {
-        Signed { attempts: 1, ..unit::sign(edition, input, signature, work) }
+    let first_attempt = |edition, input: &Signing, signature: &mut [u8], work: &mut [u64]| Signed {
+        attempts: 1,
+        ..unit::sign(edition, input, signature, work)
     };
     let sixteen = |edition, input: &Signing, signature: &mut [u8], work: &mut [u64]| {
         let signed = unit::sign(edition, input, signature, work);
@@ -272,9 +273,8 @@ fn wrong_samplers() -> Vec<Wrong> {
         status => status,
     };
     let draws_less = |bytes: &[u8], words: &mut [u64]| unit::sample_uniform(&bytes[..bytes.len().min(776 * 7)], words);
-    let places_less = |set, bytes: &[u8], signs: &mut [i8]| {
-        unit::sample_challenge(set, &bytes[..bytes.len().min(1087 * 2)], signs)
-    };
+    let places_less =
+        |set, bytes: &[u8], signs: &mut [i8]| unit::sample_challenge(set, &bytes[..bytes.len().min(1087 * 2)], signs);
     let set_last = |set, bytes: &[u8], signs: &mut [i8]| {
         if signs.len() == 512 { unit::sample_challenge(set, bytes, signs) } else { 8 }
     };

@@ -1,6 +1,6 @@
 //! The independent implementation against the known answers of paper 01's calls.
 
-use compare::independent::raccoon::{expand, keygen, refresh, sign, verify, Edition, Noise, Params};
+use compare::independent::raccoon::{Edition, Noise, Params, expand, keygen, refresh, sign, verify};
 use compare::known::{digest, known, word_bytes, xof};
 
 fn expanded_digest(vk: &[u8], words: &[u64]) -> String {

@@ -2,7 +2,7 @@
 //! around the result and the work buffer.
 
 use compare::case::{Calls, EXPECTED, UNIT};
-use compare::independent::drbg::{tests, Drbg};
+use compare::independent::drbg::{Drbg, tests};
 use compare::independent::raccoon::{Edition, Params};
 use compare::known::{digest, known, response_tests, xof};
 use compare::pool::{SETS, SHARES};

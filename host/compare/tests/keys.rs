@@ -2,7 +2,7 @@
 //! against the independent implementation, with guards around every result.
 
 use compare::case::{EXPECTED, UNIT};
-use compare::independent::raccoon::{expand, keygen, refresh, Edition, Params};
+use compare::independent::raccoon::{Edition, Params, expand, keygen, refresh};
 use compare::independent::ring::Q;
 use compare::known::{digest, known, word_bytes, xof};
 use compare::random::Random;
@@ -12,7 +12,8 @@ use compare::unit;
 fn results(bytes: usize, words: usize, call: impl FnOnce(&mut [u8], &mut [u64]) -> u32) -> (u32, Option<(Vec<u8>, Vec<u64>)>) {
     let (mut b, mut w) = (vec![0xa7u8; bytes + 32], vec![0x1234_5678u64; words + 8]);
     let status = call(&mut b[16..bytes + 16], &mut w[4..words + 4]);
-    let guards = b[..16].iter().chain(&b[bytes + 16..]).all(|&x| x == 0xa7) && w[..4].iter().chain(&w[words + 4..]).all(|&x| x == 0x1234_5678);
+    let guards = b[..16].iter().chain(&b[bytes + 16..]).all(|&x| x == 0xa7)
+        && w[..4].iter().chain(&w[words + 4..]).all(|&x| x == 0x1234_5678);
     assert!(guards, "a guard was written");
     if status == 0 {
         return (0, Some((b[16..bytes + 16].to_vec(), w[4..words + 4].to_vec())));
@@ -96,7 +97,8 @@ fn all_sets_and_share_counts_in_both_editions() {
                 let (bytes, words) = c.open(&c.key, c.p.vk_bytes(), c.words()).1.unwrap();
                 assert_eq!((&bytes[..], &words), (&c.key[..c.p.vk_bytes()], &expand(&c.p, &c.key).unwrap()), "{set}-{d}");
                 let mask = xof("refresh", 32);
-                let fresh = results(c.p.vk_bytes(), c.words(), |b, w| unit::refresh_key(c.set, c.d, (&bytes, &words), &mask, b, w));
+                let fresh =
+                    results(c.p.vk_bytes(), c.words(), |b, w| unit::refresh_key(c.set, c.d, (&bytes, &words), &mask, b, w));
                 assert_eq!(fresh, (0, Some((bytes.clone(), refresh(&c.p, &words, &mask)))), "{set}-{d}");
             }
         }
@@ -123,9 +125,11 @@ fn damaged_keys_and_wrong_lengths() {
             }
             _ => {}
         }
-        let (set, d) = if random.below(4) == 0 { ([0, 127, 192, 256][random.below(4)], random.below(70) as u32) } else { (c.set, c.d) };
+        let (set, d) =
+            if random.below(4) == 0 { ([0, 127, 192, 256][random.below(4)], random.below(70) as u32) } else { (c.set, c.d) };
         let (bytes, words) = (c.p.vk_bytes() + random.below(12) / 11, c.words() - random.below(12) / 11);
-        let answers = [UNIT, EXPECTED].map(|calls| results(bytes, words, |b, w| (calls.expand_key)(c.p.edition, set, d, &key, b, w)));
+        let answers =
+            [UNIT, EXPECTED].map(|calls| results(bytes, words, |b, w| (calls.expand_key)(c.p.edition, set, d, &key, b, w)));
         assert_eq!(answers[0], answers[1]);
     }
 }

@@ -1,7 +1,7 @@
 //! The first tests of the submission's 18 response files, and of the same with the printed text, by the independent implementation and by the
 //! unit: SHA-256 of pk, sk and sm. And three whole files by the unit.
 
-use compare::independent::raccoon::{expand, keygen, sign, verify, Edition, Noise, Params};
+use compare::independent::raccoon::{Edition, Noise, Params, expand, keygen, sign, verify};
 use compare::known::{digest, hex, response_tests};
 use compare::response::{self, Inputs, Test};
 

@@ -1,7 +1,7 @@
 //! The ring of the proved code against the independent implementation, and that one against its own definitions.
 
 use compare::independent::keccak;
-use compare::independent::ring::{sample_q, schoolbook, values, Poly, Tables, N, PRIMES, Q};
+use compare::independent::ring::{N, PRIMES, Poly, Q, Tables, sample_q, schoolbook, values};
 use compare::random::Random;
 use compare::unit;
 
@@ -48,8 +48,11 @@ fn products_are_schoolbook_products() {
         let (f, g) = (random_poly(&mut random), random_poly(&mut random));
         let mut product = f;
         assert!(unit::product(&mut product, &g));
-        let expected =
-            if round < 6 { schoolbook(&f, &g) } else { tables.inverse(&Tables::pointwise(&tables.transform(&f), &tables.transform(&g))) };
+        let expected = if round < 6 {
+            schoolbook(&f, &g)
+        } else {
+            tables.inverse(&Tables::pointwise(&tables.transform(&f), &tables.transform(&g)))
+        };
         assert_eq!(product, expected);
     }
     let extremes = [0, 1, Q - 1, Q / 2, Q / 2 + 1, PRIMES[0], PRIMES[1], Q - PRIMES[0]];

@@ -73,8 +73,11 @@ fn program_hashes_standard_input() {
     let mut random = Random(4);
     for n in [0, 1, 135, 136, 4079, 4080, 4081, 8160, 100_000] {
         let message = random.bytes(n);
-        let mut child =
-            Command::new(program).stdin(Stdio::piped()).stdout(Stdio::piped()).spawn().expect("target/bin/shakesum is built by rt check");
+        let mut child = Command::new(program)
+            .stdin(Stdio::piped())
+            .stdout(Stdio::piped())
+            .spawn()
+            .expect("target/bin/shakesum is built by rt check");
         let mut input = child.stdin.take().unwrap();
         for piece in message.chunks(1 + n / 3) {
             input.write_all(piece).unwrap();

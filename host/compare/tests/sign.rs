@@ -2,7 +2,7 @@
 //! share counts, attempts that fail, and each refusal. Status, attempts and signature are compared with the independent implementation, with
 //! guards around the result and the work buffer; what was signed is verified.
 
-use compare::independent::raccoon::{expand, form_bits, keygen, read, refresh, sample_u, Edition, Noise, Params};
+use compare::independent::raccoon::{Edition, Noise, Params, expand, form_bits, keygen, read, refresh, sample_u};
 use compare::independent::ring::{N, Q};
 use compare::known::{digest, known, word_bytes, xof};
 use compare::layout::{full_share, laid_out, put_bits, small_totals, sums, words_below_q};
@@ -18,7 +18,7 @@ enum Key {
 }
 
 #[derive(Clone, PartialEq)]
-enum Tape {
+enum OwnedNoise {
     Seeds(Vec<u8>),
     Words(Vec<u64>),
 }
@@ -32,7 +32,7 @@ struct Call {
     attempts: u32,
     key: Key,
     message: Vec<u8>,
-    noise: Tape,
+    noise: OwnedNoise,
     masks: Vec<u8>,
     signature: usize,
     work: usize,
@@ -42,10 +42,10 @@ struct Call {
 type Answer = (u32, u32, Option<Vec<u8>>);
 
 impl Call {
-    fn new(p: &Params, key: Key, message: Vec<u8>, noise: Tape) -> Call {
+    fn new(p: &Params, key: Key, message: Vec<u8>, noise: OwnedNoise) -> Call {
         let attempts = match &noise {
-            Tape::Seeds(seeds) => seeds.len() / p.noise_bytes(),
-            Tape::Words(words) => words.len() / p.noise_words(),
+            OwnedNoise::Seeds(seeds) => seeds.len() / p.noise_bytes(),
+            OwnedNoise::Words(words) => words.len() / p.noise_words(),
         };
         let masks = xof("masks", 32 * attempts);
         let (set, d, attempts) = (p.kappa as u32, p.d as u32, attempts as u32);
@@ -59,8 +59,8 @@ impl Call {
             Key::Expanded(bytes, words) => unit::Key::Expanded(bytes, words),
         };
         let noise = match &self.noise {
-            Tape::Seeds(seeds) => Noise::Seeds(seeds),
-            Tape::Words(words) => Noise::Words(words),
+            OwnedNoise::Seeds(seeds) => Noise::Seeds(seeds),
+            OwnedNoise::Words(words) => Noise::Words(words),
         };
         let (set, shares, attempts) = (self.set, self.d, self.attempts);
         unit::Signing { set, shares, attempts, key, message: &self.message, noise, mask_seeds: &self.masks }
@@ -79,7 +79,10 @@ impl Call {
         let (signature_out, work_out) = (&mut signature[result.clone()], &mut work[lent.clone()]);
         let unit::Signed { status, attempts } = unit::sign(self.edition, &inputs.signing(), signature_out, work_out);
         assert!(inputs == *self, "an input was written");
-        assert!(signature[..16].iter().chain(&signature[result.end..]).all(|&x| x == GUARD as u8), "a guard of the result was written");
+        assert!(
+            signature[..16].iter().chain(&signature[result.end..]).all(|&x| x == GUARD as u8),
+            "a guard of the result was written"
+        );
         assert!(work[..4].iter().chain(&work[lent.end..]).all(|&x| x == GUARD), "a guard of the work buffer was written");
         let left = if (1..=8).contains(&status) { fill } else { 0 };
         assert!(work[lent].iter().all(|&x| x == left), "the work buffer after {status}");
@@ -108,7 +111,14 @@ impl Call {
     /// The answer, which must be the expected one.
     fn checked(&self) -> Answer {
         let answer = self.run();
-        assert!(answer == self.expected(), "{}-{}: {:?} where {:?} was expected", self.set, self.d, short(&answer), short(&self.expected()));
+        assert!(
+            answer == self.expected(),
+            "{}-{}: {:?} where {:?} was expected",
+            self.set,
+            self.d,
+            short(&answer),
+            short(&self.expected())
+        );
         answer
     }
 
@@ -144,7 +154,10 @@ fn expanded(p: &Params, key: &[u8]) -> Key {
 fn known_call(d: usize) -> Call {
     let p = params(128, d);
     let noise = xof(&format!("noise 128-{d}"), 2 * p.noise_bytes());
-    Call { masks: [xof("mask", 32), xof("mask", 32)].concat(), ..Call::new(&p, Key::Packed(signing_key(&p)), xof("message", 100), Tape::Seeds(noise)) }
+    Call {
+        masks: [xof("mask", 32), xof("mask", 32)].concat(),
+        ..Call::new(&p, Key::Packed(signing_key(&p)), xof("message", 100), OwnedNoise::Seeds(noise))
+    }
 }
 
 /// The noise totals of one attempt of the known answers: of 42 bits, signed.
@@ -179,8 +192,11 @@ fn known_explicit_noise() {
         let key = Key::Expanded(key[..2256].to_vec(), laid_out(&secret, d, &words("split", 4)));
         let (large, small) = (laid_out(&large, d, &words("large", 9)), laid_out(&totals, d, &words("small", 9)));
         for (name, second) in [("large, small", &small), ("large, large", &large)] {
-            let noise = Tape::Words([&large[..], second].concat());
-            let call = Call { masks: [xof("mask", 32), xof("mask", 32)].concat(), ..Call::new(&p, key.clone(), xof("message", 100), noise) };
+            let noise = OwnedNoise::Words([&large[..], second].concat());
+            let call = Call {
+                masks: [xof("mask", 32), xof("mask", 32)].concat(),
+                ..Call::new(&p, key.clone(), xof("message", 100), noise)
+            };
             assert_eq!(short(&call.run()), known(&format!("128-{d} bench {name}")));
         }
     }
@@ -214,17 +230,18 @@ fn set_share_word(call: &mut Call, p: &Params, last: bool, value: u64) {
 fn known_limits() {
     let p = params(128, 2);
     let two = known_call(2);
-    let Tape::Seeds(seeds) = &two.noise else { panic!() };
-    let base = Call { attempts: 1, noise: Tape::Seeds(seeds[..p.noise_bytes()].to_vec()), masks: xof("mask", 32), ..two.clone() };
+    let OwnedNoise::Seeds(seeds) = &two.noise else { panic!() };
+    let base =
+        Call { attempts: 1, noise: OwnedNoise::Seeds(seeds[..p.noise_bytes()].to_vec()), masks: xof("mask", 32), ..two.clone() };
     let Key::Packed(key) = base.key.clone() else { panic!() };
-    let opened = Call { key: expanded(&p, &key), ..base.clone() };
-    let Key::Expanded(bytes, words) = &opened.key else { panic!() };
+    let with_expanded = Call { key: expanded(&p, &key), ..base.clone() };
+    let Key::Expanded(bytes, words) = &with_expanded.key else { panic!() };
     let many = |n: u32| {
         let noise = xof("noise 128-2", n as usize * p.noise_bytes());
-        Call { attempts: n, noise: Tape::Seeds(noise), masks: vec![5; 32 * n as usize], ..base.clone() }
+        Call { attempts: n, noise: OwnedNoise::Seeds(noise), masks: vec![5; 32 * n as usize], ..base.clone() }
     };
     let small = laid_out(&known_totals(), 2, &stream_words("small 128-2", 9 * N));
-    let explicit = |words: &[u64]| Call { noise: Tape::Words(words.to_vec()), ..opened.clone() };
+    let explicit = |words: &[u64]| Call { noise: OwnedNoise::Words(words.to_vec()), ..with_expanded.clone() };
     let coefficient = |index: usize, value: u64| {
         let mut call = base.clone();
         set_coefficient(&mut call, &p, index, value);
@@ -249,14 +266,14 @@ fn known_limits() {
         ("share word 0 is q-1", word(&base, false, Q - 1)),
         ("share word 0 is q", word(&base, false, Q)),
         ("last share word is q", word(&base, true, Q)),
-        ("opened, word 0 is q-1", word(&opened, false, Q - 1)),
-        ("opened, word 0 is q", word(&opened, false, Q)),
-        ("opened, last word is q", word(&opened, true, Q)),
+        ("opened, word 0 is q-1", word(&with_expanded, false, Q - 1)),
+        ("opened, word 0 is q", word(&with_expanded, false, Q)),
+        ("opened, last word is q", word(&with_expanded, true, Q)),
         ("opened key as signing key", Call { key: Key::Packed([&bytes[..], &word_bytes(words)].concat()), ..base.clone() }),
         ("tries 0", many(0)),
         ("tries 17", many(17)),
         ("tries 16", many(16)),
-        ("noise one short", Call { noise: Tape::Seeds(seeds[..p.noise_bytes() - 1].to_vec()), ..base.clone() }),
+        ("noise one short", Call { noise: OwnedNoise::Seeds(seeds[..p.noise_bytes() - 1].to_vec()), ..base.clone() }),
         ("mask one short", Call { masks: vec![0; 31], ..base.clone() }),
         ("result one long", Call { signature: p.sig_bytes + 1, ..base.clone() }),
         ("work one short", Call { work: p.work_words() - 1, ..base.clone() }),
@@ -267,7 +284,15 @@ fn known_limits() {
         ("bench", explicit(&small)),
         ("bench, last word q", explicit(&[&small[..small.len() - 1], &[Q]].concat())),
         ("bench, one word short", explicit(&small[1..])),
-        ("seeds in bench form", explicit(&seeds[..p.noise_bytes()].chunks_exact(8).map(|x| u64::from_le_bytes(x.try_into().unwrap())).collect::<Vec<u64>>())),
+        (
+            "seeds in bench form",
+            explicit(
+                &seeds[..p.noise_bytes()]
+                    .chunks_exact(8)
+                    .map(|x| u64::from_le_bytes(x.try_into().unwrap()))
+                    .collect::<Vec<u64>>(),
+            ),
+        ),
     ];
     for (name, call) in calls {
         assert_eq!(short(&call.checked()), known(&format!("128-2 sign {name}")), "{name}");
@@ -296,14 +321,16 @@ fn all_sets_and_share_counts_in_every_form() {
             let length = random.below(300);
             let (message, seeds) = (random.bytes(length), random.bytes(p.noise_bytes()));
             let words = words_below_q((p.l + p.k) * (d - 1) * N, &mut random);
-            let explicit = Tape::Words(laid_out(&seed_totals(&p, &seeds), d, &words));
-            let seeds = Tape::Seeds(seeds);
+            let explicit = OwnedNoise::Words(laid_out(&seed_totals(&p, &seeds), d, &words));
+            let seeds = OwnedNoise::Seeds(seeds);
             let packed = Call::new(&p, Key::Packed(key.clone()), message.clone(), seeds.clone());
             let answer = packed.checked();
             assert_eq!((answer.0, answer.1), (0, 1), "{set}-{d}");
             // the same totals in every form, with other masks, whatever the buffers held
-            let opened = expanded(&p, &key);
-            for (key, noise, fill) in [(&opened, &seeds, u64::MAX), (&packed.key, &explicit, 0), (&opened, &explicit, Q)] {
+            let with_expanded = expanded(&p, &key);
+            for (key, noise, fill) in
+                [(&with_expanded, &seeds, u64::MAX), (&packed.key, &explicit, 0), (&with_expanded, &explicit, Q)]
+            {
                 let call = Call { key: key.clone(), noise: noise.clone(), masks: random.bytes(32), ..packed.clone() };
                 assert!(call.run_on(fill) == answer, "{set}-{d}: another form");
             }
@@ -319,7 +346,7 @@ fn laid_out_call(p: &Params, vk: &[u8], secret: &[u64], totals: &[&Vec<u64>], me
     let mut lay = |x: &[u64]| laid_out(x, p.d, &words_below_q(x.len() * (p.d - 1), random));
     let key = Key::Expanded(vk.to_vec(), lay(secret));
     let noise = totals.iter().flat_map(|x| lay(x)).collect();
-    let mut call = Call::new(p, key, message.to_vec(), Tape::Words(noise));
+    let mut call = Call::new(p, key, message.to_vec(), OwnedNoise::Words(noise));
     call.masks = random.bytes(32 * totals.len());
     call
 }
@@ -332,20 +359,23 @@ fn equal_totals_at_different_share_counts() {
         let key = signing_key(&seeded);
         let (vk, secret) = (&key[..seeded.vk_bytes()], sums(&expand(&seeded, &key).unwrap(), 4));
         let seeds = random.bytes(2 * seeded.noise_bytes());
-        let tapes: Vec<Vec<u64>> = seeds.chunks_exact(seeded.noise_bytes()).map(|x| seed_totals(&seeded, x)).collect();
+        let totals: Vec<Vec<u64>> = seeds.chunks_exact(seeded.noise_bytes()).map(|x| seed_totals(&seeded, x)).collect();
         let message = random.bytes(64);
         // from seeds with the signing key, at four shares
-        let first = Call::new(&seeded, Key::Packed(key.clone()), message.clone(), Tape::Seeds(seeds)).run();
+        let first = Call::new(&seeded, Key::Packed(key.clone()), message.clone(), OwnedNoise::Seeds(seeds)).run();
         assert_eq!(first.0, 0);
-        let large: Vec<u64> = tapes[0].iter().map(|x| (x + (1 << 47)) % Q).collect();
-        let later = laid_out_call(&params(set, 1), vk, &secret, &[&large, &tapes[0]], &message, &mut random).run();
+        let large: Vec<u64> = totals[0].iter().map(|x| (x + (1 << 47)) % Q).collect();
+        let later = laid_out_call(&params(set, 1), vk, &secret, &[&large, &totals[0]], &message, &mut random).run();
         assert!((later.0, later.1) == (0, 2) && later.2 == first.2);
         for d in SHARES {
             let p = params(set, d);
-            assert!(laid_out_call(&p, vk, &secret, &[&tapes[0], &tapes[1]], &message, &mut random).run() == first, "{set}-{d}");
-            assert!(laid_out_call(&p, vk, &secret, &[&large, &tapes[0]], &message, &mut random).run() == later, "{set}-{d}, second attempt");
+            assert!(laid_out_call(&p, vk, &secret, &[&totals[0], &totals[1]], &message, &mut random).run() == first, "{set}-{d}");
+            assert!(
+                laid_out_call(&p, vk, &secret, &[&large, &totals[0]], &message, &mut random).run() == later,
+                "{set}-{d}, second attempt"
+            );
             // a total moved by one gives another signature
-            let mut moved = tapes[0].clone();
+            let mut moved = totals[0].clone();
             moved[3] = (moved[3] + 1) % Q;
             let other = laid_out_call(&p, vk, &secret, &[&moved], &message, &mut random).run();
             assert!(other.0 == 0 && other.2 != first.2, "{set}-{d}, a total moved");
@@ -410,7 +440,7 @@ fn attempts_that_fail() {
     // from seeds, with a key that is not the public key's
     let p = params(128, 2);
     for key in [Key::Packed(signing_key(&p)), expanded(&p, &signing_key(&p))] {
-        let mut call = Call::new(&p, key, vec![], Tape::Seeds(random.bytes(5 * p.noise_bytes())));
+        let mut call = Call::new(&p, key, vec![], OwnedNoise::Seeds(random.bytes(5 * p.noise_bytes())));
         set_share_word(&mut call, &p, true, Q - 1);
         assert_eq!(call.numbers(), (12, 5));
     }
@@ -429,7 +459,7 @@ fn length_to_the_bit() {
             totals.iter_mut().take(ones).for_each(|x| *x = if *x < Q / 2 { *x + (1 << 40) } else { *x - (1 << 40) });
             totals
         };
-        let call = |d: usize, tapes: &[&Vec<u64>]| laid_out_call(&params(set, d), vk, &secret, tapes, b"near", &mut Random(64));
+        let call = |d: usize, totals: &[&Vec<u64>]| laid_out_call(&params(set, d), vk, &secret, totals, b"near", &mut Random(64));
         let (full, over) = (totals(full), totals(over));
         let answer = call(1, &[&full]).checked();
         let fields = read(&p, &answer.2.expect("a signature")).unwrap();
@@ -498,26 +528,42 @@ fn faults(p: &Params) -> Vec<Fault<'static>> {
     }
     add(7, "another attempt", Box::new(|c| c.attempts = 3));
     add(7, "an attempt less", Box::new(|c| c.attempts = 1));
-    add(7, "noise long", Box::new(|c| match &mut c.noise {
-        Tape::Seeds(x) => x.push(0),
-        Tape::Words(x) => x.push(0),
-    }));
-    add(7, "noise short", Box::new(|c| match &mut c.noise {
-        Tape::Seeds(x) => x.truncate(x.len() - 1),
-        Tape::Words(x) => x.truncate(x.len() - 1),
-    }));
-    add(7, "no noise", Box::new(|c| match &mut c.noise {
-        Tape::Seeds(x) => x.clear(),
-        Tape::Words(x) => x.clear(),
-    }));
+    add(
+        7,
+        "noise long",
+        Box::new(|c| match &mut c.noise {
+            OwnedNoise::Seeds(x) => x.push(0),
+            OwnedNoise::Words(x) => x.push(0),
+        }),
+    );
+    add(
+        7,
+        "noise short",
+        Box::new(|c| match &mut c.noise {
+            OwnedNoise::Seeds(x) => x.truncate(x.len() - 1),
+            OwnedNoise::Words(x) => x.truncate(x.len() - 1),
+        }),
+    );
+    add(
+        7,
+        "no noise",
+        Box::new(|c| match &mut c.noise {
+            OwnedNoise::Seeds(x) => x.clear(),
+            OwnedNoise::Words(x) => x.clear(),
+        }),
+    );
     for (at, value) in [(0, Q), (5000, Q), (usize::MAX, Q), (usize::MAX, u64::MAX)] {
-        add(7, "noise word", Box::new(move |c| match &mut c.noise {
-            Tape::Seeds(x) => x.truncate(x.len() - 16),
-            Tape::Words(x) => {
-                let at = at.min(x.len() - 1);
-                x[at] = value;
-            }
-        }));
+        add(
+            7,
+            "noise word",
+            Box::new(move |c| match &mut c.noise {
+                OwnedNoise::Seeds(x) => x.truncate(x.len() - 16),
+                OwnedNoise::Words(x) => {
+                    let at = at.min(x.len() - 1);
+                    x[at] = value;
+                }
+            }),
+        );
     }
     for n in [0, 31, 32, 63, 65, 96] {
         add(7, "masks", Box::new(move |c| c.masks.resize(n, 1)));
@@ -540,10 +586,10 @@ fn four_forms() -> [Call; 4] {
     let key = signing_key(&p);
     let seeds = xof("noise", 2 * p.noise_bytes());
     let totals: Vec<u64> = seeds.chunks_exact(p.noise_bytes()).flat_map(|x| seed_totals(&p, x)).collect();
-    let words = Tape::Words(laid_out(&totals, 2, &stream_words("words", 2 * 9 * N)));
-    let call = Call::new(&p, Key::Packed(key.clone()), xof("message", 30), Tape::Seeds(seeds));
-    let opened = Call { key: expanded(&p, &key), ..call.clone() };
-    [call.clone(), opened.clone(), Call { noise: words.clone(), ..call }, Call { noise: words, ..opened }]
+    let words = OwnedNoise::Words(laid_out(&totals, 2, &stream_words("words", 2 * 9 * N)));
+    let call = Call::new(&p, Key::Packed(key.clone()), xof("message", 30), OwnedNoise::Seeds(seeds));
+    let with_expanded = Call { key: expanded(&p, &key), ..call.clone() };
+    [call.clone(), with_expanded.clone(), Call { noise: words.clone(), ..call }, Call { noise: words, ..with_expanded }]
 }
 
 #[test]
@@ -582,7 +628,10 @@ fn the_first_no_decides() {
                     let mut bad = call.clone();
                     // the second first, as a fault may take the place of another
                     for number in [second, first] {
-                        let these: Vec<_> = faults.iter().filter(|(n, name, _)| *n == number && !(number == 3 && name.starts_with("key of"))).collect();
+                        let these: Vec<_> = faults
+                            .iter()
+                            .filter(|(n, name, _)| *n == number && !(number == 3 && name.starts_with("key of")))
+                            .collect();
                         these[random.below(these.len())].2(&mut bad);
                     }
                     assert_eq!(bad.numbers(), (first, 0), "{first} before {second}");
@@ -598,18 +647,18 @@ fn limits_that_pass() {
         let p = params(set, 2);
         let key = signing_key(&p);
         let seeds = xof("limits", 16 * p.noise_bytes());
-        let one = Call::new(&p, Key::Packed(key.clone()), vec![], Tape::Seeds(seeds[..p.noise_bytes()].to_vec()));
+        let one = Call::new(&p, Key::Packed(key.clone()), vec![], OwnedNoise::Seeds(seeds[..p.noise_bytes()].to_vec()));
         for n in [0, 1, 71, 72, 135, 136, 4095, 4096] {
             let message = xof("long message", n);
             assert_eq!(Call { message: message.clone(), ..one.clone() }.numbers(), (0, 1), "message of {n} bytes");
             assert_eq!(Call { message, key: expanded(&p, &key), ..one.clone() }.numbers(), (0, 1), "message of {n} bytes");
         }
-        assert_eq!(Call::new(&p, Key::Packed(key.clone()), vec![], Tape::Seeds(seeds)).numbers(), (0, 1), "16 attempts");
+        assert_eq!(Call::new(&p, Key::Packed(key.clone()), vec![], OwnedNoise::Seeds(seeds)).numbers(), (0, 1), "16 attempts");
         // a word q - 1 in key and noise, the sums as they were
         let (secret, totals) = (sums(&expand(&p, &key).unwrap(), 2), seed_totals(&p, &xof("limits", p.noise_bytes())));
         let words = |n: usize| vec![Q - 1; n * N];
         let highest = Key::Expanded(key[..p.vk_bytes()].to_vec(), laid_out(&secret, 2, &words(p.l)));
-        let call = Call::new(&p, highest, vec![], Tape::Words(laid_out(&totals, 2, &words(p.l + p.k))));
+        let call = Call::new(&p, highest, vec![], OwnedNoise::Words(laid_out(&totals, 2, &words(p.l + p.k))));
         assert!(call.checked() == one.run(), "words of q - 1");
     }
 }

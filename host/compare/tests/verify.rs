@@ -1,7 +1,7 @@
 //! Verifying of the proved code: known answers, the signatures of all 18 response files in both editions, flipped bits in every field, fields
 //! at the edges of the bounds and of the length, damaged keys and wrong lengths. Every status is compared with the independent one.
 
-use compare::independent::raccoon::{expand, form_bits, keygen, read, sign, write, Edition, Fields, Noise, Params};
+use compare::independent::raccoon::{Edition, Fields, Noise, Params, expand, form_bits, keygen, read, sign, write};
 use compare::independent::ring::Q;
 use compare::known::{digest, known, response_tests, xof};
 use compare::layout::put_bits;
@@ -20,7 +20,11 @@ fn verdict(edition: Edition, set: usize, vk: &[u8], message: &[u8], signature: &
     let [k, m, s] = [0, 1, 2].map(|i| &lent[i][1..lent[i].len() - 1]);
     let status = unit::verify(edition, set as u32, k, m, s);
     assert!(lent == inputs, "an input was written");
-    assert_eq!(status, expect::verify(edition, set as u32, vk, message, signature), "set {set}, {edition:?}: the unit and the expected status");
+    assert_eq!(
+        status,
+        expect::verify(edition, set as u32, vk, message, signature),
+        "set {set}, {edition:?}: the unit and the expected status"
+    );
     status
 }
 
@@ -72,9 +76,13 @@ fn known_verdicts() {
         let p = Params::new(128, d, Edition::Printed).unwrap();
         let key = keygen(&p, &xof(&format!("tape 128-{d}"), p.keygen_bytes()), &xof("mask", 32)).unwrap();
         let noise = xof(&format!("noise 128-{d}"), p.noise_bytes());
-        let signature = sign(&p, &key[..2256], &expand(&p, &key).unwrap(), &message, &[(Noise::Seeds(&noise), &xof("mask", 32))]).2.unwrap();
+        let signature =
+            sign(&p, &key[..2256], &expand(&p, &key).unwrap(), &message, &[(Noise::Seeds(&noise), &xof("mask", 32))]).2.unwrap();
         assert_eq!(format!("0 1 {}", digest(&signature)), known(&format!("128-{d} sign")));
-        assert_eq!(format!("{} -", verdict(Edition::Printed, 128, &key[..2256], &message, &signature)), known(&format!("128-{d} verify")));
+        assert_eq!(
+            format!("{} -", verdict(Edition::Printed, 128, &key[..2256], &message, &signature)),
+            known(&format!("128-{d} verify"))
+        );
         good = (key[..2256].to_vec(), signature);
     }
     // what the checking program reads: a key, a signature, and the rest is the message
@@ -90,7 +98,11 @@ fn known_verdicts() {
     for (name, input) in calls {
         let (vk, rest) = input.split_at(input.len().min(2256));
         let (signature, message) = rest.split_at(rest.len().min(11524));
-        assert_eq!(format!("{} -", verdict(Edition::Printed, 128, vk, message, signature)), known(&format!("check {name}")), "{name}");
+        assert_eq!(
+            format!("{} -", verdict(Edition::Printed, 128, vk, message, signature)),
+            known(&format!("check {name}")),
+            "{name}"
+        );
     }
 }
 
@@ -107,7 +119,10 @@ fn signatures_of_the_response_files_in_both_editions() {
             let input = &response::inputs(&p, 1)[0];
             let key = keygen(&p, &input.key_seeds, &[7; 32]).unwrap();
             let vk = &key[..p.vk_bytes()];
-            let signature = sign(&p, vk, &expand(&p, &key).unwrap(), &input.message, &[(Noise::Seeds(&input.noise_seeds), &[9; 32])]).2.unwrap();
+            let signature =
+                sign(&p, vk, &expand(&p, &key).unwrap(), &input.message, &[(Noise::Seeds(&input.noise_seeds), &[9; 32])])
+                    .2
+                    .unwrap();
             assert_eq!(digest(&[&signature[..], &input.message].concat()), answers["sm"], "sm of {set}-{d}");
             assert_eq!(verdict(edition, set, vk, &input.message, &signature), 0, "{set}-{d}");
             assert_eq!(verdict(other, set, vk, &input.message, &signature), 16, "{set}-{d} in the other edition");
@@ -134,7 +149,9 @@ fn one_flipped_bit() {
     for (set, edition) in SETS.into_iter().zip([Edition::Printed, Edition::Kat, Edition::Printed]) {
         let c = Case::new(set, edition, xof("message", 60));
         assert_eq!(c.verdict(), 0);
-        let met = |places: BTreeSet<usize>| -> BTreeSet<u32> { places.iter().map(|&bit| c.verdict_on(&flipped(&c.signature, bit))).collect() };
+        let met = |places: BTreeSet<usize>| -> BTreeSet<u32> {
+            places.iter().map(|&bit| c.verdict_on(&flipped(&c.signature, bit))).collect()
+        };
         let fields = read(&c.p, &c.signature).unwrap();
         let (hint, response, fill) = ends(&fields);
         assert_eq!(met(places(&mut random, 0..hint, 40)), BTreeSet::from([16]), "hash");
@@ -228,9 +245,17 @@ fn bounds_at_their_edges() {
                 of(&f)
             };
             let largest = p.binf as i64;
-            assert_eq!([1, largest, largest + 1, Q as i64 - 1, Q as i64, 1 << 50].map(response), [16, 16, 15, 15, 15, 15], "responses of {set}");
+            assert_eq!(
+                [1, largest, largest + 1, Q as i64 - 1, Q as i64, 1 << 50].map(response),
+                [16, 16, 15, 15, 15, 15],
+                "responses of {set}"
+            );
         }
-        assert_eq!([p.b22 - 1, p.b22, p.b22 + 1].map(|n| of(&fields_of_norm(p, n, &zero))), [16, 16, 15], "sum of squares of {set}");
+        assert_eq!(
+            [p.b22 - 1, p.b22, p.b22 + 1].map(|n| of(&fields_of_norm(p, n, &zero))),
+            [16, 16, 15],
+            "sum of squares of {set}"
+        );
     }
 }
 
@@ -326,7 +351,11 @@ fn wrong_lengths() {
     for set in SETS {
         let c = Case::new(set, Edition::Printed, xof("message", 80));
         for n in lengths(c.p.sig_bytes) {
-            assert_eq!(c.verdict_on(&resized(&c.signature, n)), if n == c.p.sig_bytes { 0 } else { 13 }, "signature of {n} bytes");
+            assert_eq!(
+                c.verdict_on(&resized(&c.signature, n)),
+                if n == c.p.sig_bytes { 0 } else { 13 },
+                "signature of {n} bytes"
+            );
         }
         for n in lengths(c.p.vk_bytes()) {
             let short = Case { vk: resized(&c.vk, n), ..c.clone() };
@@ -351,7 +380,8 @@ fn message_lengths() {
     for set in SETS {
         for edition in EDITIONS {
             // signed all of them, the last ones by the independent implementation, which asks for no limit
-            for (n, status) in [(0, 0), (1, 0), (71, 0), (72, 0), (135, 0), (136, 0), (4095, 0), (4096, 0), (4097, 9), (5000, 9)] {
+            for (n, status) in [(0, 0), (1, 0), (71, 0), (72, 0), (135, 0), (136, 0), (4095, 0), (4096, 0), (4097, 9), (5000, 9)]
+            {
                 assert_eq!(Case::new(set, edition, xof("long message", n)).verdict(), status, "message of {n} bytes, set {set}");
             }
         }

@@ -2,7 +2,7 @@
 //! or secrecy. Polynomials are arrays of 512 words below q; a sharing is a vector of d polynomials.
 
 use crate::keccak::Shake256;
-use crate::ring::{sample_q, Poly, Tables, N, Q};
+use crate::ring::{N, Poly, Q, Tables, sample_q};
 
 /// Which text of Algorithms 9, 10, 14 and 15 is followed: the printed one, or that of the response files.
 #[derive(Clone, Copy, PartialEq, Eq, Debug)]
@@ -236,7 +236,9 @@ fn pack(words: &[u64], w: usize) -> Vec<u8> {
 
 /// The numbers of w bits in bytes.
 pub fn unpack(bytes: &[u8], w: usize) -> Vec<u64> {
-    (0..bytes.len() * 8 / w).map(|i| (0..w).map(|b| u64::from(bytes[(i * w + b) / 8] >> ((i * w + b) % 8) & 1) << b).sum()).collect()
+    (0..bytes.len() * 8 / w)
+        .map(|i| (0..w).map(|b| u64::from(bytes[(i * w + b) / 8] >> ((i * w + b) % 8) & 1) << b).sum())
+        .collect()
 }
 
 fn share_header(edition: Edition, share: usize, poly: usize) -> [u8; 8] {
@@ -440,7 +442,16 @@ pub enum Attempt {
 }
 
 /// Lines 4 to 20 of Algorithm 2. The shares of s go on to the next attempt as they are left.
-fn attempt(p: &Params, tables: &Tables, a: &[Vec<Poly>], t: &[u64], mu: &[u8], s: &mut [Vec<Poly>], noise: Noise, mask_seed: &[u8]) -> Attempt {
+fn attempt(
+    p: &Params,
+    tables: &Tables,
+    a: &[Vec<Poly>],
+    t: &[u64],
+    mu: &[u8],
+    s: &mut [Vec<Poly>],
+    noise: Noise,
+    mask_seed: &[u8],
+) -> Attempt {
     let mut masks = Masks::new(mask_seed);
     let mut r: Vec<Vec<Poly>> = (0..p.l).map(|_| masks.zero_encoding(p.d)).collect();
     add_rep_noise(p, &mut r, 0, p.uw, noise, &mut masks);

@@ -3,53 +3,74 @@
 //!
 //! A result is written with status 0 only; else it is as it was. What each call asks, and in which order, is in include/raccoon.h.
 
+// one line for the numbers, one for what is read, one for what is written
+#[rustfmt::skip]
 mod raw {
     extern "C" {
         pub fn raccoon_keygen(
-            set: u32, shares: u32, seeds: *const u8, seeds_len: usize, mask_seed: *const u8, mask_len: usize, key_out: *mut u8, key_len: usize,
-            work: *mut u64, work_len: usize,
+            set: u32, shares: u32,
+            seeds: *const u8, seeds_len: usize, mask_seed: *const u8, mask_len: usize,
+            key_out: *mut u8, key_len: usize, work: *mut u64, work_len: usize,
         ) -> u32;
         pub fn raccoon_kat_keygen(
-            set: u32, shares: u32, seeds: *const u8, seeds_len: usize, mask_seed: *const u8, mask_len: usize, key_out: *mut u8, key_len: usize,
-            work: *mut u64, work_len: usize,
+            set: u32, shares: u32,
+            seeds: *const u8, seeds_len: usize, mask_seed: *const u8, mask_len: usize,
+            key_out: *mut u8, key_len: usize, work: *mut u64, work_len: usize,
         ) -> u32;
         pub fn raccoon_expand_key(
-            set: u32, shares: u32, key: *const u8, key_len: usize, bytes_out: *mut u8, bytes_len: usize, words_out: *mut u64, words_len: usize,
+            set: u32, shares: u32,
+            key: *const u8, key_len: usize,
+            bytes_out: *mut u8, bytes_len: usize, words_out: *mut u64, words_len: usize,
         ) -> u32;
         pub fn raccoon_kat_expand_key(
-            set: u32, shares: u32, key: *const u8, key_len: usize, bytes_out: *mut u8, bytes_len: usize, words_out: *mut u64, words_len: usize,
+            set: u32, shares: u32,
+            key: *const u8, key_len: usize,
+            bytes_out: *mut u8, bytes_len: usize, words_out: *mut u64, words_len: usize,
         ) -> u32;
         pub fn raccoon_refresh_key(
-            set: u32, shares: u32, bytes: *const u8, bytes_len: usize, words: *const u64, words_len: usize, mask_seed: *const u8, mask_len: usize,
+            set: u32, shares: u32,
+            bytes: *const u8, bytes_len: usize, words: *const u64, words_len: usize, mask_seed: *const u8, mask_len: usize,
             bytes_out: *mut u8, bytes_out_len: usize, words_out: *mut u64, words_out_len: usize,
         ) -> u32;
         pub fn raccoon_sign(
-            set: u32, shares: u32, attempts: u32, key: *const u8, key_len: usize, message: *const u8, message_len: usize,
-            noise_seeds: *const u8, noise_len: usize, mask_seeds: *const u8, mask_len: usize, signature_out: *mut u8, signature_len: usize, work: *mut u64, work_len: usize,
+            set: u32, shares: u32, attempts: u32,
+            key: *const u8, key_len: usize, message: *const u8, message_len: usize,
+            noise_seeds: *const u8, noise_len: usize, mask_seeds: *const u8, mask_len: usize,
+            signature_out: *mut u8, signature_len: usize, work: *mut u64, work_len: usize,
         ) -> super::Signed;
         pub fn raccoon_sign_expanded(
-            set: u32, shares: u32, attempts: u32, bytes: *const u8, bytes_len: usize, words: *const u64, words_len: usize, message: *const u8, message_len: usize,
-            noise_seeds: *const u8, noise_len: usize, mask_seeds: *const u8, mask_len: usize, signature_out: *mut u8, signature_len: usize, work: *mut u64, work_len: usize,
+            set: u32, shares: u32, attempts: u32,
+            bytes: *const u8, bytes_len: usize, words: *const u64, words_len: usize, message: *const u8, message_len: usize,
+            noise_seeds: *const u8, noise_len: usize, mask_seeds: *const u8, mask_len: usize,
+            signature_out: *mut u8, signature_len: usize, work: *mut u64, work_len: usize,
         ) -> super::Signed;
         pub fn raccoon_sign_explicit(
-            set: u32, shares: u32, attempts: u32, key: *const u8, key_len: usize, message: *const u8, message_len: usize,
-            noise_words: *const u64, noise_len: usize, mask_seeds: *const u8, mask_len: usize, signature_out: *mut u8, signature_len: usize, work: *mut u64, work_len: usize,
+            set: u32, shares: u32, attempts: u32,
+            key: *const u8, key_len: usize, message: *const u8, message_len: usize,
+            noise_words: *const u64, noise_len: usize, mask_seeds: *const u8, mask_len: usize,
+            signature_out: *mut u8, signature_len: usize, work: *mut u64, work_len: usize,
         ) -> super::Signed;
         pub fn raccoon_sign_expanded_explicit(
-            set: u32, shares: u32, attempts: u32, bytes: *const u8, bytes_len: usize, words: *const u64, words_len: usize, message: *const u8, message_len: usize,
-            noise_words: *const u64, noise_len: usize, mask_seeds: *const u8, mask_len: usize, signature_out: *mut u8, signature_len: usize, work: *mut u64, work_len: usize,
+            set: u32, shares: u32, attempts: u32,
+            bytes: *const u8, bytes_len: usize, words: *const u64, words_len: usize, message: *const u8, message_len: usize,
+            noise_words: *const u64, noise_len: usize, mask_seeds: *const u8, mask_len: usize,
+            signature_out: *mut u8, signature_len: usize, work: *mut u64, work_len: usize,
         ) -> super::Signed;
         pub fn raccoon_kat_sign(
-            set: u32, shares: u32, attempts: u32, key: *const u8, key_len: usize, message: *const u8, message_len: usize,
-            noise_seeds: *const u8, noise_len: usize, mask_seeds: *const u8, mask_len: usize, signature_out: *mut u8, signature_len: usize, work: *mut u64, work_len: usize,
+            set: u32, shares: u32, attempts: u32,
+            key: *const u8, key_len: usize, message: *const u8, message_len: usize,
+            noise_seeds: *const u8, noise_len: usize, mask_seeds: *const u8, mask_len: usize,
+            signature_out: *mut u8, signature_len: usize, work: *mut u64, work_len: usize,
         ) -> super::Signed;
         pub fn raccoon_verify(
-            set: u32, public_key: *const u8, key_len: usize, message: *const u8, message_len: usize, signature: *const u8, signature_len: usize,
+            set: u32,
+            public_key: *const u8, key_len: usize, message: *const u8, message_len: usize, signature: *const u8, signature_len: usize,
         ) -> u32;
         pub fn raccoon_kat_verify(
-            set: u32, public_key: *const u8, key_len: usize, message: *const u8, message_len: usize, signature: *const u8, signature_len: usize,
+            set: u32,
+            public_key: *const u8, key_len: usize, message: *const u8, message_len: usize, signature: *const u8, signature_len: usize,
         ) -> u32;
-        pub fn raccoon_sample_challenge(set: u32, bytes: *const u8, bytes_len: usize, signed_bytes_out: *mut i8, signed_bytes_len: usize) -> u32;
+        pub fn raccoon_sample_challenge(set: u32, bytes: *const u8, bytes_len: usize, signs_out: *mut i8, signs_len: usize) -> u32;
         pub fn raccoon_sample_uniform(bytes: *const u8, bytes_len: usize, words_out: *mut u64, words_len: usize) -> u32;
     }
 }
@@ -135,7 +156,9 @@ pub fn verify(edition: Edition, set: u32, public_key: &[u8], message: &[u8], sig
         Edition::Printed => raw::raccoon_verify,
         Edition::Kat => raw::raccoon_kat_verify,
     };
-    unsafe { call(set, public_key.as_ptr(), public_key.len(), message.as_ptr(), message.len(), signature.as_ptr(), signature.len()) }
+    unsafe {
+        call(set, public_key.as_ptr(), public_key.len(), message.as_ptr(), message.len(), signature.as_ptr(), signature.len())
+    }
 }
 
 /// What signing reports: the status, and the attempt that passed (with 12 all attempts, with 11 the attempt that met it, else 0).
@@ -167,29 +190,25 @@ pub struct Signing<'a> {
 
 /// Signing. With 0 the result holds the signature, else it is as it was; the work buffer is zero but after refusals 1 to 8.
 ///
-/// The edition of the response files takes a signing key and noise seeds only.
+/// # Panics
+/// In the edition of the response files, which signs with a signing key and noise seeds only, if lent anything else.
 pub fn sign(edition: Edition, input: &Signing, signature: &mut [u8], work: &mut [u64]) -> Signed {
-    let &Signing { set, shares, attempts, key, message, noise, mask_seeds: m } = input;
-    let (s, w) = ((signature.as_mut_ptr(), signature.len()), (work.as_mut_ptr(), work.len()));
-    let (text, n) = (message.as_ptr(), message.len());
-    unsafe {
-        match (edition, key, noise) {
-            (Edition::Printed, Key::Packed(k), Noise::Seeds(r)) => raw::raccoon_sign(
-                set, shares, attempts, k.as_ptr(), k.len(), text, n, r.as_ptr(), r.len(), m.as_ptr(), m.len(), s.0, s.1, w.0, w.1,
-            ),
-            (Edition::Printed, Key::Packed(k), Noise::Words(r)) => raw::raccoon_sign_explicit(
-                set, shares, attempts, k.as_ptr(), k.len(), text, n, r.as_ptr(), r.len(), m.as_ptr(), m.len(), s.0, s.1, w.0, w.1,
-            ),
-            (Edition::Printed, Key::Expanded(b, x), Noise::Seeds(r)) => raw::raccoon_sign_expanded(
-                set, shares, attempts, b.as_ptr(), b.len(), x.as_ptr(), x.len(), text, n, r.as_ptr(), r.len(), m.as_ptr(), m.len(), s.0, s.1, w.0, w.1,
-            ),
-            (Edition::Printed, Key::Expanded(b, x), Noise::Words(r)) => raw::raccoon_sign_expanded_explicit(
-                set, shares, attempts, b.as_ptr(), b.len(), x.as_ptr(), x.len(), text, n, r.as_ptr(), r.len(), m.as_ptr(), m.len(), s.0, s.1, w.0, w.1,
-            ),
-            (Edition::Kat, Key::Packed(k), Noise::Seeds(r)) => raw::raccoon_kat_sign(
-                set, shares, attempts, k.as_ptr(), k.len(), text, n, r.as_ptr(), r.len(), m.as_ptr(), m.len(), s.0, s.1, w.0, w.1,
-            ),
-            (Edition::Kat, _, _) => panic!("the edition of the response files has no such call"),
+    let &Signing { set, shares, attempts, key, message, noise, mask_seeds } = input;
+    let (out, out_len, work, work_len) = (signature.as_mut_ptr(), signature.len(), work.as_mut_ptr(), work.len());
+    // an export with what it is lent to read, each slice as pointer and length
+    macro_rules! call {
+        ($export:ident, $($slice:expr),*) => {
+            unsafe { raw::$export(set, shares, attempts, $($slice.as_ptr(), $slice.len(),)* out, out_len, work, work_len) }
+        };
+    }
+    match (edition, key, noise) {
+        (Edition::Printed, Key::Packed(k), Noise::Seeds(n)) => call!(raccoon_sign, k, message, n, mask_seeds),
+        (Edition::Printed, Key::Packed(k), Noise::Words(n)) => call!(raccoon_sign_explicit, k, message, n, mask_seeds),
+        (Edition::Printed, Key::Expanded(b, w), Noise::Seeds(n)) => call!(raccoon_sign_expanded, b, w, message, n, mask_seeds),
+        (Edition::Printed, Key::Expanded(b, w), Noise::Words(n)) => {
+            call!(raccoon_sign_expanded_explicit, b, w, message, n, mask_seeds)
         }
+        (Edition::Kat, Key::Packed(k), Noise::Seeds(n)) => call!(raccoon_kat_sign, k, message, n, mask_seeds),
+        (Edition::Kat, _, _) => panic!("the edition of the response files has no such call"),
     }
 }

@@ -2,7 +2,7 @@
 
 use crate::call::{self, Edition};
 use crate::secret::Secret;
-use crate::{KeygenSeeds, Params, Refusal, Set, MASK_SEED_BYTES};
+use crate::{KeygenSeeds, MASK_SEED_BYTES, Params, Refusal, Set};
 use std::fmt;
 
 /// A public key: its length is that of its set, its coefficients are below 125.

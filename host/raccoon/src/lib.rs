@@ -39,8 +39,8 @@ mod seeds;
 mod sign;
 
 pub use keys::{ExpandedKey, PublicKey, Signature, SigningKey};
-pub use params::{Params, Set, Shares, MASK_SEED_BYTES, MAX_ATTEMPTS, MAX_MESSAGE_BYTES, N, Q};
+pub use params::{MASK_SEED_BYTES, MAX_ATTEMPTS, MAX_MESSAGE_BYTES, N, Params, Q, Set, Shares};
 pub use refusal::Refusal;
 pub use secret::Secret;
-pub use seeds::{os_random, ExplicitNoise, KeygenSeeds, SigningSeeds, SigningSeedsBuilder};
+pub use seeds::{ExplicitNoise, KeygenSeeds, SigningSeeds, SigningSeedsBuilder, os_random};
 pub use sign::{NotSigned, Signed};

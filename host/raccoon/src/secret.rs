@@ -1,7 +1,7 @@
 //! Memory that is wiped when it is dropped.
 
 use std::ops::{Deref, DerefMut};
-use std::sync::atomic::{compiler_fence, Ordering};
+use std::sync::atomic::{Ordering, compiler_fence};
 
 /// Bytes or words of a secret, wiped when they are dropped.
 ///

@@ -1,7 +1,7 @@
 //! What calls are lent besides keys and messages. No type here can be copied, and a call takes it by value: nothing is used twice.
 
 use crate::secret::Secret;
-use crate::{Params, Refusal, MASK_SEED_BYTES, MAX_ATTEMPTS, Q};
+use crate::{MASK_SEED_BYTES, MAX_ATTEMPTS, Params, Q, Refusal};
 use std::fs::File;
 use std::io::{self, Read};
 

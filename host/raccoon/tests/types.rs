@@ -23,7 +23,10 @@ fn sizes_are_those_of_the_independent_implementation() {
     assert_eq!(Params::all().count(), 18);
     for p in Params::all() {
         let other = Other::new(p.set.number() as usize, p.shares.count(), Edition::Printed).unwrap();
-        assert_eq!((p.set.k(), p.set.l(), p.shares.repetitions(), p.set.seed_bytes()), (other.k, other.l, other.rep, other.seed_bytes()));
+        assert_eq!(
+            (p.set.k(), p.set.l(), p.shares.repetitions(), p.set.seed_bytes()),
+            (other.k, other.l, other.rep, other.seed_bytes())
+        );
         assert_eq!((p.set.public_key_bytes(), p.set.signature_bytes()), (other.vk_bytes(), other.sig_bytes));
         assert_eq!((p.signing_key_bytes(), p.share_words()), (other.sk_bytes(), other.l * other.d * N));
         assert_eq!((p.keygen_seed_bytes(), p.noise_seed_bytes()), (other.keygen_bytes(), other.noise_bytes()));
@@ -45,7 +48,8 @@ fn questions_are_those_of_the_header() {
     for (i, refusal) in Refusal::ALL.into_iter().enumerate() {
         assert_eq!(refusal.number() as usize, i + 1);
         assert_eq!(Refusal::from_status(refusal.number()), Err(refusal));
-        let line = header.lines().find(|line| line.contains(&format!(" = {},", i + 1)) || line.contains(&format!(" = {} ", i + 1)));
+        let line =
+            header.lines().find(|line| line.contains(&format!(" = {},", i + 1)) || line.contains(&format!(" = {} ", i + 1)));
         let line = line.unwrap_or_else(|| panic!("the header has no {}", i + 1));
         assert!(line.contains(&format!("/* {}", refusal.question())), "{line}");
     }
@@ -91,7 +95,10 @@ fn seeds_of_wrong_length_are_refused() {
     assert_eq!(two.explicit(&[Q; 18432], &[0; 64]).map(|_| ()), refused);
     assert_eq!(two.explicit(&[0; 18431], &[0; 64]).map(|_| ()), refused);
     assert_eq!(SigningSeeds::new(params).attempts(0).map(|_| ()), Err(Refusal::BadAttempts));
-    assert_eq!(SigningSeeds::new(params).draw(|_| Err(io::ErrorKind::NotFound.into())).map(|_| ()).unwrap_err().kind(), io::ErrorKind::NotFound);
+    assert_eq!(
+        SigningSeeds::new(params).draw(|_| Err(io::ErrorKind::NotFound.into())).map(|_| ()).unwrap_err().kind(),
+        io::ErrorKind::NotFound
+    );
 }
 
 #[test]

@@ -3,7 +3,7 @@
 //!
 //! `speed [--quick] [--markdown]`: with few turns, in seconds; as markdown.
 
-use compare::speed::{report, Style, Turns};
+use compare::speed::{Style, Turns, report};
 use std::process::ExitCode;
 
 fn main() -> ExitCode {

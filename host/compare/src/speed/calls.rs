@@ -1,9 +1,9 @@
 //! The calls at all 18 pairs of set and share count, in the printed edition, and the permutations that they take.
 
-use super::table::{cell, Table};
+use super::table::{Table, cell};
 use super::{Best, Turns};
 use crate::known::xof;
-use crate::permutations::{Maker, CALLS, MESSAGE};
+use crate::permutations::{CALLS, MESSAGE, Maker};
 use crate::unit;
 use independent::raccoon::{self, Edition, Noise, Params};
 use std::hint::black_box;
@@ -35,7 +35,13 @@ pub struct Pair {
 pub fn pairs(lent: &[Lent], calls: &[Best]) -> Vec<Pair> {
     let pair = |(Lent { p, .. }, calls): (&Lent, &[Best])| {
         let counted: Vec<u64> = calls.iter().map(|best| best.permutations).collect();
-        assert_eq!(counted, Maker::Independent.counts(p), "permutations of the independent implementation at {}-{}", p.kappa, p.d);
+        assert_eq!(
+            counted,
+            Maker::Independent.counts(p),
+            "permutations of the independent implementation at {}-{}",
+            p.kappa,
+            p.d
+        );
         Pair { set: p.kappa, d: p.d, calls: calls.iter().copied().zip(Maker::Unit.counts(p)).collect() }
     };
     lent.iter().zip(calls.chunks_exact(CALLS.len())).map(pair).collect()

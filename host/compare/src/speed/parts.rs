@@ -1,6 +1,6 @@
 //! The parts of the calls: the permutation and streams, the transform and the ring, the uniform sampler.
 
-use super::table::{cell, Table};
+use super::table::{Table, cell};
 use super::{Best, Turns};
 use crate::unit;
 use independent::{keccak, ring};
@@ -64,10 +64,8 @@ fn stream(turns: Turns) -> Best {
 fn absorbing(turns: Turns) -> Best {
     let message = vec![0x5au8; 30 * 136 - 1];
     let (mut digest, mut other) = ([0u8; 32], [0u8; 32]);
-    let best = turns.best(
-        || unit::shake256(black_box(&message), &mut digest),
-        || keccak::shake256(black_box(&message), &mut other),
-    );
+    let best =
+        turns.best(|| unit::shake256(black_box(&message), &mut digest), || keccak::shake256(black_box(&message), &mut other));
     assert_eq!(digest, other);
     best.part(30)
 }

@@ -44,5 +44,15 @@ fn panel(pairs: &[Pair], pair: &Pair, call: usize) -> String {
 /// A bar of so much of the full length, with the mark of d log d.
 fn bar(d: usize, part: f64) -> String {
     let (length, mark) = ((BAR as f64 * part).round() as usize, BAR / 5 * d.ilog2() as usize);
-    (0..length.max(mark + 1)).map(|at| if at == mark && d > 1 { '|' } else if at < length { '#' } else { ' ' }).collect()
+    (0..length.max(mark + 1))
+        .map(|at| {
+            if at == mark && d > 1 {
+                '|'
+            } else if at < length {
+                '#'
+            } else {
+                ' '
+            }
+        })
+        .collect()
 }
