@@ -1,5 +1,5 @@
-//! The documents name what is there: each file, each must-fail edit and each name in backquotes of docs/TRACE.md stands in the sources, and
-//! the theorems that docs/STATEMENT.md quotes are the theorems' own text.
+//! The documents name what is there: each file, each must-fail edit and each name in backquotes of docs/TRACE.md stands in the sources,
+//! the theorems that docs/STATEMENT.md quotes are the theorems' own text, and links lead somewhere.
 
 use std::collections::BTreeSet;
 use std::fs;
@@ -77,4 +77,32 @@ fn statement_quotes_the_theorems() {
     for quote in quotes {
         assert!(theorems.lines().any(|line| line == quote), "not in the theorems: {quote}");
     }
+}
+
+/// The heading that a link names behind `#`: in small letters, with hyphens for spaces.
+fn has_heading(text: &str, anchor: &str) -> bool {
+    let name = |line: &str| line.trim_start_matches('#').trim().to_lowercase().replace(' ', "-");
+    text.lines().any(|line| line.starts_with('#') && name(line) == anchor)
+}
+
+#[test]
+fn links_lead_somewhere() {
+    let mut links = 0;
+    for document in
+        ["README.md", "docs/DECISIONS.md", "docs/GUIDE.md", "docs/PERFORMANCE.md", "docs/STATEMENT.md", "docs/TRACE.md"]
+    {
+        let text = text(document);
+        for link in text.split("](").skip(1).filter_map(|rest| rest.split(')').next()) {
+            links += 1;
+            let (path, anchor) = link.split_once('#').unwrap_or((link, ""));
+            let target = root().join(document).parent().unwrap().join(path);
+            let target = if path.is_empty() { root().join(document) } else { target };
+            assert!(target.exists(), "{document}: {link} leads nowhere");
+            assert!(
+                anchor.is_empty() || has_heading(&fs::read_to_string(target).unwrap(), anchor),
+                "{document}: no heading for {link}"
+            );
+        }
+    }
+    assert!(links > 10, "only {links} links were found");
 }
