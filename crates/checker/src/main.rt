@@ -2,18 +2,12 @@
 // message; it prints verify's status for set 128, in decimal, and a line end.
 
 ghost use mathlib.Core.Path.{_≡_};
-ghost use Prim.Native.Nat.{min};
 ghost use Rattle.checker.specs.Input.{checkedOf};
+use hash::num::least;
 use hash::params::Edition;
 use libc::STDIN_FILENO;
 use libc::STDOUT_FILENO;
 use signature::verify::verify;
-
-fn least(x: usize, y: usize) -> usize
-    ensures { λ r. ⌜ r ≡ min x y ⌝ }
-{
-    if x < y { x } else { y }
-}
 
 // The status of an input of any length.
 fn check(input: &[u8]) -> u32

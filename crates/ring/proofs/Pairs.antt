@@ -52,7 +52,7 @@ done-all h (x ∷ xs) [] zs e g = absurd (omega arith)
 done-all h (x ∷ xs) (y ∷ ys) [] e g = absurd (omega arith)
 done-all h (x ∷ xs) (y ∷ ys) (z ∷ zs) e g = ap (λ (t : List ℕ). h x y ∷ t) (done-all h xs ys zs (omega arith) (omega arith))
 
-set-append-right : (xs ys : List ℕ) (i v : ℕ) → set (xs ++ ys) (length xs + i) v ≡ xs ++ set ys i v
+pub set-append-right : (xs ys : List ℕ) (i v : ℕ) → set (xs ++ ys) (length xs + i) v ≡ xs ++ set ys i v
 set-append-right [] ys i v = rw zero-add
 set-append-right (x ∷ xs) ys i v =
     ap (λ (n : ℕ). set (x ∷ (xs ++ ys)) n v) (suc-add (length xs) i) ∙ ap (λ (t : List ℕ). x ∷ t) (set-append-right xs ys i v)

@@ -1,10 +1,11 @@
 // Uniform polynomials: Algorithm 5 of paper 000, SampleQ, over the SHAKE256 stream of a header and a seed, and over lent bytes.
 ghost use mathlib.Core.Path.{_≡_};
-ghost use Prim.Native.Nat.{min, _*_, _≤_};
+ghost use Prim.Native.Nat.{_*_, _≤_};
 ghost use lib.ListN.{length};
 ghost use Rattle.ring.specs.Words.{Words};
 ghost use Rattle.ring.specs.Uniform.{Gathered, sampledOf, sampleQ, heldOf};
 use crate::poly::copy_into;
+use hash::num::least;
 
 // The modulus q (000, Tables 2 to 4).
 const Q: u64 = 549824583172097;
@@ -13,12 +14,6 @@ const Q: u64 = 549824583172097;
 pub struct Sampled {
     pub ok: bool,
     pub poly: [u64; 512],
-}
-
-fn least(x: usize, y: usize) -> usize
-    ensures { λ r. ⌜ r ≡ min x y ⌝ }
-{
-    if x < y { x } else { y }
 }
 
 // Draws 0 to n - 1 of b: those below q go into a from the place k on, until its 512 places are full. The new k.

@@ -10,6 +10,7 @@ use lib.ListN.{length, getD, set, take, drop, replicate, length-append, length-s
 use lib.Seq.{getD-append-add, set-append-left, sets, sets-eq, set-getD, getD-drop, drop-length}
 use lib.Pow.{shr-shr, split, high, pow-pos}
 use lib.Bits.{bitXor, differ, xor-step, xor-zero-r}
+use Rattle.ring.proofs.Pairs.{set-append-right}
 use Rattle.signature.specs.Bits.{bitsOf, valOf, fields}
 
 pub length-bits : (w x : ℕ) → length (bitsOf w x) ≡ w
@@ -22,10 +23,6 @@ unfolding bitsOf
 getD-bits zero x k h = absurd (not-suc-le-zero h)
 getD-bits (suc w) x zero h = omega arith
 getD-bits (suc w) x (suc k) h = getD-bits w (x / 2) k (le-of-suc-le-suc h) ∙ ap (λ (n : ℕ). n % 2) (shr-shr x 1 k ∙ ap (λ (n : ℕ). x / 2 ^ n) (one-add k))
-
-pub set-append-add : (xs ys : List ℕ) (n b : ℕ) → set (xs ++ ys) (length xs + n) b ≡ xs ++ set ys n b
-set-append-add [] ys n b = rw zero-add
-set-append-add (x ∷ xs) ys n b = rw suc-add (ap (λ (m : List ℕ). x ∷ m) (set-append-add xs ys n b))
 
 -- ---- a bit is flipped
 
@@ -89,7 +86,7 @@ module _ (w k : ℕ) (h : k < w) where
       ∙ ap (λ (n : ℕ). set (bitsOf w x ++ fields w xs) n b) (sym (ap (λ (n : ℕ). n + k) (zero-mul w) ∙ zero-add k))
   put (x ∷ xs) (suc i) v b l e =
       ap (λ (m : List ℕ). bitsOf w x ++ m) (put xs i v b (le-of-suc-le-suc l) e)
-      ∙ sym (set-append-add (bitsOf w x) (fields w xs) (i * w + k) b)
+      ∙ sym (set-append-right (bitsOf w x) (fields w xs) (i * w + k) b)
       ∙ ap (λ (n : ℕ). set (bitsOf w x ++ fields w xs) n b) (sym (place x i))
 
 -- ---- bit `at` of a byte string
@@ -213,7 +210,7 @@ bits-cat a b x y =
 pub sets-right : (p q : List ℕ) (n k : ℕ) (vs : List ℕ) → length p ≡ n → sets (p ++ q) (n + k) vs ≡ p ++ sets q k vs
 sets-right p q n k [] e = refl
 sets-right p q n k (v ∷ vs) e =
-    ap (λ (l : List ℕ). sets l (suc (n + k)) vs) (ap (λ (m : ℕ). set (p ++ q) (m + k) v) (sym e) ∙ set-append-add p q k v)
+    ap (λ (l : List ℕ). sets l (suc (n + k)) vs) (ap (λ (m : ℕ). set (p ++ q) (m + k) v) (sym e) ∙ set-append-right p q k v)
     ∙ ap (λ (m : ℕ). sets (p ++ set q k v) m vs) (sym (add-suc n k)) ∙ sets-right p (set q k v) n (suc k) vs e
 
 pub sets-left : (q r : List ℕ) (k : ℕ) (vs : List ℕ) → k + length vs ≤ length q → sets (q ++ r) k vs ≡ sets q k vs ++ r

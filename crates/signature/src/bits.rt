@@ -4,12 +4,7 @@ ghost use Prim.Native.Nat.{_+_, _*_, _%_, _^_, _<_, _≤_};
 ghost use lib.ListN.{length, getD, set, take, drop, replicate};
 ghost use lib.Seq.{sets};
 ghost use Rattle.signature.specs.Bits.{bitsOf, valOf, fields, repack};
-
-fn wide(x: u8) -> u64
-    ensures { λ r. ⌜ r ≡ x ⌝ }
-{
-    x as u64
-}
+use hash::num::wide;
 
 // The w lowest bits of x, as a number.
 fn low(x: u64, w: usize) -> u64

@@ -2,12 +2,14 @@
 // omega coefficients 1 or -1, of a SHAKE256 stream and of lent bytes.
 ghost use mathlib.Core.Path.{_≡_};
 ghost use mathlib.Core.List.{_++_};
-ghost use Prim.Native.Nat.{min, _/_, _%_, _^_, _<_};
+ghost use Prim.Native.Nat.{_/_, _%_, _^_, _<_};
 ghost use lib.Bits.{bitOr};
 ghost use lib.ListN.{length, getD, set};
 ghost use Rattle.hash.specs.Lists.{table};
 ghost use Rattle.hash.specs.Shake.{stream, shake256};
 ghost use Rattle.signature.specs.Challenge.{draw, place, minusBit, sign, bitAt, onesOf, challenge, ordered, sampledChallenge, headed, chalHeld, blockOf, bytesOf, drawsOf, nextOf, behind};
+use hash::num::least;
+use hash::num::wide;
 use hash::params::Edition;
 use hash::params::Selected;
 
@@ -15,19 +17,6 @@ use hash::params::Selected;
 pub struct Challenged {
     pub ok: bool,
     pub poly: [i8; 512],
-}
-
-fn wide(x: u8) -> u64
-    ensures { λ r. ⌜ r ≡ x ⌝ }
-    ensures { λ r. ⌜ r < 256 ⌝ }
-{
-    x as u64
-}
-
-fn least(x: usize, y: usize) -> usize
-    ensures { λ r. ⌜ r ≡ min x y ⌝ }
-{
-    if x < y { x } else { y }
 }
 
 // Draw number n of a block.

@@ -17,12 +17,12 @@ returns c =
     let a = c .before .before .before .before in
     ap (λ (n : ℕ). fields 8 (set (a .args .buf .now) (a .args .at / 8) (bitXor (getD (a .args .buf .now) (a .args .at / 8) 0) n)))
     (shl-exact {a = 1} 1 (a .args .at % 8) 8 (lit< tt) (omega arith) ∙ one-mul _)
-    ∙ flipped (a .args .buf .now) (a .args .at) (a .pre .0) (a .args .b) (a .pre .1) (λ e. c .if1 .taken (ap (λ (n : ℕ). n % 2) (c .before .wide .ensures) ∙ e))
+    ∙ flipped (a .args .buf .now) (a .args .at) (a .pre .0) (a .args .b) (a .pre .1) (λ e. c .if1 .taken (ap (λ (n : ℕ). n % 2) (c .before .wide .ensures .0) ∙ e))
 
 returns-2 : tie.Need-returns-2
 returns-2 c =
     let a = c .before .before .before .before in
-    left (a .args .buf .now) (a .args .at) (a .pre .0) (a .args .b) (ap (λ (n : ℕ). n % 2) (sym (c .before .wide .ensures)) ∙ c .if1 .left)
+    left (a .args .buf .now) (a .args .at) (a .pre .0) (a .args .b) (ap (λ (n : ℕ). n % 2) (sym (c .before .wide .ensures .0)) ∙ c .if1 .left)
 
 pub put-bit-spec : {M : Type 1} → statement M
 put-bit-spec =
