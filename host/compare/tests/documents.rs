@@ -79,6 +79,28 @@ fn statement_quotes_the_theorems() {
     }
 }
 
+/// The number behind a name in what the check printed of a crate, 0 where it is not printed.
+fn printed(log: &str, name: &str) -> usize {
+    let line = log.lines().find(|line| line.starts_with("logic=proved ")).expect("a crate that is proved");
+    line.split(' ').find_map(|word| word.strip_prefix(name)?.strip_prefix('=')).map_or(0, |number| number.parse().unwrap())
+}
+
+/// The README's functions and axioms are those that `rt check` printed.
+#[test]
+fn functions_and_axioms() {
+    let (readme, crates) = (text("README.md"), text("crates.txt"));
+    let names = crates.lines().filter_map(|line| line.split_once(':').map(|(name, _)| name));
+    for name in names.filter(|name| !name.starts_with('#')) {
+        let log = text(&format!("target/log/{name}.say"));
+        let row =
+            readme.lines().find_map(|line| line.strip_prefix(&format!("| {name} | "))).unwrap_or_else(|| panic!("no row {name}"));
+        let (functions, axioms) = row.split_once(" | ").unwrap();
+        assert_eq!(functions.parse(), Ok(printed(&log, "functions")), "{name}");
+        let axioms = axioms.split([':', ' ']).next().unwrap().replace("none", "0");
+        assert_eq!(axioms.parse(), Ok(printed(&log, "axioms")), "{name}");
+    }
+}
+
 /// The heading that a link names behind `#`: in small letters, with hyphens for spaces.
 fn has_heading(text: &str, anchor: &str) -> bool {
     let name = |line: &str| line.trim_start_matches('#').trim().to_lowercase().replace(' ', "-");
