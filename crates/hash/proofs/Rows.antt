@@ -2,6 +2,7 @@
 use mathlib.Core.Path.{_≡_, refl, sym, ap, subst, _∙_}
 use mathlib.Core.Bool.{Bool, true, false}
 use mathlib.Core.List.{List, [], _∷_}
+use mathlib.Core.Logic.{_⊎_, inl, inr}
 use Prim.Native.Nat.{ℕ, _+_, _-_, _*_, _/_, _%_, _^_, _≤_, _<_}
 use native.Mathlib.Omega.{arith}
 use borrow.Author.Tests.{eqb-true, eqb-false}
@@ -11,7 +12,7 @@ use Rattle.hash.specs.Lists.{pick}
 use Rattle.hash.specs.declared.params.Edition.{Edition}
 use Rattle.hash.specs.declared.params.Params.{Params}
 use Rattle.hash.specs.declared.params.Selected.{Selected}
-use Rattle.hash.specs.Params.{rows, setIndex, orderIndex, rowAt, paramsOf, lookupOf}
+use Rattle.hash.specs.Params.{rows, setIndex, orderIndex, ShareCount, rowAt, paramsOf, lookupOf}
 use Rattle.hash.proofs.Computed.{below, at, allOf, pass}
 
 -- ---- the places of a set and of a share count
@@ -63,6 +64,61 @@ order-known d =
     go false false false false true g h1 h2 h3 h4 h5 h6 n = h5 refl
     go false false false false false true h1 h2 h3 h4 h5 h6 n = h6 refl
     go false false false false false false h1 h2 h3 h4 h5 h6 n = absurd (n refl)
+
+-- ---- the six share counts
+
+-- what holds of each of them holds of a share count
+by-count : (P : ℕ → Type 0) (d : ℕ) → P 1 → P 2 → P 4 → P 8 → P 16 → P 32 → ShareCount d → P d
+by-count P d p1 p2 p4 p8 p16 p32 c = go (c .six)
+  where
+    go : (d ≡ 1) ⊎ (d ≡ 2) ⊎ (d ≡ 4) ⊎ (d ≡ 8) ⊎ (d ≡ 16) ⊎ (d ≡ 32) → P d
+    go (inl e) = subst P (sym e) p1
+    go (inr (inl e)) = subst P (sym e) p2
+    go (inr (inr (inl e))) = subst P (sym e) p4
+    go (inr (inr (inr (inl e)))) = subst P (sym e) p8
+    go (inr (inr (inr (inr (inl e))))) = subst P (sym e) p16
+    go (inr (inr (inr (inr (inr e))))) = subst P (sym e) p32
+
+pub count-power : (d : ℕ) → ShareCount d → d ≡ 2 ^ orderIndex d
+count-power d c = by-count (λ (n : ℕ). n ≡ 2 ^ orderIndex n) d refl refl refl refl refl refl c
+
+pub count-low : (d : ℕ) → ShareCount d → (1 ≤ d) × (d ≤ 32)
+count-low d c =
+    let h : (n : ℕ) → T (leb 1 n) → T (leb n 32) → (1 ≤ n) × (n ≤ 32) = λ (n : ℕ) a b. (leb→le 1 n a, leb→le n 32 b) in
+    by-count (λ (n : ℕ). (1 ≤ n) × (n ≤ 32)) d (h 1 tt tt) (h 2 tt tt) (h 4 tt tt) (h 8 tt tt) (h 16 tt tt) (h 32 tt tt) c
+
+pub count-order : (d : ℕ) → ShareCount d → orderIndex d < 6
+count-order d c =
+    let h : (n : ℕ) → T (leb (orderIndex n + 1) 6) → orderIndex n < 6 =
+    λ (n : ℕ) a. (let l : orderIndex n + 1 ≤ 6 = leb→le (orderIndex n + 1) 6 a in omega arith) in
+    by-count (λ (n : ℕ). orderIndex n < 6) d (h 1 tt) (h 2 tt) (h 4 tt) (h 8 tt) (h 16 tt) (h 32 tt) c
+
+pub order-count : (d : ℕ) → orderIndex d < 6 → ShareCount d
+order-count d =
+    go (eqb d 1) (eqb d 2) (eqb d 4) (eqb d 8) (eqb d 16) (eqb d 32) (eqb-true d 1) (eqb-true d 2) (eqb-true d 4) (eqb-true d 8)
+    (eqb-true d 16) (eqb-true d 32)
+  where
+    go : (a b c e f g : Bool) → (a ≡ true → d ≡ 1) → (b ≡ true → d ≡ 2) → (c ≡ true → d ≡ 4) → (e ≡ true → d ≡ 8) → (f ≡ true → d ≡ 16)
+        → (g ≡ true → d ≡ 32) → orderBy a b c e f g < 6 → ShareCount d
+    go true b c e f g h1 h2 h3 h4 h5 h6 l = record { six = inl (h1 refl) }
+    go false true c e f g h1 h2 h3 h4 h5 h6 l = record { six = inr (inl (h2 refl)) }
+    go false false true e f g h1 h2 h3 h4 h5 h6 l = record { six = inr (inr (inl (h3 refl))) }
+    go false false false true f g h1 h2 h3 h4 h5 h6 l = record { six = inr (inr (inr (inl (h4 refl)))) }
+    go false false false false true g h1 h2 h3 h4 h5 h6 l = record { six = inr (inr (inr (inr (inl (h5 refl))))) }
+    go false false false false false true h1 h2 h3 h4 h5 h6 l = record { six = inr (inr (inr (inr (inr (h6 refl))))) }
+    go false false false false false false h1 h2 h3 h4 h5 h6 l = absurd (omega arith)
+
+-- half of one that is not 1
+pub count-half : (d : ℕ) → ShareCount d → (d ≡ 1 → ⊥) → ShareCount (d / 2)
+count-half d c n = go (c .six)
+  where
+    go : (d ≡ 1) ⊎ (d ≡ 2) ⊎ (d ≡ 4) ⊎ (d ≡ 8) ⊎ (d ≡ 16) ⊎ (d ≡ 32) → ShareCount (d / 2)
+    go (inl e) = absurd (n e)
+    go (inr (inl e)) = record { six = inl (ap (λ (x : ℕ). x / 2) e) }
+    go (inr (inr (inl e))) = record { six = inr (inl (ap (λ (x : ℕ). x / 2) e)) }
+    go (inr (inr (inr (inl e)))) = record { six = inr (inr (inl (ap (λ (x : ℕ). x / 2) e))) }
+    go (inr (inr (inr (inr (inl e))))) = record { six = inr (inr (inr (inl (ap (λ (x : ℕ). x / 2) e)))) }
+    go (inr (inr (inr (inr (inr e))))) = record { six = inr (inr (inr (inr (inl (ap (λ (x : ℕ). x / 2) e))))) }
 
 -- ---- the rule
 
@@ -147,6 +203,7 @@ pub record Row (set d : ℕ) (e : Edition) (p : Params) : Type 0 where
   pub set-is : p .kappa ≡ set
   pub shares-are : p .shares ≡ d
   pub edition-is : p .edition ≡ e
+  pub count : ShareCount d
   pub power : d ≡ 2 ^ orderIndex d
   pub rule : Rule p
 
@@ -183,6 +240,7 @@ found set d e p h =
       set-is = eqb→eq _ _ (pass w m 0) ∙ ap setNo dv ∙ sym (set-known set ns);
       shares-are = eqb→eq _ _ (pass w m 1) ∙ ap (λ (x : ℕ). 2 ^ x) md ∙ sym (order-known d no);
       edition-is = refl;
+      count = order-count d lo;
       power = order-known d no;
       rule = ruled r (at (λ (i : ℕ). allOf (tests (paramsOf (rowAt i) e))) 18 (all-pass e) (6 * setIndex set + orderIndex d) i);
     })

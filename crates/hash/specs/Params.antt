@@ -1,5 +1,7 @@
 -- The parameter table: Tables 2 to 4 of paper 000, a row for each set and order.
+use mathlib.Core.Path.{_≡_}
 use mathlib.Core.List.{List, [], _∷_}
+use mathlib.Core.Logic.{_⊎_}
 use Prim.Native.Nat.{ℕ, _+_, _*_}
 use lib.Dec.{eqb}
 use lib.ListN.{getD}
@@ -38,6 +40,10 @@ setIndex set = pick (eqb set 128) 0 (pick (eqb set 192) 1 (pick (eqb set 256) 2 
 abbrev pub orderIndex : ℕ → ℕ
 orderIndex d = pick (eqb d 1) 0 (pick (eqb d 2) 1 (pick (eqb d 4) 2 (pick (eqb d 8) 3 (pick (eqb d 16) 4 (pick (eqb d 32) 5 6)))))
 
+-- d is one of the six share counts
+pub record ShareCount (d : ℕ) : Type 0 where
+  pub six : (d ≡ 1) ⊎ (d ≡ 2) ⊎ (d ≡ 4) ⊎ (d ≡ 8) ⊎ (d ≡ 16) ⊎ (d ≡ 32)
+
 abbrev pub rowAt : ℕ → List ℕ
 rowAt i = getD rows i []
 
@@ -68,3 +74,9 @@ lookupOf set d e =
     pick (eqb (setIndex set) 3)
     Selected.NoSet
     (pick (eqb (orderIndex d) 6) Selected.NoShares (Selected.Found (paramsOf (rowAt (6 * setIndex set + orderIndex d)) e)))
+
+-- the status of each answer: checks 1 and 2; 0 where both are a yes
+abbrev pub selectedNo : Selected → ℕ
+selectedNo (Selected.Found p) = 0
+selectedNo Selected.NoSet = 1
+selectedNo Selected.NoShares = 2
