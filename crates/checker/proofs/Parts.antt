@@ -28,8 +28,8 @@ module _ (s : List ℕ) (k : ℕ) where
   pub first : (a : ℕ) → k ≡ min a (length s) → take (k - 0) (drop 0 s) ≡ take a s
   first a e = let z : k - 0 ≡ min a (length s) = omega arith in ap (λ (n : ℕ). take n s) z ∙ front s a
 
-  pub rest : (a : ℕ) → k ≡ min a (length s) → take (length s - k) (drop k s) ≡ drop a s
-  rest a e = take-all (length s - k) (drop k s) (omega (arith, length-drop k s)) ∙ ap (λ (n : ℕ). drop n s) e ∙ behind s a
+  pub last-part : (a : ℕ) → k ≡ min a (length s) → take (length s - k) (drop k s) ≡ drop a s
+  last-part a e = take-all (length s - k) (drop k s) (omega (arith, length-drop k s)) ∙ ap (λ (n : ℕ). drop n s) e ∙ behind s a
 
   pub middle : (m a b : ℕ) → a ≤ b → k ≡ min a (length s) → m ≡ min b (length s) → take (m - k) (drop k s) ≡ take (b - a) (drop a s)
   middle m a b h e f =

@@ -8,36 +8,36 @@ use native.Mathlib.Nat.{not-suc-le-zero}
 use native.Mathlib.Omega.{arith}
 use lib.Dec.{T}
 
-abbrev pub both : Bool → Bool → Bool
-both true b = b
-both false b = false
+abbrev pub conj : Bool → Bool → Bool
+conj true b = b
+conj false b = false
 
-pub both-left : (a b : Bool) → T (both a b) → T a
-both-left true b t = tt
-both-left false b t = t
+pub conj-left : (a b : Bool) → T (conj a b) → T a
+conj-left true b t = tt
+conj-left false b t = t
 
-pub both-right : (a b : Bool) → T (both a b) → T b
-both-right true b t = t
-both-right false b t = absurd t
+pub conj-right : (a b : Bool) → T (conj a b) → T b
+conj-right true b t = t
+conj-right false b t = absurd t
 
 -- the test f passes at each number below n
 unfoldable pub below : (ℕ → Bool) → ℕ → Bool
 below f zero = true
-below f (suc n) = both (f n) (below f n)
+below f (suc n) = conj (f n) (below f n)
 
 pub at : (f : ℕ → Bool) (n : ℕ) → T (below f n) → (k : ℕ) → k < n → T (f k)
 unfolding below
 at f zero t k h = absurd (not-suc-le-zero h)
-at f (suc n) t k h = choose (at f n (both-right (f n) (below f n) t) k) (ℕ-discrete k n)
+at f (suc n) t k h = choose (at f n (conj-right (f n) (below f n) t) k) (ℕ-discrete k n)
   where
     choose : (k < n → T (f k)) → Dec (k ≡ n) → T (f k)
-    choose r (yes e) = subst (λ (x : ℕ). T (f x)) (sym e) (both-left (f n) (below f n) t)
+    choose r (yes e) = subst (λ (x : ℕ). T (f x)) (sym e) (conj-left (f n) (below f n) t)
     choose r (no ne) = r (omega arith)
 
 -- a list of tests, all of which pass, and test number i of it
 abbrev pub allOf : List Bool → Bool
 allOf [] = true
-allOf (b ∷ bs) = both b (allOf bs)
+allOf (b ∷ bs) = conj b (allOf bs)
 
 abbrev pub testNo : List Bool → ℕ → Bool
 testNo [] i = true
@@ -46,5 +46,5 @@ testNo (b ∷ bs) (suc i) = testNo bs i
 
 pub pass : (bs : List Bool) → T (allOf bs) → (i : ℕ) → T (testNo bs i)
 pass [] t i = tt
-pass (b ∷ bs) t zero = both-left b (allOf bs) t
-pass (b ∷ bs) t (suc i) = pass bs (both-right b (allOf bs) t) i
+pass (b ∷ bs) t zero = conj-left b (allOf bs) t
+pass (b ∷ bs) t (suc i) = pass bs (conj-right b (allOf bs) t) i

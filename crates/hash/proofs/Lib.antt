@@ -1,4 +1,5 @@
 pub mod Computed
+pub mod Flat
 pub mod Laid
 pub mod Lanes
 pub mod Open
@@ -6,6 +7,7 @@ pub mod Output
 pub mod Paste
 pub mod Rows
 pub mod Rules
+pub mod Sets
 pub mod Shape
 pub mod Sponge
 pub mod Table

@@ -1,22 +1,14 @@
 -- A header of eight bytes and a seed of two, three or four lanes, absorbed by lanes.
-use mathlib.Core.Path.{_≡_, sym, _∙_}
+use mathlib.Core.Path.{_≡_}
 use mathlib.Core.List.{List, [], _∷_, _++_}
-use Prim.Native.Nat.{ℕ, _+_, _<_}
-use native.Mathlib.Omega.{arith}
+use Prim.Native.Nat.{ℕ, _+_}
 use lib.ListN.{length, getD}
-use lib.Seq.{ext-getD}
 use Rattle.hash.specs.Lists.{table}
 use Rattle.hash.specs.Keccak.{keccakF}
 use Rattle.hash.specs.Shake.{zeros, xorByte, xorBytes, padding, absorbed, absorbByte, absorbFrom, finish}
 use Rattle.hash.specs.Endian.{joined, opened}
-use Rattle.hash.proofs.Table.{length-table, getD-table}
+use Rattle.hash.proofs.Table.{listed}
 use Rattle.hash.proofs.Sponge.{finish-two}
-
--- a list as the table of its elements
-listed : (n : ℕ) (l : List ℕ) → length l ≡ n → l ≡ table (λ j. getD l j 0) n
-listed n l e =
-    ext-getD 0 l (table (λ j. getD l j 0) n) (e ∙ sym (length-table (λ j. getD l j 0) n))
-    (λ i h. let k : i < n = omega arith in sym (getD-table (λ j. getD l j 0) n i k))
 
 -- the lane of eight bytes from the place k on
 abbrev pub from : List ℕ → ℕ → ℕ

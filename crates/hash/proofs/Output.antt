@@ -2,14 +2,14 @@
 use mathlib.Core.Path.{_≡_, refl, sym, ap, _∙_}
 use mathlib.Core.List.{List, [], _∷_, _++_}
 use Prim.Native.Nat.{ℕ, zero, suc, _+_, _-_, _*_, _/_, _%_, _≤_, _<_}
-use native.Mathlib.Nat.{mod-lt}
+use native.Mathlib.Nat.{zero-add, suc-add, mod-lt}
 use native.Mathlib.Omega.{arith}
 use lib.Dec.{lit<}
 use lib.ListN.{length, getD, take, drop}
 use lib.Seq.{take-at, drop-at}
 use Rattle.hash.specs.Lists.{table, Bytes}
-use Rattle.hash.specs.Keccak.{State}
-use Rattle.hash.specs.Shake.{zeros, absorbed, absorbFrom, finish, byteAt, after, rate, stream, shake256}
+use Rattle.hash.specs.Keccak.{State, keccakF}
+use Rattle.hash.specs.Shake.{zeros, absorbed, absorbFrom, xorBytes, padding, finish, byteAt, after, rate, stream, shake256}
 use Rattle.hash.proofs.Table.{length-table, getD-table}
 use Rattle.hash.proofs.Paste.{table-more, table-same}
 use Rattle.hash.proofs.Sponge.{absorb-append, finish-absorbed, stream-at}
@@ -64,6 +64,28 @@ output-block m i k h =
     ∙ table-take (λ (j : ℕ). stream (absorbed m) (136 * i + j)) 136 (k - (136 * i + 136))
     ∙ table-same (λ (j : ℕ). stream (absorbed m) (136 * i + j)) (byteAt (after i (absorbed m))) 136 (λ j l. stream-at (absorbed m) i j l)
 
+-- ---- the state i blocks on
+
+pub after-none : (S : State) → after 0 S ≡ S
+unfolding after
+after-none S = refl
+
+pub after-next : (i : ℕ) (S : State) → after (suc i) S ≡ keccakF (after i S)
+unfolding after
+after-next i S = refl
+
+pub after-add : (m n : ℕ) (S : State) → after m (after n S) ≡ after (m + n) S
+unfolding after
+after-add zero n S = rw zero-add
+after-add (suc m) n S = rw suc-add (ap keccakF (after-add m n S))
+
+-- it gives the stream from there on
+pub stream-after : (S : State) (n j : ℕ) → stream (after n S) j ≡ stream S (136 * n + j)
+stream-after S n j =
+    let d : (136 * n + j) / 136 ≡ j / 136 + n = omega arith in
+    let m : (136 * n + j) % 136 ≡ j % 136 = omega arith in
+    rw (d, m, after-add)
+
 -- ---- a message in any number of parts
 
 -- the parts one after another, after n bytes; their length
@@ -82,3 +104,8 @@ parts-are (m ∷ ms) A n = parts-are ms (absorbFrom A n m) (n + length m) ∙ sy
 
 pub finish-parts : (ms : List (List ℕ)) → finish (absorbParts zeros 0 ms) (length (joinParts ms)) ≡ absorbed (joinParts ms)
 finish-parts ms = ap (λ (S : State). finish S (length (joinParts ms))) (parts-are ms zeros 0) ∙ finish-absorbed (joinParts ms)
+
+-- the end of a message: only the place in the block counts
+pub finish-mod : (A : State) (n k : ℕ) → n % 136 ≡ k % 136 → finish A n ≡ finish A k
+unfolding finish
+finish-mod A n k e = ap (λ (i : ℕ). keccakF (xorBytes A i (padding (136 - i)))) e

@@ -130,6 +130,7 @@ pub record Rule (p : Params) : Type 0 where
   pub hint : p .«hint_limit» ≡ (p .binf + 2 ^ 43) / 2 ^ 44
   pub rows-low : p .k ≤ 9
   pub columns-low : p .l ≤ 7
+  pub columns-rows : p .l ≤ p .k
   pub weight-low : p .omega ≤ 44
   pub rep-pos : 1 ≤ p .rep
   pub rep-low : p .rep ≤ 8
@@ -162,6 +163,7 @@ tests p =
     ∷ leb (p .«sig_bytes») 20330
     ∷ leb (p .binf + 1) (2 ^ 50)
     ∷ leb (p .«hint_limit») 3
+    ∷ leb (p .l) (p .k)
     ∷ []
 
 ruled : (p : Params) → T (allOf (tests p)) → Rule p
@@ -184,6 +186,7 @@ ruled p t =
       sig-low = leb→le _ _ (pass (tests p) t 14);
       binf-low = let h : p .binf + 1 ≤ 2 ^ 50 = leb→le _ _ (pass (tests p) t 15) in omega arith;
       hint-low = leb→le _ _ (pass (tests p) t 16);
+      columns-rows = leb→le _ _ (pass (tests p) t 17);
     }
 
 -- the test of the whole table, for any edition; and that row i is of set i / 6 and order i % 6

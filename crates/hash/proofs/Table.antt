@@ -1,13 +1,23 @@
 -- A list that is filled from the front by f at each place.
-use mathlib.Core.Path.{_≡_, refl, ap, _∙_}
+use mathlib.Core.Path.{_≡_, refl, sym, ap, _∙_}
 use mathlib.Core.List.{List, [], _∷_, _++_, append-assoc}
 use Prim.Native.Nat.{ℕ, zero, suc, _+_, _<_}
 use mathlib.Core.Logic.{⊎-elim}
 use native.Mathlib.Nat.{not-suc-le-zero, le-of-suc-le-suc, eq-or-lt-of-le}
 use native.Mathlib.Numerals.{add-one}
+use native.Mathlib.Omega.{arith}
 use lib.ListN.{length, drop, set, getD, length-append, List·getD-append}
-use lib.Seq.{drop-cons, set-at, getD-at}
+use lib.Seq.{drop-cons, set-at, getD-at, ext-getD}
 use Rattle.hash.specs.Lists.{table}
+
+-- with no element, and with one more
+pub table-none : (f : ℕ → ℕ) → table f 0 ≡ []
+unfolding table
+table-none f = refl
+
+pub table-next : (f : ℕ → ℕ) (n : ℕ) → table f (suc n) ≡ table f n ++ (f n ∷ [])
+unfolding table
+table-next f n = refl
 
 pub length-table : (f : ℕ → ℕ) (n : ℕ) → length (table f n) ≡ n
 unfolding table
@@ -31,3 +41,9 @@ getD-table f (suc n) i h =
     (λ (e : i ≡ n). rw e (getD-at (table f n) (f n) [] 0 n (length-table f n)))
     (λ (l : i < n). List·getD-append (table f n) (f n ∷ []) 0 i (rw length-table l) ∙ getD-table f n i l)
     (eq-or-lt-of-le (le-of-suc-le-suc h))
+
+-- a list as the table of its elements
+pub listed : (n : ℕ) (l : List ℕ) → length l ≡ n → l ≡ table (λ j. getD l j 0) n
+listed n l e =
+    ext-getD 0 l (table (λ j. getD l j 0) n) (e ∙ sym (length-table (λ j. getD l j 0) n))
+    (λ i h. let k : i < n = omega arith in sym (getD-table (λ j. getD l j 0) n i k))

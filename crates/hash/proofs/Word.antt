@@ -1,16 +1,19 @@
 -- A lane is the word of its eight bytes, and so a word of the stream is a lane of a state.
-use mathlib.Core.Path.{_≡_, sym, _∙_}
+use mathlib.Core.Path.{_≡_, refl, sym, _∙_}
 use mathlib.Core.List.{[], _∷_}
-use Prim.Native.Nat.{ℕ, _+_, _*_, _/_, _%_, _^_, _<_, _≤_}
+use Prim.Native.Nat.{ℕ, zero, suc, _+_, _*_, _/_, _%_, _^_, _<_, _≤_}
 use native.Mathlib.Omega.{arith}
 use native.Mathlib.Nat.{mod-eq-of-lt, add-comm, mul-le-mul-right}
 use lib.Bits.{bitXor, xor-comm, xor-shifted}
 use lib.Dec.{lit<}
+use lib.ListN.{getD}
 use lib.Pow.{pow-add, split, shr-shr, shr-lt}
 use Rattle.hash.specs.Lists.{table}
 use Rattle.hash.specs.Keccak.{State, lane}
 use Rattle.hash.specs.Shake.{byteAt, stream, after}
 use Rattle.hash.specs.Endian.{byteOf, le, rateLanes, wordAt, words, word}
+use Rattle.hash.proofs.Table.{getD-table}
+use Rattle.hash.proofs.Output.{after-none, after-add}
 
 chain : (q₀ q₁ q₂ q₃ q₄ q₅ q₆ q₇ r₀ r₁ r₂ r₃ r₄ r₅ r₆ : ℕ)
     → q₁ * 256 + r₀ ≡ q₀ → q₂ * 256 + r₁ ≡ q₁ → q₃ * 256 + r₂ ≡ q₂ → q₄ * 256 + r₃ ≡ q₃ → q₅ * 256 + r₄ ≡ q₄ → q₆ * 256 + r₅ ≡ q₅ → q₇ * 256 + r₆ ≡ q₆
@@ -61,6 +64,39 @@ word-at S n =
       byte-of-word S n 6 (lit< tt),
       byte-of-word S n 7 (lit< tt),
     )
+
+-- .. of its first block, and from the state m blocks on
+pub first-word : (S : State) (a : ℕ) → a < 17 → getD (words S) a 0 ≡ word S a
+unfolding words
+first-word S a l =
+    let d : a / 17 ≡ 0 = omega arith in
+    let m : a % 17 ≡ a = omega arith in
+    let w : word S a ≡ wordAt S a = rw (word-at S a, d, m, after-none) in
+    rw w (getD-table (wordAt S) 17 a l)
+
+pub word-after : (S : State) (m n : ℕ) → word (after m S) n ≡ word S (17 * m + n)
+word-after S m n =
+    let d : (17 * m + n) / 17 ≡ n / 17 + m = omega arith in
+    let e : (17 * m + n) % 17 ≡ n % 17 = omega arith in
+    rw (word-at (after m S) n, word-at S (17 * m + n), d, e, after-add)
+
+-- the number of n bytes, one byte more
+pub le-none : (f : ℕ → ℕ) → le f 0 ≡ 0
+unfolding le
+le-none f = refl
+
+pub le-next : (f : ℕ → ℕ) (n : ℕ) → le f (suc n) ≡ le f n + f n * 2 ^ (8 * n)
+unfolding le
+le-next f n = refl
+
+-- equal bytes give equal numbers
+pub le-same : (f g : ℕ → ℕ) (n : ℕ) → ((j : ℕ) → j < n → f j ≡ g j) → le f n ≡ le g n
+unfolding le
+le-same f g zero h = refl
+le-same f g (suc n) h =
+    let e : le f n ≡ le g n = le-same f g n (λ j l. h j (omega arith)) in
+    let d : f n ≡ g n = h n (omega arith) in
+    rw (e, d)
 
 -- a byte more on top of a number
 pub on-top : (x b k : ℕ) → x < 2 ^ k → b < 256 → (bitXor x (b * 2 ^ k) ≡ x + b * 2 ^ k) × (x + b * 2 ^ k < 2 ^ (k + 8))

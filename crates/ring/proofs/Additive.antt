@@ -6,7 +6,7 @@ use native.Mathlib.Omega.{arith}
 use lib.Dec.{lit<}
 use lib.ListN.{length}
 use Rattle.hash.specs.Lists.{table}
-use Rattle.hash.proofs.Table.{length-table}
+use Rattle.hash.proofs.Table.{table-none, table-next, length-table}
 use Rattle.ring.specs.Words.{q, addq, zipTo, addW}
 use Rattle.ring.specs.Poly.{eval, map2, neg, lastOf, shift, mulx, zerosOf, prod}
 use Rattle.ring.specs.Residue.{timesp}
@@ -24,11 +24,13 @@ eval-sum (x ∷ f) [] r e = absurd (omega arith)
 eval-sum (x ∷ f) (y ∷ h) r e = grw (≈kit, ≈mod {p = q} (x + y), eval-sum f h r (omega arith)) (≈eq (omega arith))
 
 pub zip-table : (k : ℕ → ℕ → ℕ) (f h : ℕ → ℕ) (n : ℕ) → table (λ (i : ℕ). k (f i) (h i)) n ≡ zipTo k (table f n) (table h n)
-unfolding table zipTo
-zip-table k f h zero = refl
+unfolding zipTo
+zip-table k f h zero = rw (table-none, table-none)
 zip-table k f h (suc n) =
-    ap (λ (t : List ℕ). t ++ (k (f n) (h n) ∷ [])) (zip-table k f h n)
+    table-next (λ (i : ℕ). k (f i) (h i)) n
+    ∙ ap (λ (t : List ℕ). t ++ (k (f n) (h n) ∷ [])) (zip-table k f h n)
     ∙ sym (zip-append k (table f n) (f n ∷ []) (table h n) (h n ∷ []) (length-table f n ∙ sym (length-table h n)))
+    ∙ cc (table-next f n, table-next h n)
 
 -- ---- products place by place
 

@@ -34,8 +34,8 @@ module _ {p : ℕ} (d : ℕ) where
     same-halves = lower .long ∙ sym (upper .long)
 
     -- a list made of them
-    pub made : (h : ℕ → ℕ → ℕ) → ((a b : ℕ) → h a b < p) → Residues p (2 ^ d) (map2 h (take (2 ^ d) f) (drop (2 ^ d) f))
-    made h l = residues-map2 h l (take (2 ^ d) f) (drop (2 ^ d) f) (lower .long) (upper .long)
+    pub half-made : (h : ℕ → ℕ → ℕ) → ((a b : ℕ) → h a b < p) → Residues p (2 ^ d) (map2 h (take (2 ^ d) f) (drop (2 ^ d) f))
+    half-made h l = residues-map2 h l (take (2 ^ d) f) (drop (2 ^ d) f) (lower .long) (upper .long)
 
 -- ---- on two residues
 

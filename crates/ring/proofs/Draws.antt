@@ -4,7 +4,7 @@ use mathlib.Core.Path.{_≡_, refl, sym, ap, _∙_}
 use mathlib.Core.Bool.{true, false}
 use mathlib.Core.List.{List, [], _∷_, _++_, append-nil, append-assoc}
 use mathlib.Core.Option.{some, none}
-use Prim.Native.Nat.{ℕ, zero, suc, min, _+_, _-_, _*_, _/_, _%_, _≤_, _<_}
+use Prim.Native.Nat.{ℕ, zero, suc, min, _+_, _-_, _*_, _/_, _≤_, _<_}
 use native.Mathlib.Nat.{add-zero, add-suc}
 use native.Mathlib.Numerals.{add-one}
 use native.Mathlib.Decide.{decLt}
@@ -18,6 +18,8 @@ use Rattle.hash.specs.Endian.{le}
 use Rattle.hash.specs.Keccak.{State, keccakF}
 use Rattle.hash.specs.Shake.{absorbed, after, stream, shake256}
 use Rattle.hash.proofs.Table.{length-table, getD-table}
+use Rattle.hash.proofs.Output.{after-next, after-add, stream-after}
+use Rattle.hash.proofs.Word.{le-same}
 use Rattle.ring.specs.Words.{q, Below, Words}
 use Rattle.ring.specs.Checks.{filled}
 use Rattle.ring.specs.Uniform.{draw, keep, kept, draws, uniform, sampleQ, sampledOf, heldOf, Gathered}
@@ -25,15 +27,6 @@ use Rattle.ring.specs.declared.uniform.Sampled.{Sampled}
 use Rattle.ring.proofs.Sums.{below-append, below-take, words-zeros}
 
 -- ---- stretches of a stream
-
--- equal bytes give equal numbers, and equal draws
-le-same : (f g : ℕ → ℕ) (n : ℕ) → ((j : ℕ) → j < n → f j ≡ g j) → le f n ≡ le g n
-unfolding le
-le-same f g zero h = refl
-le-same f g (suc n) h =
-    let e : le f n ≡ le g n = le-same f g n (λ j l. h j (omega arith)) in
-    let d : f n ≡ g n = h n (omega arith) in
-    rw (e, d)
 
 -- t holds the bytes of s from draw n on, for m draws: the first n + m draws of s are its first n and m of t
 pub kept-more : (s t : List ℕ) (n m : ℕ) → ((j : ℕ) → j < 7 * m → getD t j 0 ≡ getD s (7 * n + j) 0) → kept s (n + m) ≡ kept s n ++ kept t m
@@ -117,18 +110,6 @@ gathered-more s b a a′ n m k r h g v w =
     ap (λ (l : List ℕ). take 512 (l ++ kept b m)) (v .front ∙ z) ∙ ap (take 512) (sym (kept-more s b n m h)) in
     record { long = w .long; count = w .count ∙ ap length x; front = w .front ∙ x }
 
--- the state after n blocks gives the stream from there on
-after-more : (S : State) (n i : ℕ) → after i (after n S) ≡ after (n + i) S
-unfolding after
-after-more S n zero = rw add-zero
-after-more S n (suc i) = rw (after-more S n i, add-suc)
-
-stream-after : (S : State) (n j : ℕ) → stream (after n S) j ≡ stream S (136 * n + j)
-stream-after S n j =
-    let d : (136 * n + j) / 136 ≡ n + j / 136 = omega arith in
-    let m : (136 * n + j) % 136 ≡ j % 136 = omega arith in
-    rw (d, m, after-more)
-
 -- refill i of six is the seven blocks that A gives; the last refill reads 97 draws
 module _ (S A : State) (i l : ℕ) (e : A ≡ after (7 * i) S) (z : l ≡ 952) where
   pub refilled : (b a a′ : List ℕ) (m k r : ℕ) → b ≡ table (stream A) l → i < 6 → m ≡ min 136 (777 - 136 * i) → k < 512
@@ -149,12 +130,11 @@ module _ (S A : State) (i l : ℕ) (e : A ≡ after (7 * i) S) (z : l ≡ 952) w
       rw x at (gathered-more (table (stream S) 5439) b a a′ n m k r y g v w)
 
   pub refill-next : (B C : State) → B ≡ after ((l - 1) / 136) A → C ≡ keccakF B → C ≡ after (7 * (i + 1)) S
-  unfolding after
   refill-next B C f g =
       let t : (l - 1) / 136 ≡ 6 = omega arith in
-      let u : 7 * i + 7 ≡ 7 * (i + 1) = omega arith in
+      let u : 7 + 7 * i ≡ 7 * (i + 1) = omega arith in
       let d : B ≡ after 6 (after (7 * i) S) = f ∙ rw (t, e) in
-      g ∙ ap keccakF d ∙ after-more S (7 * i) 7 ∙ ap (λ (x : ℕ). after x S) u
+      g ∙ ap keccakF d ∙ sym (after-next 6 (after (7 * i) S)) ∙ after-add 7 (7 * i) S ∙ ap (λ (x : ℕ). after x S) u
 
 -- ---- the polynomial
 

@@ -10,8 +10,8 @@ use Rattle.ring.specs.Poly.{map2}
 use Rattle.ring.specs.Residue.{up, down, join, part, fwd, bwd, scale}
 use Rattle.ring.proofs.Cong.{Eqv, ≈refl}
 use Rattle.ring.proofs.Places.{residues-map2, scale-append, scale-take, scale-drop, scale-map2, scale-one, scale-scale, maps}
-use Rattle.ring.proofs.Butterfly.{both-halves, lower, upper, same-halves, made, up-low, down-low, join-low, part-low, up-scale, down-scale, joined-all, parted-all, uped-all, downed-all}
-use Rattle.ring.proofs.Values.{Roots, half, inner, residues-fwd}
+use Rattle.ring.proofs.Butterfly.{both-halves, lower, upper, same-halves, half-made, up-low, down-low, join-low, part-low, up-scale, down-scale, joined-all, parted-all, uped-all, downed-all}
+use Rattle.ring.proofs.Values.{Roots, node-half, inner, residues-fwd}
 
 -- 2^(d + 1) as omega and cc want it
 pub pow-two : (d : ℕ) → 2 ^ suc d ≡ 2 * 2 ^ d
@@ -57,13 +57,13 @@ module _ {p n : ℕ} {z c m : ℕ → ℕ} (R : Roots p n z c m) where
   bwd-fwd zero k f s l h = sym (scale-one (R .pos) 1 ≈refl f (s .low))
   bwd-fwd (suc d) k f s l h =
       let i : k < n = inner R d k h in
-      let g : suc k * (2 * 2 ^ d) ≤ 2 * n = half R d k h in
+      let g : suc k * (2 * 2 ^ d) ≤ 2 * n = node-half R d k h in
       let lo : List ℕ = take (2 ^ d) f in
       let hi : List ℕ = drop (2 ^ d) f in
       let u : List ℕ = map2 (up p (z k)) (take (2 ^ d) f) (drop (2 ^ d) f) in
       let v : List ℕ = map2 (down p (z k)) (take (2 ^ d) f) (drop (2 ^ d) f) in
-      let su : Residues p (2 ^ d) u = made d f s (up p (z k)) (up-low (R .pos) (z k)) in
-      let sv : Residues p (2 ^ d) v = made d f s (down p (z k)) (down-low (R .pos) (z k)) in
+      let su : Residues p (2 ^ d) u = half-made d f s (up p (z k)) (up-low (R .pos) (z k)) in
+      let sv : Residues p (2 ^ d) v = half-made d f s (down p (z k)) (down-low (R .pos) (z k)) in
       let X : List ℕ = fwd p z d (2 * k) u in
       let Y : List ℕ = fwd p z d (2 * k + 1) v in
       let lx : length X ≡ 2 ^ d = residues-fwd (R .pos) z d (2 * k) u su .long in
@@ -88,7 +88,7 @@ module _ {p n : ℕ} {z c m : ℕ → ℕ} (R : Roots p n z c m) where
   fwd-bwd zero k f s l h = sym (scale-one (R .pos) 1 ≈refl f (s .low))
   fwd-bwd (suc d) k f s l h =
       let i : k < n = inner R d k h in
-      let g : suc k * (2 * 2 ^ d) ≤ 2 * n = half R d k h in
+      let g : suc k * (2 * 2 ^ d) ≤ 2 * n = node-half R d k h in
       let lo : List ℕ = take (2 ^ d) f in
       let hi : List ℕ = drop (2 ^ d) f in
       let u : List ℕ = bwd p z d (2 * m k + 1) (take (2 ^ d) f) in

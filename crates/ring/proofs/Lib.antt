@@ -2,13 +2,17 @@ pub mod Additive
 pub mod Blocks
 pub mod Bounds
 pub mod Butterfly
+pub mod Checks
 pub mod Cong
 pub mod Crt
 pub mod Draws
 pub mod Eval
+pub mod Filled
 pub mod Inverse
+pub mod Mapped
 pub mod Pairs
 pub mod Places
+pub mod Reduced
 pub mod Rests
 pub mod Signs
 pub mod Sums

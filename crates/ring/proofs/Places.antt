@@ -6,7 +6,7 @@ use native.Mathlib.Nat.{mod-lt}
 use native.Mathlib.Omega.{arith}
 use lib.ListN.{length, take, drop}
 use Rattle.hash.specs.Lists.{table}
-use Rattle.hash.proofs.Table.{length-table}
+use Rattle.hash.proofs.Table.{table-none, table-next, length-table}
 use Rattle.ring.specs.Words.{Below, Residues}
 use Rattle.ring.specs.Poly.{map2}
 use Rattle.ring.specs.Residue.{mods, scale}
@@ -51,16 +51,18 @@ mods-append p [] ys = refl
 mods-append p (x ∷ xs) ys = ap (λ (l : List ℕ). x % p ∷ l) (mods-append p xs ys)
 
 pub mods-table : (p : ℕ) (f : ℕ → ℕ) (n : ℕ) → mods p (table f n) ≡ table (λ (i : ℕ). f i % p) n
-unfolding table
-mods-table p f zero = refl
-mods-table p f (suc n) = mods-append p (table f n) (f n ∷ []) ∙ ap (λ (l : List ℕ). l ++ (f n % p ∷ [])) (mods-table p f n)
+mods-table p f zero = ap (mods p) (table-none f) ∙ sym (table-none (λ (i : ℕ). f i % p))
+mods-table p f (suc n) =
+    ap (mods p) (table-next f n)
+    ∙ mods-append p (table f n) (f n ∷ [])
+    ∙ ap (λ (l : List ℕ). l ++ (f n % p ∷ [])) (mods-table p f n)
+    ∙ sym (table-next (λ (i : ℕ). f i % p) n)
 
 -- ---- a table of residues
 
 below-table : (p : ℕ) (f : ℕ → ℕ) → ((i : ℕ) → f i < p) → (n : ℕ) → Below p (table f n)
-unfolding table
-below-table p f l zero = tt
-below-table p f l (suc n) = below-append p (table f n) (f n ∷ []) (below-table p f l n) (l n, tt)
+below-table p f l zero = rw table-none tt
+below-table p f l (suc n) = rw table-next (below-append p (table f n) (f n ∷ []) (below-table p f l n) (l n, tt))
 
 pub residues-table : {p : ℕ} (f : ℕ → ℕ) → ((i : ℕ) → f i < p) → (n : ℕ) → Residues p n (table f n)
 residues-table {p} f l n = record { long = length-table f n; low = below-table p f l n }

@@ -1,12 +1,11 @@
 -- Signed numbers in 64 bits: 0 - k for a number k below 2^63, and a small signed number, widened and turned.
-use mathlib.Core.Path.{_≡_, refl, ap, sym, _∙_, subst}
+use mathlib.Core.Path.{_≡_, ap, sym, _∙_, subst}
 use mathlib.Core.Bool.{true, false}
 use mathlib.Core.List.{List, [], _∷_}
 use Prim.Native.Nat.{ℕ, zero, suc, _-_, _%_, _^_, _<_, _≤_}
-use native.Mathlib.Nat.{mod-lt, mod-eq-of-lt, not-suc-le-zero}
+use native.Mathlib.Nat.{mod-lt, mod-eq-of-lt}
 use native.Mathlib.Omega.{arith}
 use lib.Dec.{T, lit<}
-use lib.ListN.{length, getD}
 use lib.Signed.{mag, nonNeg, leZ}
 use lib.IntN.{ℤ, pos, negsuc, negℤ, natAbs, _-ℤ_, +ℤ-idl}
 use mir.Syntax.{w8, w64}
@@ -20,14 +19,14 @@ minus : (k : ℕ) → k < 2 ^ 63 → SFits w64 (negℤ (pos k))
 minus zero h = record { sfits = h }
 minus (suc k) h = record { sfits = omega arith }
 
-pub minus-is : (k : ℕ) → k < 2 ^ 63 → pos 0 -ℤ toZ w64 k ≡ negℤ (pos k)
-minus-is k h = ap (λ (z : ℤ). pos 0 -ℤ z) (toZ-pos w64 h) ∙ +ℤ-idl (negℤ (pos k))
+pub zero-minus : (k : ℕ) → k < 2 ^ 63 → pos 0 -ℤ toZ w64 k ≡ negℤ (pos k)
+zero-minus k h = ap (λ (z : ℤ). pos 0 -ℤ z) (toZ-pos w64 h) ∙ +ℤ-idl (negℤ (pos k))
 
 pub minus-fits : (k : ℕ) → k < 2 ^ 63 → SFits w64 (pos 0 -ℤ toZ w64 k)
-minus-fits k h = subst (SFits w64) (sym (minus-is k h)) (minus k h)
+minus-fits k h = subst (SFits w64) (sym (zero-minus k h)) (minus k h)
 
 pub minus-value : (k : ℕ) → k < 2 ^ 63 → toZ w64 (ofZ w64 (pos 0 -ℤ toZ w64 k)) ≡ negℤ (pos k)
-minus-value k h = toZ-ofZ (minus-fits k h) ∙ minus-is k h
+minus-value k h = toZ-ofZ (minus-fits k h) ∙ zero-minus k h
 
 -- ---- a number of 8 bits
 
@@ -98,18 +97,7 @@ unfolding residue
 residue-low (pos n) = mod-lt n (lit< tt)
 residue-low (negsuc n) = mod-lt (q - suc n % q) (lit< tt)
 
-pub length-residues : (zs : List ℤ) → length (residues q zs) ≡ length zs
-unfolding residues
-length-residues [] = refl
-length-residues (z ∷ zs) = ap suc (length-residues zs)
-
 pub below-residues : (zs : List ℤ) → Below q (residues q zs)
 unfolding residues
 below-residues [] = tt
 below-residues (z ∷ zs) = (residue-low z, below-residues zs)
-
-pub residues-at : (zs : List ℤ) (d : ℤ) (i : ℕ) → i < length zs → getD (residues q zs) i 0 ≡ residue q (getD zs i d)
-unfolding residues
-residues-at [] d i h = absurd (not-suc-le-zero h)
-residues-at (z ∷ zs) d zero h = refl
-residues-at (z ∷ zs) d (suc i) h = residues-at zs d i (omega arith)

@@ -32,6 +32,11 @@ pub addq-assoc : (a b c : ℕ) → addq (addq a b) c ≡ addq a (addq b c)
 unfolding addq
 addq-assoc a b c = omega arith
 
+-- a sum before it is reduced, and one more
+pub addq-rest : (a b : ℕ) → addq (a % q) b ≡ (a + b) % q
+unfolding addq
+addq-rest a b = omega arith
+
 pub addq-zero : (a : ℕ) → a < q → addq 0 a ≡ a
 unfolding addq
 addq-zero a h = omega arith

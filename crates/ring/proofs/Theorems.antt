@@ -47,10 +47,10 @@ pointwise-words a b ha hb = residues-map2 (timesp q) (λ (x : ℕ) (y : ℕ). mo
 -- ---- by the two primes
 
 -- the transform from those modulo the primes
-pub ntt-by-rests : (f : List ℕ) → Words 512 f
+pub ntt-by-rests : (f : List ℕ) → length f ≡ 512
     → map2 crtOf (fwd (prime true) (rootOf true) 9 1 (mods (prime true) f)) (fwd (prime false) (rootOf false) 9 1 (mods (prime false) f)) ≡ ntt f
-ntt-by-rests f h =
-    maps crtOf (sym (ntt-rest true f (h .long))) (sym (ntt-rest false f (h .long))) ∙ crt-mods (ntt f) (ntt-words f .low)
+ntt-by-rests f e =
+    maps crtOf (sym (ntt-rest true f e)) (sym (ntt-rest false f e)) ∙ crt-mods (ntt f) (ntt-words f .low)
 
 -- a product modulo q from those modulo the primes
 pub pointwise-rests : (a b : ℕ)

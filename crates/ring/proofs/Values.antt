@@ -7,12 +7,13 @@ use native.Mathlib.Omega.{arith}
 use lib.Pow.{pow-add, pow-pos}
 use lib.ListN.{length, take, drop, take-append-drop}
 use Rattle.hash.specs.Lists.{table}
+use Rattle.hash.proofs.Table.{table-none, table-next}
 use Rattle.ring.specs.Words.{Residues}
 use Rattle.ring.specs.Poly.{eval, map2, prod}
 use Rattle.ring.specs.Residue.{up, down, timesp, fwd}
 use Rattle.ring.proofs.Cong.{Eqv, ≈sym, ≈trans, ≈eq, ≈mod, ≈kit, square-neg}
 use Rattle.ring.proofs.Eval.{eval-append, eval-map2, eval-prod, residues-prod}
-use Rattle.ring.proofs.Butterfly.{both-halves, lower, same-halves, made, up-low, down-low, up-is, down-is}
+use Rattle.ring.proofs.Butterfly.{both-halves, lower, same-halves, half-made, up-low, down-low, up-is, down-is}
 
 -- what the tables have to meet: x^(size of k) = c k at node k; n nodes above the leaves; m k is the node that mirrors k
 pub record Roots (p n : ℕ) (z c m : ℕ → ℕ) : Type 0 where
@@ -39,10 +40,12 @@ evals-append p f [] ss = refl
 evals-append p f (r ∷ rs) ss = ap (λ (l : List ℕ). eval f r % p ∷ l) (evals-append p f rs ss)
 
 pub evals-table : (p : ℕ) (f : List ℕ) (h : ℕ → ℕ) (n : ℕ) → evals p f (table h n) ≡ table (λ (i : ℕ). eval f (h i) % p) n
-unfolding table
-evals-table p f h zero = refl
+evals-table p f h zero = ap (evals p f) (table-none h) ∙ sym (table-none (λ (i : ℕ). eval f (h i) % p))
 evals-table p f h (suc n) =
-    evals-append p f (table h n) (h n ∷ []) ∙ ap (λ (l : List ℕ). l ++ (eval f (h n) % p ∷ [])) (evals-table p f h n)
+    ap (evals p f) (table-next h n)
+    ∙ evals-append p f (table h n) (h n ∷ [])
+    ∙ ap (λ (l : List ℕ). l ++ (eval f (h n) % p ∷ [])) (evals-table p f h n)
+    ∙ sym (table-next (λ (i : ℕ). eval f (h i) % p) n)
 
 -- P at each entry
 abbrev All : (ℕ → Type 0) → List ℕ → Type 0
@@ -85,25 +88,25 @@ residues-fwd {p} pos z (suc d) k f r =
     let u : List ℕ = map2 (up p (z k)) (take (2 ^ d) f) (drop (2 ^ d) f) in
     let v : List ℕ = map2 (down p (z k)) (take (2 ^ d) f) (drop (2 ^ d) f) in
     both-halves d (fwd p z d (2 * k) u) (fwd p z d (2 * k + 1) v)
-    (residues-fwd pos z d (2 * k) u (made d f r (up p (z k)) (up-low pos (z k))))
-    (residues-fwd pos z d (2 * k + 1) v (made d f r (down p (z k)) (down-low pos (z k))))
+    (residues-fwd pos z d (2 * k) u (half-made d f r (up p (z k)) (up-low pos (z k))))
+    (residues-fwd pos z d (2 * k + 1) v (half-made d f r (down p (z k)) (down-low pos (z k))))
 
 module _ {p n : ℕ} {z c m : ℕ → ℕ} (R : Roots p n z c m) where
   -- node k with d levels below it is in the tree
-  pub half : (d k : ℕ) → suc k * 2 ^ suc d ≤ 2 * n → suc k * (2 * 2 ^ d) ≤ 2 * n
-  half d k h =
+  pub node-half : (d k : ℕ) → suc k * 2 ^ suc d ≤ 2 * n → suc k * (2 * 2 ^ d) ≤ 2 * n
+  node-half d k h =
       let e : 2 ^ suc d ≡ 2 * 2 ^ d = omega arith in
       rw e at h
 
   pub inner : (d k : ℕ) → suc k * 2 ^ suc d ≤ 2 * n → k < n
-  inner d k h = omega (arith, half d k h, mul-le-mul-left (suc k) (pow-pos d))
+  inner d k h = omega (arith, node-half d k h, mul-le-mul-left (suc k) (pow-pos d))
 
   roots : (d k : ℕ) → 0 < k → suc k * 2 ^ d ≤ 2 * n → All (λ (r : ℕ). Eqv p (r ^ (2 ^ d)) (c k)) (pts c d k)
   unfolding pts
   roots zero k l h = (≈eq (pow-suc (c k) 0 ∙ rw pow-zero (omega arith)), tt)
   roots (suc d) k l h =
       let i : k < n = inner d k h in
-      let g : suc k * (2 * 2 ^ d) ≤ 2 * n = half d k h in
+      let g : suc k * (2 * 2 ^ d) ≤ 2 * n = node-half d k h in
       all-append _ (pts c d (2 * k)) (pts c d (2 * k + 1))
       (all-map _ _
       (λ r (e : Eqv p (r ^ (2 ^ d)) (c (2 * k))).
@@ -123,18 +126,18 @@ module _ {p n : ℕ} {z c m : ℕ → ℕ} (R : Roots p n z c m) where
   fwd-eval zero k (a ∷ b ∷ f) s l h = absurd (omega (arith, s .long))
   fwd-eval (suc d) k f s l h =
       let i : k < n = inner d k h in
-      let g : suc k * (2 * 2 ^ d) ≤ 2 * n = half d k h in
+      let g : suc k * (2 * 2 ^ d) ≤ 2 * n = node-half d k h in
       let u : List ℕ = map2 (up p (z k)) (take (2 ^ d) f) (drop (2 ^ d) f) in
       let v : List ℕ = map2 (down p (z k)) (take (2 ^ d) f) (drop (2 ^ d) f) in
       let at-u : fwd p z d (2 * k) u ≡ evals p f (pts c d (2 * k)) =
-      fwd-eval d (2 * k) u (made d f s (up p (z k)) (up-low (R .pos) (z k))) (omega arith) (omega arith)
+      fwd-eval d (2 * k) u (half-made d f s (up p (z k)) (up-low (R .pos) (z k))) (omega arith) (omega arith)
       ∙ evals-same p u f (pts c d (2 * k))
       (all-map _ _
       (λ r (e : Eqv p (r ^ (2 ^ d)) (c (2 * k))).
       eval-half d f s (up p (z k)) (z k) (up-is (R .pos) (z k)) r (≈trans e (R .left k l i)))
       (pts c d (2 * k)) (roots d (2 * k) (omega arith) (omega arith))) in
       let at-v : fwd p z d (2 * k + 1) v ≡ evals p f (pts c d (2 * k + 1)) =
-      fwd-eval d (2 * k + 1) v (made d f s (down p (z k)) (down-low (R .pos) (z k))) (omega arith) (omega arith)
+      fwd-eval d (2 * k + 1) v (half-made d f s (down p (z k)) (down-low (R .pos) (z k))) (omega arith) (omega arith)
       ∙ evals-same p v f (pts c d (2 * k + 1))
       (all-map _ _
       (λ r (e : Eqv p (r ^ (2 ^ d)) (c (2 * k + 1))).

@@ -18,7 +18,8 @@ root i = g ^ (2 * rev 9 i + 1) % q
 unfoldable pub ntt : List ℕ → List ℕ
 ntt f = table (λ (i : ℕ). eval f (root i) % q) 512
 
--- its inverse: the one polynomial of 512 words whose transform is x (theorems `ntt-intt`, `intt-ntt`)
+-- its inverse: the one polynomial of 512 words whose transform is x, as the contract of `poly::intt` promises (theorem `ntt-intt`; that
+-- there is no other: `intt-ntt`)
 unfoldable pub intt : List ℕ → List ℕ
 intt x = map2 crtOf (backOne true (mods (prime true) x)) (backOne false (mods (prime false) x))
 

@@ -16,7 +16,6 @@ const Q: u64 = 549824583172097;
 
 // The transform.
 pub fn ntt(f: [u64; 512]) -> [u64; 512]
-    requires { ⌜ Words 512 f ⌝ }
     ensures { λ r. ⌜ (r ≡ ntt f) × Words 512 r ⌝ }
 {
     let mut a = f;
@@ -27,10 +26,9 @@ pub fn ntt(f: [u64; 512]) -> [u64; 512]
     a
 }
 
-// Its inverse.
+// Its inverse. Where x is words below q, x is the transform of what it gives.
 pub fn intt(x: [u64; 512]) -> [u64; 512]
-    requires { ⌜ Words 512 x ⌝ }
-    ensures { λ r. ⌜ (r ≡ intt x) × Words 512 r ⌝ }
+    ensures { λ r. ⌜ (r ≡ intt x) × Words 512 r × (Words 512 x → ntt r ≡ x) ⌝ }
 {
     let mut a = x;
     let mut b = x;
@@ -148,7 +146,6 @@ pub fn sub(a: [u64; 512], b: [u64; 512]) -> [u64; 512]
 
 // The product of two transforms.
 pub fn pointwise(a: [u64; 512], b: [u64; 512]) -> [u64; 512]
-    requires { ⌜ Words 512 a × Words 512 b ⌝ }
     ensures { λ r. ⌜ (r ≡ pointwise a b) × Words 512 r ⌝ }
 {
     let mut r = a;
@@ -158,7 +155,7 @@ pub fn pointwise(a: [u64; 512], b: [u64; 512]) -> [u64; 512]
 
 // acc and the product of a and b.
 pub fn mul_add(acc: [u64; 512], a: [u64; 512], b: [u64; 512]) -> [u64; 512]
-    requires { ⌜ Words 512 acc × Words 512 a × Words 512 b ⌝ }
+    requires { ⌜ Words 512 acc ⌝ }
     ensures { λ r. ⌜ (r ≡ addW acc (pointwise a b)) × Words 512 r ⌝ }
 {
     let p = pointwise(a, b);

@@ -13,7 +13,7 @@ use Rattle.sharing.specs.Noise.{noiseHeader, sampleU}
 use Rattle.sharing.proofs.Lists.{inside, block-words, build-add, blocks-all}
 use Rattle.sharing.proofs.Regions.{sub-words, wrote-value, wrote-turn, wrote-end}
 use Rattle.sharing.proofs.Totals.{skip-none}
-use Rattle.sharing.proofs.Turns.{rest, rep-start, rep-turn}
+use Rattle.sharing.proofs.Turns.{block-rest, rep-start, rep-turn}
 
 -- f j added to share j of X
 abbrev pub added : (ℕ → List ℕ) → List ℕ → ℕ → List ℕ
@@ -24,7 +24,7 @@ module _ (f : ℕ → List ℕ) (d at j : ℕ) (s₀ s : List ℕ) (u : Wrote 0 
       → Wrote 0 at ((j + 1) * 512) (build (j + 1) (added f (sub s₀ at (d * 512)))) s₀ t
   added-turn t l v =
       let g = added f (sub s₀ at (d * 512)) in
-      let e = rest 0 512 d at j s₀ s l (build j g) (omega arith) u in
+      let e = block-rest 0 512 d at j s₀ s l (build j g) (omega arith) u in
       wrote-turn 512 j g (omega arith) u (wrote-value (ap (λ (x : List ℕ). addW x (f j)) e) v)
 
   pub added-end : ((i : ℕ) → i < d → length (f i) ≡ 512) → at + d * 512 ≤ length s₀ → Below q s₀ → j ≡ d

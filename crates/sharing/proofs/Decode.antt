@@ -7,7 +7,7 @@ use native.Mathlib.Nat.{add-zero, add-suc}
 use native.Mathlib.Omega.{arith}
 use lib.ListN.{length, getD, getD-replicate, length-replicate}
 use Rattle.ring.specs.Words.{q, addq, addW, Words, Linear}
-use Rattle.ring.proofs.Sums.{residues-append, length-zip, zip-at, words-add, add-assoc, add-swap, linear-zero}
+use Rattle.ring.proofs.Sums.{addq-rest, residues-append, length-zip, zip-at, words-add, add-assoc, add-swap, linear-zero}
 use Rattle.sharing.specs.Blocks.{zeros, block, build, sumOf, sumN, total, totals}
 use Rattle.sharing.proofs.Lists.{zeros-words, add-zeros-left, add-zeros-right, block-words, block-add, block-left, block-right, build-ext, words-build, block-build, build-add, build-zeros}
 
@@ -174,14 +174,16 @@ block-totals n d i xs l =
 
 pub sum-at : (w n : ℕ) (f : ℕ → List ℕ) → ((i : ℕ) → i < n → length (f i) ≡ w) → (x : ℕ) → x < w
     → getD (sumOf w n f) x 0 ≡ sumN n (λ (j : ℕ). getD (f j) x 0) % q
-unfolding sumOf sumN addq zeros
+unfolding sumOf sumN zeros
 sum-at w zero f h x l = getD-replicate {A = ℕ} w x 0 0 l
 sum-at w (suc n) f h x l =
     let r : getD (sumOf w n f) x 0 ≡ sumN n (λ (j : ℕ). getD (f j) x 0) % q =
     sum-at w n f (λ (i : ℕ) (l : i < n). h i (omega arith)) x l in
     let a : x < length (sumOf w n f) = omega (arith, length-sum w n f) in
     let b : x < length (f n) = omega (arith, h n (omega arith)) in
-    zip-at addq (sumOf w n f) (f n) x a b ∙ omega arith
+    zip-at addq (sumOf w n f) (f n) x a b
+    ∙ ap (λ (y : ℕ). addq y (getD (f n) x 0)) r
+    ∙ addq-rest (sumN n (λ (j : ℕ). getD (f j) x 0)) (getD (f n) x 0)
 
 -- 01: at each place the sum of the d share words modulo q
 pub total-at : (d : ℕ) (xs : List ℕ) → Words (d * 512) xs → (x : ℕ) → x < 512

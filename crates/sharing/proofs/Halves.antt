@@ -7,9 +7,9 @@ use lib.Dec.{T, eqb, eqb→eq}
 use lib.ListN.{length, take, drop, length-append, length-drop, drop-of-length-le}
 use lib.Pow.{pow-pos}
 use lib.Seq.{length-take-le, take-at, drop-at}
-use Rattle.hash.specs.Params.{orderIndex}
+use Rattle.hash.specs.Params.{orderIndex, ShareCount}
 use Rattle.hash.proofs.Computed.{below, at}
-use Rattle.hash.proofs.Rows.{order-le}
+use Rattle.hash.proofs.Rows.{order-le, count-power, count-half}
 use Rattle.sharing.specs.Blocks.{zeros}
 use Rattle.sharing.specs.Region.{put}
 use Rattle.sharing.specs.Encoding.{Generator, pairs, later, polys, zeroAfter, zeroEncoding}
@@ -26,6 +26,7 @@ order-power k h = eqb→eq _ _ (at (λ (k : ℕ). eqb (orderIndex (2 ^ k)) k) 7 
 
 pub record Half (d : ℕ) : Type 0 where
   pub index : orderIndex d ≡ suc (orderIndex (d / 2))
+  pub count : ShareCount (d / 2)
   pub power : d / 2 ≡ 2 ^ orderIndex (d / 2)
   pub twice : d ≡ d / 2 + d / 2
   pub less : d / 2 < d
@@ -37,11 +38,11 @@ halved d (suc j) n e =
     let o = pow-pos j in
     (j, refl, omega arith, omega arith, omega arith)
 
-pub half : (d : ℕ) → d ≡ 2 ^ orderIndex d → (d ≡ 1 → ⊥) → Half d
-half d e n =
-    let h = halved d (orderIndex d) n e in
+pub half : (d : ℕ) → ShareCount d → (d ≡ 1 → ⊥) → Half d
+half d c n =
+    let h = halved d (orderIndex d) n (count-power d c) in
     let o : orderIndex (d / 2) ≡ h .0 = ap orderIndex (h .2) ∙ order-power (h .0) (omega (arith, order-le d, h .1)) in
-    record { index = h .1 ∙ ap suc (sym o); power = h .2 ∙ ap (λ (k : ℕ). 2 ^ k) (sym o); twice = h .3; less = h .4 }
+    record { index = h .1 ∙ ap suc (sym o); count = count-half d c n; power = h .2 ∙ ap (λ (k : ℕ). 2 ^ k) (sym o); twice = h .3; less = h .4 }
 
 -- ---- the two halves of a buffer s of d shares, lent as s[..m] and then s[m..], m being d / 2 * 512
 

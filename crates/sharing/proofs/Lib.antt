@@ -1,13 +1,16 @@
 pub mod Added
+pub mod Built
 pub mod Carry
 pub mod Decode
 pub mod Halves
 pub mod Held
 pub mod Lists
 pub mod Loops
+pub mod NoisePlaces
 pub mod Pairs
 pub mod Regions
 pub mod Samples
+pub mod Scratch
 pub mod Small
 pub mod Totals
 pub mod Turns

@@ -1,14 +1,14 @@
 -- Lists of words by blocks: blocks of a list, and lists built block by block.
 use mathlib.Core.Path.{_≡_, refl, sym, ap, _∙_}
-use mathlib.Core.List.{List, _++_, append-nil, append-assoc}
+use mathlib.Core.List.{List, [], _++_, append-nil, append-assoc}
 use Prim.Native.Nat.{ℕ, zero, suc, _+_, _*_, _≤_, _<_}
 use native.Mathlib.Nat.{not-suc-le-zero, mul-le-mul-right, suc-mul, zero-mul, add-zero, add-suc}
 use native.Mathlib.Decide.{decLt}
 use native.Mathlib.Omega.{arith}
 use lib.ListN.{length, take, drop, getD, replicate, length-append, length-drop, replicate-append-replicate}
 use lib.Seq.{take-append-le, drop-append-le, take-add, take-all, drop-at, drop-append-add, getD-take, getD-drop, length-take-le}
-use Rattle.ring.specs.Words.{q, addq, zipTo, addW, Words}
-use Rattle.ring.proofs.Sums.{below-take, below-drop, residues-append, zip-drop, zip-take, zip-append, length-zip, words-zeros, add-zero-left, add-zero-right}
+use Rattle.ring.specs.Words.{q, addq, addW, Words}
+use Rattle.ring.proofs.Sums.{below-take, below-drop, residues-append, zip-drop, zip-take, zip-append, zip-none, length-zip, words-zeros, add-zero-left, add-zero-right}
 use Rattle.sharing.specs.Blocks.{zeros, block, build}
 
 -- ---- zeros
@@ -119,8 +119,8 @@ blocks-all w n xs h = build-blocks w n xs (omega arith) ∙ take-all (n * w) xs 
 -- sums block by block
 pub build-add : (w n : ℕ) (f g : ℕ → List ℕ) → ((j : ℕ) → j < n → length (f j) ≡ w) → ((j : ℕ) → j < n → length (g j) ≡ w)
     → build n (λ (j : ℕ). addW (f j) (g j)) ≡ addW (build n f) (build n g)
-unfolding build zipTo
-build-add w zero f g a b = refl
+unfolding build
+build-add w zero f g a b = sym (zip-none addq [])
 build-add w (suc n) f g a b =
     let a′ : (j : ℕ) → j < n → length (f j) ≡ w = λ (j : ℕ) (l : j < n). a j (omega arith) in
     let b′ : (j : ℕ) → j < n → length (g j) ≡ w = λ (j : ℕ) (l : j < n). b j (omega arith) in

@@ -29,9 +29,9 @@ module _ (f : ℕ → ℕ → ℕ) where
         ap (zipTo f xs) (sym (append-nil m)) ∙ zip-more [] ∙ ap (λ (t : List ℕ). zipTo f (take n xs) m ++ t) (zip-none f (drop n xs))
 
   -- a block of k words more
-  pub zip-block : (xs m y : List ℕ) (n k : ℕ) → length m ≡ n → length y ≡ k → n + k ≤ length xs
+  pub zip-put : (xs m y : List ℕ) (n k : ℕ) → length m ≡ n → length y ≡ k → n + k ≤ length xs
       → put (zipTo f xs m) n k (zipTo f (sub (zipTo f xs m) n k) y) ≡ zipTo f xs (m ++ y)
-  zip-block xs m y n k hm hy h =
+  zip-put xs m y n k hm hy h =
       let A = zipTo f (take n xs) m in
       let W = drop n xs in
       let a : length A ≡ n = length-zip f (take n xs) m ∙ length-take-le n xs (omega arith) in
@@ -69,7 +69,7 @@ pairs-left l r m y n k hm hy h =
     let e : sub (addW l m ++ subW r m) n k ≡ sub (addW l m) n k = sub-left (addW l m) (subW r m) n k (omega arith) in
     rw e
     (put-left (addW l m) (subW r m) n k (addW (sub (addW l m) n k) y) (omega arith)
-    ∙ ap (λ (t : List ℕ). t ++ subW r m) (zip-block addq l m y n k hm hy h))
+    ∙ ap (λ (t : List ℕ). t ++ subW r m) (zip-put addq l m y n k hm hy h))
 
 pub pairs-right : (l r m y : List ℕ) (a n k : ℕ) → length l ≡ a → length m ≡ n → length y ≡ k → n + k ≤ length r
     → put (addW l (m ++ y) ++ subW r m) (a + n) k (subW (sub (addW l (m ++ y) ++ subW r m) (a + n) k) y) ≡ pairs l r (m ++ y)
@@ -79,7 +79,7 @@ pairs-right l r m y a n k hl hm hy h =
     let e : sub (addW l (m ++ y) ++ subW r m) (a + n) k ≡ sub (subW r m) n k = sub-right (addW l (m ++ y)) (subW r m) a n k z in
     rw e
     (put-right (addW l (m ++ y)) (subW r m) a n k (subW (sub (subW r m) n k) y) z
-    ∙ ap (λ (t : List ℕ). addW l (m ++ y) ++ t) (zip-block subq r m y n k hm hy h))
+    ∙ ap (λ (t : List ℕ). addW l (m ++ y) ++ t) (zip-put subq r m y n k hm hy h))
 
 -- ---- the loop over h pairs of polynomials: s₀ is the buffer where it begins, x the generator there
 
@@ -106,8 +106,8 @@ module _ (G : Generator) (words : (g : G .State) → Words 512 (G .poly g)) (s�
       (ap (pairs (take (h * 512) s₀) (drop (h * 512) s₀)) (polys-none G x) ∙ pairs-none (take (h * 512) s₀) (drop (h * 512) s₀)
       ∙ take-append-drop (h * 512) s₀)
 
-  pub masked-words : (j : ℕ) → Words (h * 512 + h * 512) (masked G s₀ h x j)
-  masked-words j =
+  pub pairs-words : (j : ℕ) → Words (h * 512 + h * 512) (masked G s₀ h x j)
+  pairs-words j =
       let a = len-left in
       let b = len-right in
       record {

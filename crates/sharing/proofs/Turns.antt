@@ -8,7 +8,7 @@ use native.Mathlib.Omega.{arith}
 use lib.ListN.{length}
 use Rattle.ring.specs.Words.{q, addW, Below, Words}
 use Rattle.ring.proofs.Sums.{words-add}
-use Rattle.sharing.specs.Blocks.{block, build, total, totals, each}
+use Rattle.sharing.specs.Blocks.{block, build, total, totals}
 use Rattle.sharing.specs.Region.{sub, put, Wrote}
 use Rattle.sharing.specs.Encoding.{Generator, skip, zeroNo, addRep, addNoise, zeroVector, refreshed}
 use Rattle.sharing.proofs.Lists.{inside, add-blocks}
@@ -17,15 +17,15 @@ use Rattle.sharing.proofs.Regions.{sub-words, block-sub, wrote-put, wro
 
 -- block i of the region is still the old one, in a loop that has reached it, and in one that writes behind it
 module _ (n w m at i : ℕ) (s₀ s : List ℕ) (l : i < m) where
-  pub rest : (X : List ℕ) → n ≤ at → Wrote n at (i * w) X s₀ s → sub s (at + i * w) w ≡ block w i (sub s₀ at (m * w))
-  rest X h u = u .behind (at + i * w) w (omega arith) (omega arith) ∙ sym (block-sub w m i s₀ at l)
+  pub block-rest : (X : List ℕ) → n ≤ at → Wrote n at (i * w) X s₀ s → sub s (at + i * w) w ≡ block w i (sub s₀ at (m * w))
+  block-rest X h u = u .behind (at + i * w) w (omega arith) (omega arith) ∙ sym (block-sub w m i s₀ at l)
 
   pub source : (to k : ℕ) (X : List ℕ) → n ≤ at → at + m * w ≤ to → Wrote n to k X s₀ s → sub s (at + i * w) w ≡ block w i (sub s₀ at (m * w))
   source to k X h g u =
       let o : i * w + w ≤ m * w = inside i m w l in
       u .front (at + i * w) w (omega arith) (omega arith) ∙ sym (block-sub w m i s₀ at l)
 
--- ---- F at each block in place: `each` and its like
+-- ---- F at each block in place
 
 pub map-turn : (F : List ℕ → List ℕ) (n w m at i : ℕ) (s₀ s t : List ℕ) → n ≤ at → i < m
     → Wrote n at (i * w) (build i (λ (j : ℕ). F (block w j (sub s₀ at (m * w))))) s₀ s
@@ -33,13 +33,7 @@ pub map-turn : (F : List ℕ → List ℕ) (n w m at i : ℕ) (s₀ s t : List �
     → Wrote n at ((i + 1) * w) (build (i + 1) (λ (j : ℕ). F (block w j (sub s₀ at (m * w))))) s₀ t
 map-turn F n w m at i s₀ s t h l u v =
     let f : ℕ → List ℕ = λ (j : ℕ). F (block w j (sub s₀ at (m * w))) in
-    wrote-turn w i f h u (wrote-value (ap F (rest n w m at i s₀ s l (build i f) h u)) v)
-
-pub each-end : (F : List ℕ → List ℕ) (n d at i : ℕ) (s₀ s : List ℕ) → i ≡ d
-    → Wrote n at (i * 512) (build i (λ (j : ℕ). F (block 512 j (sub s₀ at (d * 512))))) s₀ s
-    → Wrote n at (d * 512) (each d F (sub s₀ at (d * 512))) s₀ s
-unfolding each
-each-end F n d at i s₀ s e u = wrote-end 512 (λ (j : ℕ). F (block 512 j (sub s₀ at (d * 512)))) e u
+    wrote-turn w i f h u (wrote-value (ap F (block-rest n w m at i s₀ s l (build i f) h u)) v)
 
 -- ---- the sums of m sharings at `at`, written behind them
 
@@ -70,7 +64,7 @@ module _ (d at : ℕ) (s₀ : List ℕ) (h : d * 512 ≤ at) (g : at + d * 512 �
   scratch-turn j s t p l u e v =
       let n : length s ≡ length s₀ = u .long in
       let a : sub s (at + j * 512) 512 ≡ block 512 j (sub s₀ at (d * 512)) =
-      rest 0 512 d at j s₀ s l (build j (scratched d at s₀)) (omega arith) u in
+      block-rest 0 512 d at j s₀ s l (build j (scratched d at s₀)) (omega arith) u in
       let b : sub s (0 + j * 512) 512 ≡ block 512 j (sub s₀ 0 (d * 512)) =
       source 0 512 d 0 j s₀ s l at (j * 512) (build j (scratched d at s₀)) (omega arith) (omega arith) u in
       let z : 0 + j * 512 ≡ j * 512 = omega arith in
@@ -96,6 +90,11 @@ refresh-made d at Z s₀ s₁ s₂ h v w =
     let e : addW (sub s₁ at (d * 512)) (sub s₁ 0 (d * 512)) ≡ addW (sub s₀ at (d * 512)) Z = cc (a, b) in
     wrote-scratch (omega arith) (omega arith) v (wrote-wide (omega arith) (wrote-value e w))
 
+-- .. which stays in the scratch
+pub refresh-kept : (d at : ℕ) (Z Y s₀ s₁ s₂ : List ℕ) → d * 512 ≤ at → Wrote 0 0 (d * 512) Z s₀ s₁ → Wrote 0 at (d * 512) Y s₁ s₂
+    → sub s₂ 0 (d * 512) ≡ Z
+refresh-kept d at Z Y s₀ s₁ s₂ h v w = w .front 0 (d * 512) (omega arith) (omega arith) ∙ v .new
+
 -- ---- steps with zero encodings: g is the generator where the loop begins, x before the turn
 
 module _ (G : Generator) (d : ℕ) where
@@ -107,6 +106,11 @@ module _ (G : Generator) (d : ℕ) where
 
   abbrev pub noised : G .State → ℕ → (ℕ → ℕ → List ℕ) → List ℕ → ℕ → List ℕ
   noised g r f X i = addRep G d (skip G d (i * r) g) r (f i) (block (d * 512) i X)
+
+  -- noise at m sharings is the list of its blocks
+  pub noise-built : (g : G .State) (m r : ℕ) (f : ℕ → ℕ → List ℕ) (X : List ℕ) → addNoise G d g m r f X ≡ build m (noised g r f X)
+  unfolding addNoise
+  noise-built g m r f X = refl
 
   -- the repetitions at one sharing
   pub rep-start : (g : G .State) (n at : ℕ) (f : ℕ → List ℕ) (s₀ : List ℕ) → Below q s₀
@@ -149,7 +153,7 @@ module _ (G : Generator) (d : ℕ) where
     refresh-turn t l e u v =
         let X = sub s₀ at (m * (d * 512)) in
         let a : zeroNo G d 0 x ≡ zeroNo G d i g = zero-here G d i g x e in
-        let b : sub s (at + i * (d * 512)) (d * 512) ≡ block (d * 512) i X = rest n (d * 512) m at i s₀ s l (build i (renewed g X)) h u in
+        let b : sub s (at + i * (d * 512)) (d * 512) ≡ block (d * 512) i X = block-rest n (d * 512) m at i s₀ s l (build i (renewed g X)) h u in
         wrote-turn (d * 512) i (renewed g X) h u (wrote-value (cc (a, b)) v)
 
     pub noise-turn : (r : ℕ) (f : ℕ → ℕ → List ℕ) (t : List ℕ) → i < m → x ≡ skip G d (i * r) g
@@ -158,7 +162,7 @@ module _ (G : Generator) (d : ℕ) where
         → Wrote n at ((i + 1) * (d * 512)) (build (i + 1) (noised g r f (sub s₀ at (m * (d * 512))))) s₀ t
     noise-turn r f t l e u v =
         let X = sub s₀ at (m * (d * 512)) in
-        let b : sub s (at + i * (d * 512)) (d * 512) ≡ block (d * 512) i X = rest n (d * 512) m at i s₀ s l (build i (noised g r f X)) h u in
+        let b : sub s (at + i * (d * 512)) (d * 512) ≡ block (d * 512) i X = block-rest n (d * 512) m at i s₀ s l (build i (noised g r f X)) h u in
         wrote-turn (d * 512) i (noised g r f X) h u (wrote-value (cc (e, b)) v)
 
     -- the loop is over

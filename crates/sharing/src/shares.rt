@@ -7,6 +7,7 @@ ghost use Rattle.sharing.specs.Blocks.{zeros, total};
 ghost use Rattle.sharing.specs.Region.{sub, Wrote};
 use crate::region::load;
 use crate::region::store_at;
+use hash::params::Params;
 use ring::poly::add_into;
 
 // The zero polynomial.
@@ -17,10 +18,11 @@ fn zero_poly() -> [u64; 512]
 }
 
 // Algorithm 13: the sum of the d shares at `at`.
-pub fn sum_shares(s: &[u64], at: usize, d: usize) -> [u64; 512]
-    requires { ⌜ (at + d * 512 ≤ length (now s)) × Below q (now s) ⌝ }
-    ensures { λ r. ⌜ (r ≡ total d (sub (now (s .entry)) at (d * 512))) × Words 512 r ⌝ }
+pub fn sum_shares(s: &[u64], at: usize, p: Params) -> [u64; 512]
+    requires { ⌜ (at + p .shares * 512 ≤ length (now s)) × Below q (now s) ⌝ }
+    ensures { λ r. ⌜ (r ≡ total (p .shares) (sub (now (s .entry)) at (p .shares * 512))) × Words 512 r ⌝ }
 {
+    let d = p.shares;
     let mut acc = zero_poly();
     for j in 0..d {
         let x = load(s, at + j * 512);
@@ -30,20 +32,21 @@ pub fn sum_shares(s: &[u64], at: usize, d: usize) -> [u64; 512]
 }
 
 // The sum of the d shares at `from`, stored at `to`.
-pub fn decode_at(s: &mut [u64], from: usize, to: usize, d: usize)
-    requires { ⌜ (from + d * 512 ≤ length (now s)) × (to + 512 ≤ length (now s)) × Below q (now s) ⌝ }
-    ensures { λ _. ⌜ Wrote 0 to 512 (total d (sub (now (s .entry)) from (d * 512))) (now (s .entry)) (now (s .exit)) ⌝ }
+pub fn decode_at(s: &mut [u64], from: usize, to: usize, p: Params)
+    requires { ⌜ (from + p .shares * 512 ≤ length (now s)) × (to + 512 ≤ length (now s)) × Below q (now s) ⌝ }
+    ensures { λ _. ⌜ Wrote 0 to 512 (total (p .shares) (sub (now (s .entry)) from (p .shares * 512))) (now (s .entry)) (now (s .exit)) ⌝ }
 {
-    let p = sum_shares(s, from, d);
-    store_at(s, to, &p);
+    let x = sum_shares(s, from, p);
+    store_at(s, to, &x);
 }
 
 // The d shares of lent words at `from` are added to those at `at`.
-pub fn add_shares_at(s: &mut [u64], at: usize, noise: &[u64], from: usize, d: usize)
-    requires { ⌜ (at + d * 512 ≤ length (now s)) × (from + d * 512 ≤ length (now noise)) × Below q (now s) × Below q (now noise) ⌝ }
-    ensures { λ _. ⌜ Wrote 0 at (d * 512) (addW (sub (now (s .entry)) at (d * 512)) (sub (now (noise .entry)) from (d * 512))) (now (s .entry)) (now (s .exit)) ⌝ }
+pub fn add_shares_at(s: &mut [u64], at: usize, words: &[u64], from: usize, p: Params)
+    requires { ⌜ (at + p .shares * 512 ≤ length (now s)) × (from + p .shares * 512 ≤ length (now words)) × Below q (now s) × Below q (now words) ⌝ }
+    ensures { λ _. ⌜ Wrote 0 at (p .shares * 512) (addW (sub (now (s .entry)) at (p .shares * 512)) (sub (now (words .entry)) from (p .shares * 512))) (now (s .entry)) (now (s .exit)) ⌝ }
 {
+    let d = p.shares;
     let e = at + d * 512;
     let f = from + d * 512;
-    add_into(&mut s[at..e], &noise[from..f]);
+    add_into(&mut s[at..e], &words[from..f]);
 }

@@ -1,8 +1,10 @@
 // The sharing layer on known inputs: digests of what it makes, compared with those of another implementation (stdout).
-ghost use mathlib.Core.Path.{_≡_};
-ghost use Prim.Native.Nat.{_+_, _*_, _^_, _≤_};
-ghost use lib.ListN.{length};
-ghost use Rattle.hash.specs.Params.{orderIndex};
+ghost use Prim.Native.Nat.{_≤_};
+ghost use Rattle.hash.specs.Params.{ShareCount};
+use hash::params::Edition;
+use hash::params::Params;
+use hash::params::Selected;
+use hash::params::lookup;
 
 // SHAKE256 of words of eight bytes, the low one first.
 fn print_digest(s: &[u64]) {
@@ -18,16 +20,25 @@ fn print_digest(s: &[u64]) {
 }
 
 // A sharing of d shares, filled with the words of one seed and refreshed with those of another.
-fn refreshed(d: usize)
-    requires { ⌜ (d ≡ 2 ^ orderIndex d) × (d ≤ 32) ⌝ }
+fn refreshed(p: Params)
+    requires { ⌜ ShareCount (p .shares) ⌝ }
 {
     let mut s = [0u64; 32768];
-    let m = d * 512;
+    let m = p.shares * 512;
     let g = sharing::masks::fill(&mut s, sharing::masks::start(b"sharing"));
     if ring::poly::all_below(&s, 549824583172097) {
-        let h = sharing::encoding::refresh_at(&mut s, m, d, sharing::masks::start(b"refresh"));
+        let h = sharing::encoding::refresh_at(&mut s, m, p, sharing::masks::start(b"refresh"));
         let e = m + m;
         print_digest(&s[m..e]);
+    }
+}
+
+// .. with the record of set 128 and d shares.
+fn refreshed_with(d: u64) {
+    match lookup(128, d, Edition::Printed) {
+        Selected::Found(p) => refreshed(p),
+        Selected::NoSet => {}
+        Selected::NoShares => {}
     }
 }
 
@@ -41,12 +52,12 @@ fn noise(u: usize)
 }
 
 fn main() {
-    refreshed(1);
-    refreshed(2);
-    refreshed(4);
-    refreshed(8);
-    refreshed(16);
-    refreshed(32);
+    refreshed_with(1);
+    refreshed_with(2);
+    refreshed_with(4);
+    refreshed_with(8);
+    refreshed_with(16);
+    refreshed_with(32);
     noise(4);
     noise(5);
     noise(6);

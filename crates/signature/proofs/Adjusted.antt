@@ -1,20 +1,22 @@
 -- The bytes of w' = y + h, row by row, and as the definition has them; parts of t and of the hint.
-use mathlib.Core.Path.{_≡_, refl, sym, ap, _∙_}
-use mathlib.Core.List.{List, [], _∷_, _++_, append-assoc}
+use mathlib.Core.Path.{_≡_, sym, ap, _∙_}
+use mathlib.Core.List.{List, _++_, append-assoc}
 use mathlib.Core.Option.{some}
-use Prim.Native.Nat.{ℕ, zero, suc, _+_, _*_, _≤_, _<_}
+use Prim.Native.Nat.{ℕ, _+_, _*_, _≤_, _<_}
 use native.Mathlib.Omega.{arith}
 use native.Mathlib.Numerals.{add-one}
 use lib.IntN.{ℤ, pos, natAbs}
 use lib.ListN.{length, getD, take, drop, length-append, length-drop}
-use lib.Seq.{take-at, take-all, length-take-le, getD-take, getD-drop}
+use lib.Seq.{take-at, length-take-le, getD-take, getD-drop}
 use Rattle.hash.specs.declared.params.Params.{Params}
 use Rattle.ring.specs.Words.{Below, Residues, Words, zipTo}
 use Rattle.ring.specs.Transform.{ntt, mul}
 use Rattle.ring.specs.Round.{rounded, roundW, scaledT, residues}
-use Rattle.ring.proofs.Sums.{below-take, below-drop, length-zip, zip-take, zip-drop, words-sub}
+use Rattle.ring.proofs.Mapped.{length-map, scaled-words}
+use Rattle.ring.proofs.Sums.{below-take, below-drop, length-zip, words-sub}
 use Rattle.sharing.specs.Blocks.{block, build, sumOf}
 use Rattle.sharing.proofs.Lists.{inside, build-ext, length-build, block-build, blocks-all}
+use Rattle.sharing.proofs.Built.{length-block, block-map, block-zip, block-residues, build-next}
 use Rattle.sharing.proofs.Decode.{words-sum}
 use Rattle.sharing.specs.Region.{sub, put}
 use Rattle.sharing.proofs.Regions.{length-sub}
@@ -22,8 +24,6 @@ use Rattle.signature.specs.Masked.{transformed}
 use Rattle.signature.specs.Matrix.{matrix, rowEntry}
 use Rattle.signature.specs.Recover.{add31, productRow, recoveredRow, recovered, adjusted, recoveredBy, blockZ, adjustedRows}
 use Rattle.signature.proofs.Recovered.{recovered-row}
-use Rattle.signature.proofs.Reduced.{take-residues, drop-residues}
-use Rattle.signature.proofs.Rounded.{map-take, map-drop, map-long, scaled-words}
 
 -- row i of them
 abbrev pub adjustedAt : ℕ → List ℕ → List ℕ → List ℕ → List ℕ → List ℤ → ℕ → List ℕ
@@ -53,40 +53,34 @@ pub adjust-turn : (l : ℕ) (seed Z C t : List ℕ) (h : List ℤ) (i : ℕ) (w 
     → take (i * 512) w ≡ build i (adjustedAt l seed Z C t h) → r ≡ recoveredBy l (rowEntry seed i) Z C (block 512 i t) → y ≡ roundW r
     → X ≡ zipTo add31 y (residues 31 (blockZ i h)) → length X ≡ 512
     → take ((i + 1) * 512) (put w (i * 512) 512 X) ≡ build (i + 1) (adjustedAt l seed Z C t h)
-unfolding build adjusted
+unfolding adjusted
 adjust-turn l seed Z C t h i w X y r n e f g k m =
     let o : (i + 1) * 512 ≡ i * 512 + 512 = omega arith in
     let x : X ≡ adjustedAt l seed Z C t h i =
     k ∙ ap (λ (v : List ℕ). zipTo add31 v (residues 31 (blockZ i h))) (g ∙ ap roundW f) in
     ap (λ (v : ℕ). take v (put w (i * 512) 512 X)) o ∙ take-put w X (i * 512) 512 n m ∙ ap (λ (v : List ℕ). v ++ X) e
-    ∙ ap (λ (v : List ℕ). build i (adjustedAt l seed Z C t h) ++ v) x ∙ ap (λ (v : ℕ). build v (adjustedAt l seed Z C t h)) (sym (add-one i))
+    ∙ ap (λ (v : List ℕ). build i (adjustedAt l seed Z C t h) ++ v) x ∙ sym (ap (λ (v : ℕ). build v (adjustedAt l seed Z C t h)) (add-one i) ∙ build-next i (adjustedAt l seed Z C t h))
 
 -- ---- all rows are the definition's
 
-block-long : (t : List ℕ) (i : ℕ) → i * 512 + 512 ≤ length t → length (block 512 i t) ≡ 512
-unfolding block
-block-long t i h = length-sub t (i * 512) 512 h
-
 -- place by place, and rounding, polynomial by polynomial
 pub zip-block : (f : ℕ → ℕ → ℕ) (xs ys : List ℕ) (i : ℕ) → block 512 i (zipTo f xs ys) ≡ zipTo f (block 512 i xs) (block 512 i ys)
-unfolding block
-zip-block f xs ys i = ap (take 512) (zip-drop f (i * 512) xs ys) ∙ zip-take f 512 (drop (i * 512) xs) (drop (i * 512) ys)
+zip-block f xs ys i = block-zip 512 i f xs ys
 
 pub round-block : (y : List ℕ) (i : ℕ) → block 512 i (roundW y) ≡ roundW (block 512 i y)
-unfolding block
-round-block y i = ap (take 512) (map-drop (rounded 44 31) (i * 512) y) ∙ map-take (rounded 44 31) 512 (drop (i * 512) y)
+round-block y i = block-map 512 i (rounded 44 31) y
 
 -- w' polynomial by polynomial
 adjust-block : (y : List ℕ) (h : List ℤ) (i : ℕ) → block 512 i (adjusted y h) ≡ adjusted (block 512 i y) (blockZ i h)
-unfolding adjusted block
+unfolding adjusted
 adjust-block y h i =
     zip-block add31 (roundW y) (residues 31 h) i
-    ∙ ap (λ (v : List ℕ). zipTo add31 v (take 512 (drop (i * 512) (residues 31 h)))) (round-block y i)
-    ∙ ap (zipTo add31 (roundW (take 512 (drop (i * 512) y)))) (ap (take 512) (drop-residues 31 (i * 512) h) ∙ take-residues 31 512 (drop (i * 512) h))
+    ∙ ap (λ (v : List ℕ). zipTo add31 v (block 512 i (residues 31 h))) (round-block y i)
+    ∙ ap (zipTo add31 (roundW (block 512 i y))) (block-residues 512 i 31 h)
 
 length-adjusted : (y : List ℕ) (h : List ℤ) → length (adjusted y h) ≡ length y
 unfolding adjusted
-length-adjusted y h = length-zip add31 (roundW y) (residues 31 h) ∙ map-long (rounded 44 31) y
+length-adjusted y h = length-zip add31 (roundW y) (residues 31 h) ∙ length-map (rounded 44 31) y
 
 module _ (p : Params) (A z c t : List ℕ) where
   row-long : (i : ℕ) → i < p .k → length (recoveredRow (p .l) A z c t i) ≡ 512
@@ -108,7 +102,7 @@ module _ (p : Params) (seed A z c t : List ℕ) (e : matrix p seed ≡ some A) (
   unfolding recovered
   row-block i o =
       let g : i * 512 + 512 ≤ p .k * 512 = inside i (p .k) 512 o in
-      recovered-row (p .k) (p .l) seed A z c t e wz wc i o (scaled-words (block 512 i t) (block-long t i (omega (arith, g, lt))))
+      recovered-row (p .k) (p .l) seed A z c t e wz wc i o (scaled-words (block 512 i t) (length-block 512 i t (omega (arith, g, lt))))
       ∙ sym (block-build 512 (p .k) i (recoveredRow (p .l) A z c t) (row-long p A z c t) o)
 
 pub adjusted-all : (p : Params) (seed A z c t : List ℕ) (h : List ℤ) → matrix p seed ≡ some A → Words (p .l * 512) z → Words 512 c → length t ≡ p .k * 512

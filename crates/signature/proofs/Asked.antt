@@ -3,20 +3,20 @@ use mathlib.Core.Path.{_≡_, refl, sym, subst, _∙_}
 use mathlib.Core.Bool.{Bool, true, false}
 use mathlib.Core.List.{List}
 use mathlib.Core.Option.{some, none}
-use Prim.Native.Nat.{ℕ, zero, suc, _*_, _^_, _≤_}
+use Prim.Native.Nat.{ℕ, zero, suc, _*_}
 use native.Mathlib.Omega.{arith}
-use borrow.Author.Tests.{eqb-true, eqb-false}
+use borrow.Author.Tests.{eqb-true}
 use lib.Dec.{eqb}
 use lib.ListN.{length, take, drop}
-use lib.Pow.{pow-pos, pow-mono}
-use Rattle.hash.specs.Lists.{pick}
-use Rattle.hash.specs.Params.{setIndex, orderIndex, lookupOf}
+use Rattle.hash.specs.Params.{ShareCount, lookupOf}
 use Rattle.hash.specs.declared.params.Edition.{Edition}
 use Rattle.hash.specs.declared.params.Params.{Params}
 use Rattle.hash.specs.declared.params.Selected.{Selected}
-use Rattle.hash.proofs.Rows.{order-le, found}
+use Rattle.hash.proofs.Rows.{found, count-low}
 use Rattle.ring.specs.Words.{q, Below}
 use Rattle.ring.proofs.Sums.{all-below}
+use Rattle.ring.proofs.Checks.{asked, both-true}
+use Rattle.ring.proofs.Filled.{not-filled}
 use Rattle.sharing.specs.Encoding.{refreshed}
 use Rattle.sharing.specs.Masks.{masks, maskStart}
 use Rattle.signature.specs.Matrix.{filled}
@@ -24,36 +24,23 @@ use Rattle.signature.specs.Keys.{fullShare, expandOf, refreshOf}
 use Rattle.signature.specs.Checks.{ask, both, signingKeySized, expandedKeySized, publicKeyGood, fullShareGood, shareWordsGood, maskSeedSized}
 use Rattle.signature.specs.Expanding.{Listed, expandedShares, expandedKey}
 use Rattle.signature.specs.KeyCalls.{Outcome, outcome, expandNo, expandCall, refreshNo, refreshCall}
-use Rattle.signature.proofs.Checks.{asked, both-true, not-filled}
 use Rattle.signature.proofs.Expanded.{expanded-all}
 
 pub sizes : (x v y n : ℕ) → both (eqb x v) (eqb y n) ≡ true → (x ≡ v) × (y ≡ n)
 sizes x v y n e = let b = both-true (eqb x v) (eqb y n) e in (eqb-true x v (b .0), eqb-true y n (b .1))
 
--- a record that was found is of at most 32 shares
-shares-few : (set d : ℕ) (e : Edition) (p : Params) → lookupOf set d e ≡ Selected.Found p → d ≤ 32
-unfolding lookupOf
-shares-few set d e p h = omega (arith, found set d e p h .power, pow-mono {i = orderIndex d} {j = 5} few)
-  where
-    go : (a b : Bool) (x : Selected) → pick a Selected.NoSet (pick b Selected.NoShares x) ≡ Selected.Found p → b ≡ false
-    go true b x e = let z : _≡_ {A = ℕ} 0 1 = cc in absurd (omega arith)
-    go false true x e = let z : _≡_ {A = ℕ} 0 1 = cc in absurd (omega arith)
-    go false false x e = refl
-
-    few : orderIndex d ≤ 5
-    few = let n = eqb-false (orderIndex d) 6 (go (eqb (setIndex set) 3) (eqb (orderIndex d) 6) _ h) in omega (arith, order-le d, n)
-
 pub listed : (set d : ℕ) (e : Edition) (p : Params) → lookupOf set d e ≡ Selected.Found p → Listed p
 listed set d e p h =
     let r = found set d e p h in
+    let c = count-low d (r .count) in
     record {
       vk = r .rule .vk;
       sk = r .rule .sk;
       rows-low = r .rule .rows-low;
       columns-low = r .rule .columns-low;
-      shares-pos = omega (arith, r .shares-are, r .power, pow-pos (orderIndex d));
-      shares-low = omega (arith, r .shares-are, shares-few set d e p h);
-      power = subst (λ (n : ℕ). n ≡ 2 ^ orderIndex n) (sym (r .shares-are)) (r .power);
+      shares-pos = omega (arith, r .shares-are, c .0);
+      shares-low = omega (arith, r .shares-are, c .1);
+      count = subst ShareCount (sym (r .shares-are)) (r .count);
       seed-low = omega (arith, r .rule .kappa-low);
     }
 

@@ -19,7 +19,7 @@ use Rattle.sharing.specs.Encoding.{skip, refreshed}
 use Rattle.sharing.specs.Masks.{masks}
 use Rattle.sharing.specs.declared.masks.MaskGen.{MaskGen}
 use Rattle.sharing.proofs.Totals.{skip-add}
-use Rattle.signature.specs.Attempt.{atR, Committed, Responded, Answered, commitmentOf, hashOf}
+use Rattle.signature.specs.Attempt.{atR, Begun, LastRow, Committed, Responded, Answered, commitmentOf, hashOf}
 use Rattle.signature.specs.Bounds.{checkBounds}
 use Rattle.signature.specs.Challenge.{headed, ordered, challenge, chalHash, chalPoly, chalHeld}
 use Rattle.signature.specs.Form.{Fields, write}
@@ -27,7 +27,7 @@ use Rattle.signature.specs.Keygen.{atS, atT, atX}
 use Rattle.signature.specs.Masked.{Noise, maskedNoise, behindProduct}
 use Rattle.signature.specs.Sign.{Public, Attempted, made, over, stuck, answer, Coins, signedFields, finished, challenged, concluded, maskedResponse, refreshedKey, refreshedNoise, refreshedResponse, attempted, noiseAt, maskAt, signFrom}
 use Rattle.signature.specs.declared.challenge.Challenged.{Challenged}
-use Rattle.signature.proofs.Checks.{absurd-bool}
+use Rattle.ring.proofs.Checks.{absurd-bool}
 use Rattle.signature.proofs.Masking.{masked-words}
 
 -- ---- lines 4 to 16 on the work buffer: s₁ behind the commitment, s₂ before the response, where s and r are as they were, s₃ behind it
@@ -77,6 +77,10 @@ filled-yes : (o : Option (List ℤ)) (c : List ℤ) → o ≡ some c → (chalHe
 unfolding chalHeld
 filled-yes o c e = (ap (λ (x : Option (List ℤ)). chalHeld x .ok) e, ap (λ (x : Option (List ℤ)). chalHeld x .poly) e)
 
+filled-no : (o : Option (List ℤ)) → o ≡ none → chalHeld o .ok ≡ false
+unfolding chalHeld
+filled-no o e = ap (λ (x : Option (List ℤ)). chalHeld x .ok) e
+
 module _ (p : Params) (N : Noise) (h g : MaskGen) (A mu s s₁ s₂ hash : List ℕ) (o : Challenged) (u : Committed p N h A g s s₁)
     (w : Wrote 0 (atT (p .l) (p .shares)) (p .k * 512) (roundW (sub s₁ (atT (p .l) (p .shares)) (p .k * 512))) s₁ s₂)
     (eh : hash ≡ shake256 (headed 104 (p .k) ++ ordered (p .edition) (roundW (sub s₁ (atT (p .l) (p .shares)) (p .k * 512))) mu) (p .kappa / 4))
@@ -92,6 +96,9 @@ module _ (p : Params) (N : Noise) (h g : MaskGen) (A mu s s₁ s₂ hash : List 
   commitment-there : sub s₂ (atT (p .l) (p .shares)) (p .k * 512) ≡ roundW (commitmentOf p N h A)
   commitment-there = w .new ∙ ap roundW (u .image)
 
+  row-there : LastRow p N h A s₂
+  row-there i e = w .front (p .shares * 512) (p .shares * 512) (omega arith) (omega arith) ∙ u .row i e
+
   pub answer-none : o .ok ≡ false → Answered p N h A mu (sub s (atS (p .shares)) (p .l * (p .shares * 512))) o hash s₂
   answer-none e =
       let no : (c : List ℤ) → chalPoly p (hashOf p N h A mu) ≡ some c → true ≡ false =
@@ -100,16 +107,21 @@ module _ (p : Params) (N : Noise) (h g : MaskGen) (A mu s s₁ s₂ hash : List 
       record {
         hash-is = hash-there;
         challenge-is = challenge-there;
+        row = row-there;
         commitment = commitment-there;
+        idle = λ f. record {
+          noise = w .front (atR (p .l) (p .shares)) (p .l * (p .shares * 512)) (omega arith) (omega arith) ∙ u .noise;
+          key = w .front (atS (p .shares)) (p .l * (p .shares * 512)) (omega arith) (omega arith) ∙ u .key;
+        };
         key = λ (c : List ℤ) f. absurd-bool (no c f);
         shares = λ (c : List ℤ) f. absurd-bool (no c f);
         response = λ (c : List ℤ) f. absurd-bool (no c f);
       }
 
-  pub answer-made : (power : p .shares ≡ 2 ^ orderIndex (p .shares)) (r s₃ : List ℕ) → r ≡ residues q (o .poly)
+  pub answer-made : (power : p .shares ≡ 2 ^ orderIndex (p .shares)) (r s₃ : List ℕ) → o .ok ≡ true → r ≡ residues q (o .poly)
       → Responded (p .k) (p .l) (p .shares) r g s₂ s₃
       → Answered p N h A mu (sub s (atS (p .shares)) (p .l * (p .shares * 512))) o hash s₃
-  answer-made power r s₃ er v =
+  answer-made power r s₃ ok er v =
       let L = p .l * (p .shares * 512) in
       let poly : (c : List ℤ) → chalPoly p (hashOf p N h A mu) ≡ some c → r ≡ residues q c =
       λ (c : List ℤ) (f : chalPoly p (hashOf p N h A mu) ≡ some c).
@@ -119,7 +131,10 @@ module _ (p : Params) (N : Noise) (h g : MaskGen) (A mu s s₁ s₂ hash : List 
       record {
         hash-is = hash-there;
         challenge-is = challenge-there;
+        row = λ (i : ℕ) (e : p .k ≡ suc i). v .row ∙ row-there i e;
         commitment = v .commitment ∙ commitment-there;
+        idle = λ (f : chalPoly p (hashOf p N h A mu) ≡ none).
+            absurd-bool (sym ok ∙ ap (λ (x : Challenged). x .ok) challenge-there ∙ filled-no (chalPoly p (hashOf p N h A mu)) f);
         key = λ (c : List ℤ) f. key-left p N h g A r s s₁ s₂ s₃ power u hs hr v;
         shares = λ (c : List ℤ) f.
             shares-left p N h g A r s s₁ s₂ s₃ power u hs hr v
@@ -181,6 +196,9 @@ module _ (p : Params) (P : Public) (N : Noise) (g : MaskGen) (s hash ys : List �
   left-stuck e =
       attempt-stuck p P N g s (chal-none (chalPoly p (hashOf p N g (P .matrix) (P .mu))) (sym (ap (λ (x : Challenged). x .ok) (u .challenge-is)) ∙ e))
 
+  pub left-idle : o .ok ≡ false → Begun p N g s ys
+  left-idle e = u .idle (chal-none (chalPoly p (hashOf p N g (P .matrix) (P .mu))) (sym (ap (λ (x : Challenged). x .ok) (u .challenge-is)) ∙ e))
+
   module _ (e : o .ok ≡ true) where
     chal-is : chalPoly p (hashOf p N g (P .matrix) (P .mu)) ≡ some (o .poly)
     chal-is =
@@ -198,6 +216,9 @@ module _ (p : Params) (P : Public) (N : Noise) (g : MaskGen) (s hash ys : List �
         (sym (u .hash-is))
         ∙ ap (λ (Z : List ℕ). finished p (signedFields p P (sub ys (atT (p .l) (p .shares)) (p .k * 512)) hash Z (o .poly)))
         (sym (u .response (o .poly) chal-is))
+
+    pub left-shares : sub ys (atR (p .l) (p .shares)) (p .l * (p .shares * 512)) ≡ refreshedResponse p N g s (residues q (o .poly))
+    left-shares = u .shares (o .poly) chal-is
 
     pub left-key : sub ys (atS (p .shares)) (p .l * (p .shares * 512)) ≡ refreshedKey p N g s
     left-key = u .key (o .poly) chal-is

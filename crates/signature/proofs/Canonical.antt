@@ -26,7 +26,7 @@ use Rattle.signature.proofs.Codes.{neg-lt, code-length}
 use Rattle.signature.proofs.Lists.{codes-room}
 use Rattle.signature.proofs.Whole.{trips, canons}
 use Rattle.signature.proofs.Filled.{zeros-are, are-zeros, bits-length}
-use Rattle.signature.proofs.Parsed.{both, parsed-some}
+use Rattle.signature.proofs.Parsed.{parsed-both, parsed-some}
 
 -- ---- the bits of the fields are 0 and 1
 
@@ -142,9 +142,9 @@ module _ (p : Params) (b : List ℕ) where
     unfolding read
     read-no-response g = rw (e, g)
 
-    pub read-some : (z : List ℤ) (j : ℕ) → readCodes 40 (p .l * 512) (drop i behind) ≡ some (z, j) → read p b ≡ some (fieldsOf (take (hashBytes p) b) h z)
+    pub read-fields : (z : List ℤ) (j : ℕ) → readCodes 40 (p .l * 512) (drop i behind) ≡ some (z, j) → read p b ≡ some (fieldsOf (take (hashBytes p) b) h z)
     unfolding read
-    read-some z j g = rw (e, g)
+    read-fields z j g = rw (e, g)
 
 -- ---- what is written is read back
 
@@ -177,7 +177,7 @@ write-read p f b s e =
     let c : take H b ≡ f .hash =
     ap (take H) (o .1) ∙ take-chop 8 H n (filled f n) (omega (arith, o .0, s .hash-long)) ∙ ap (λ (m : ℕ). chop 8 m (filled f n)) (sym (s .hash-long))
     ∙ ap (chop 8 (length (f .hash))) r ∙ chop-front 8 (f .hash) (C ++ (D ++ Z)) (bytes-lt (f .hash) (s .hash-bytes)) in
-    read-some p b (f .hint) (length C) a (f .response) (length D) d ∙ ap (λ (x : List ℕ). some (fieldsOf x (f .hint) (f .response))) c
+    read-fields p b (f .hint) (length C) a (f .response) (length D) d ∙ ap (λ (x : List ℕ). some (fieldsOf x (f .hint) (f .response))) c
 
 -- ---- what is read, and its bits
 
@@ -189,14 +189,14 @@ pub record Found (p : Params) (b : List ℕ) (f : Fields) : Type 0 where
   pub hint-is : readCodes 0 (p .k * 512) (drop (8 * hashBytes p) (fields 8 b)) ≡ some (f .hint, i)
   pub response-is : readCodes 40 (p .l * 512) (drop i (drop (8 * hashBytes p) (fields 8 b))) ≡ some (f .response, j)
 
-pub found : (p : Params) (b : List ℕ) (f : Fields) → read p b ≡ some f → Found p b f
-found p b f e = go (readCodes 0 (p .k * 512) (drop (8 * hashBytes p) (fields 8 b))) refl
+pub read-found : (p : Params) (b : List ℕ) (f : Fields) → read p b ≡ some f → Found p b f
+read-found p b f e = go (readCodes 0 (p .k * 512) (drop (8 * hashBytes p) (fields 8 b))) refl
   where
     go₂ : (h : List ℤ × ℕ) → readCodes 0 (p .k * 512) (drop (8 * hashBytes p) (fields 8 b)) ≡ some h → (o : Option (List ℤ × ℕ))
         → readCodes 40 (p .l * 512) (drop (h .1) (drop (8 * hashBytes p) (fields 8 b))) ≡ o → Found p b f
     go₂ h g none k = let n = read-no-response p b (h .0) (h .1) g k in let x : _≡_ {A = ℕ} 0 1 = cc in absurd (omega arith)
     go₂ h g (some z) k =
-        let r = read-some p b (h .0) (h .1) g (z .0) (z .1) k in
+        let r = read-fields p b (h .0) (h .1) g (z .0) (z .1) k in
         let q : fieldsOf (take (hashBytes p) b) (h .0) (z .0) ≡ f = cc in
         record {
           i = h .1;
@@ -265,7 +265,7 @@ module _ (p : Params) (b : List ℕ) (f : Fields) (size : hashBytes p ≤ length
 
 pub read-canonical : (p : Params) (b : List ℕ) (f : Fields) → Bytes b → length b ≡ p .«sig_bytes» → hashBytes p ≤ length b → read p b ≡ some f
     → (allZero (drop (bitCount f) (fields 8 b)) ≡ true → write p f ≡ some b) × (write p f ≡ some b → allZero (drop (bitCount f) (fields 8 b)) ≡ true)
-read-canonical p b f byte long size e = let r = found p b f e in (zero-canonical p b f size r long byte, canonical-zero p b f size r long)
+read-canonical p b f byte long size e = let r = read-found p b f e in (zero-canonical p b f size r long byte, canonical-zero p b f size r long)
 
 -- what is read has the set's sizes
 bytes-take : (n : ℕ) (xs : List ℕ) → Bytes xs → Bytes (take n xs)
@@ -275,7 +275,7 @@ bytes-take (suc n) (x ∷ xs) b = (b .0, bytes-take n xs (b .1))
 
 pub read-sized : (p : Params) (b : List ℕ) (f : Fields) → Bytes b → hashBytes p ≤ length b → read p b ≡ some f → Sized p f
 read-sized p b f byte size e =
-    let r = found p b f e in
+    let r = read-found p b f e in
     let t = drop (8 * hashBytes p) (fields 8 b) in
     let all = bits-drop (8 * hashBytes p) (fields 8 b) (fields-bits 8 b) in
     record {
@@ -289,21 +289,21 @@ read-sized p b f byte size e =
 
 module _ (p : Params) (b : List ℕ) (byte : Bytes b) (long : length b ≡ p .«sig_bytes») (size : hashBytes p ≤ length b) where
   -- the code accepts: the fields are those that the definition reads, and b is what is written of them
-  pub accepted : (h z : List ℤ) → parsed (p .k * 512) (p .l * 512) (drop (8 * hashBytes p) (fields 8 b)) ≡ some (h, z)
+  pub read-accepted : (h z : List ℤ) → parsed (p .k * 512) (p .l * 512) (drop (8 * hashBytes p) (fields 8 b)) ≡ some (h, z)
       → (read p b ≡ some (fieldsOf (take (hashBytes p) b) h z)) × (write p (fieldsOf (take (hashBytes p) b) h z) ≡ some b)
-  accepted h z e =
+  read-accepted h z e =
       let f = fieldsOf (take (hashBytes p) b) h z in
       let q = parsed-some (p .k * 512) (p .l * 512) (drop (8 * hashBytes p) (fields 8 b)) h z e in
-      let s = read-some p b h (q .i) (q .hint-is) z (q .j) (q .response-is) in
+      let s = read-fields p b h (q .i) (q .hint-is) z (q .j) (q .response-is) in
       let r : Found p b f = record { i = q .i; j = q .j; hash-is = refl; hint-is = q .hint-is; response-is = q .response-is } in
       (s, zero-canonical p b f size r long byte (ap allZero (fill-is p b f size r) ∙ q .fill-zero))
 
   -- and it refuses where there are no such fields
-  pub refused : (f : Fields) → parsed (p .k * 512) (p .l * 512) (drop (8 * hashBytes p) (fields 8 b)) ≡ none → read p b ≡ some f → write p f ≡ some b → ⊥
-  refused f e g k =
-      let r = found p b f g in
+  pub read-refused : (f : Fields) → parsed (p .k * 512) (p .l * 512) (drop (8 * hashBytes p) (fields 8 b)) ≡ none → read p b ≡ some f → write p f ≡ some b → ⊥
+  read-refused f e g k =
+      let r = read-found p b f g in
       let z = ap allZero (sym (fill-is p b f size r)) ∙ canonical-zero p b f size r long k in
-      let y = both (p .k * 512) (p .l * 512) (drop (8 * hashBytes p) (fields 8 b)) (f .hint) (r .i) (r .hint-is) (f .response) (r .j) (r .response-is) z in
+      let y = parsed-both (p .k * 512) (p .l * 512) (drop (8 * hashBytes p) (fields 8 b)) (f .hint) (r .i) (r .hint-is) (f .response) (r .j) (r .response-is) z in
       let x : _≡_ {A = ℕ} 0 1 = cc in omega arith
 
 -- ---- numbers that were read are small

@@ -1,17 +1,16 @@
 -- Centred values of a list: place by place, in parts, and how large they are. Lists of signed numbers filled from the front.
 use mathlib.Core.Path.{_≡_, refl, sym, ap, _∙_}
 use mathlib.Core.List.{List, [], _∷_, _++_}
-use Prim.Native.Nat.{ℕ, zero, suc, _+_, _-_, _/_, _≤_, _<_}
-use native.Mathlib.Decide.{decLt}
+use Prim.Native.Nat.{ℕ, zero, suc, _+_, _≤_, _<_}
 use native.Mathlib.Nat.{not-suc-le-zero}
 use native.Mathlib.Numerals.{add-one}
 use native.Mathlib.Omega.{arith}
-use borrow.Author.Tests.{le-leb, lt-leb}
-use lib.IntN.{ℤ, pos, negℤ, natAbs}
+use lib.IntN.{ℤ, pos, natAbs}
 use lib.ListN.{length, getD, set, take}
 use lib.Seq.{take-all, take-suc, take-suc-set}
 use Rattle.ring.specs.Words.{Below}
 use Rattle.ring.specs.Round.{centred}
+use Rattle.ring.proofs.Reduced.{centred-le}
 use Rattle.signature.specs.Recover.{centredAll}
 
 pub length-centred : (m : ℕ) (xs : List ℕ) → length (centredAll m xs) ≡ length xs
@@ -30,20 +29,7 @@ unfolding centredAll
 centred-append m [] ys = refl
 centred-append m (x ∷ xs) ys = ap (λ (t : List ℤ). centred m x ∷ t) (centred-append m xs ys)
 
--- ---- none is above the modulus
-
-abs-neg : (k : ℕ) → natAbs (negℤ (pos k)) ≡ k
-abs-neg zero = refl
-abs-neg (suc k) = refl
-
-centred-le : (m x : ℕ) → x < m → natAbs (centred m x) ≤ m
-unfolding centred
-centred-le m x h = go (decLt (m / 2) x)
-  where
-    go : Dec (m / 2 < x) → natAbs (centred m x) ≤ m
-    go (yes l) = rw (lt-leb _ _ l) (omega (arith, abs-neg (m - x)))
-    go (no l) = let o : x ≤ m / 2 = omega (arith, l) in rw (le-leb _ _ o) (omega arith)
-
+-- none is above the modulus
 pub centred-low : (m : ℕ) (xs : List ℕ) → Below m xs → (i : ℕ) → natAbs (getD (centredAll m xs) i (pos 0)) ≤ m
 unfolding centredAll
 centred-low m [] b i = omega arith

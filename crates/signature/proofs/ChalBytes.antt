@@ -12,6 +12,7 @@ use Rattle.hash.specs.Keccak.{State}
 use Rattle.hash.specs.Shake.{zeros, absorbFrom, finish, after, stream, shake256}
 use Rattle.hash.specs.declared.params.Edition.{Edition}
 use Rattle.hash.proofs.Lanes.{absorb-mod}
+use Rattle.hash.proofs.Output.{after-none, after-next, finish-mod}
 use Rattle.hash.proofs.Table.{length-table, getD-table, filled-more}
 use Rattle.hash.proofs.Sponge.{absorb-append, finish-two, stream-block}
 use Rattle.signature.specs.Challenge.{draw, draws, ordered, bytesOf, drawsOf, blockOf, nextOf, behind}
@@ -24,13 +25,11 @@ stateOf true i S = after i S
 stateOf false i S = S
 
 pub state-first : (b : Bool) (S : State) → S ≡ stateOf b 0 S
-unfolding after
-state-first true S = refl
+state-first true S = sym (after-none S)
 state-first false S = refl
 
 pub state-next : (b : Bool) (i : ℕ) (S : State) → nextOf b (stateOf b i S) ≡ stateOf b (i + 1) S
-unfolding after
-state-next true i S = rw add-one
+state-next true i S = sym (ap (λ (n : ℕ). after n S) (add-one i) ∙ after-next i S)
 state-next false i S = refl
 
 pub draws-are : (b : Bool) (S : State) (lent : List ℕ) → draws (length (bytesOf b S lent)) ≡ drawsOf b (length lent)
@@ -64,11 +63,11 @@ pub block-draws : (b : Bool) (S A : State) (lent bytes : List ℕ) (i m : ℕ) �
 block-draws b S A lent bytes i m e f h l j g = rw (f, e) (draw-of b S lent i j h (omega arith))
 
 -- a block filled byte by byte
-pub fill-more : (f : ℕ → ℕ) (l₀ l : List ℕ) (j v : ℕ) → l ≡ table f j ++ drop j l₀ → j < length l₀ → v ≡ f j → set l j v ≡ table f (j + 1) ++ drop (j + 1) l₀
-fill-more f l₀ l j v e h g = rw (e, g) (filled-more f j l₀ h)
+pub byte-more : (f : ℕ → ℕ) (l₀ l : List ℕ) (j v : ℕ) → l ≡ table f j ++ drop j l₀ → j < length l₀ → v ≡ f j → set l j v ≡ table f (j + 1) ++ drop (j + 1) l₀
+byte-more f l₀ l j v e h g = rw (e, g) (filled-more f j l₀ h)
 
-pub fill-all : (f : ℕ → ℕ) (l₀ l : List ℕ) (j n : ℕ) → l ≡ table f j ++ drop j l₀ → j ≡ n → length l₀ ≡ n → l ≡ table f n
-fill-all f l₀ l j n e h g = e ∙ rw (h, ← g, drop-length, append-nil)
+pub byte-all : (f : ℕ → ℕ) (l₀ l : List ℕ) (j n : ℕ) → l ≡ table f j ++ drop j l₀ → j ≡ n → length l₀ ≡ n → l ≡ table f n
+byte-all f l₀ l j n e h g = e ∙ rw (h, ← g, drop-length, append-nil)
 
 -- ---- hashes of parts
 
@@ -85,13 +84,12 @@ rests n k x y h =
 module _ (S A B C : State) (n k : ℕ) (a b : List ℕ) where
   pub behind-is : A ≡ absorbFrom S n a → k ≡ n + length a % 136 → B ≡ absorbFrom A k b → C ≡ finish B (k + length b % 136)
       → C ≡ behind S n a b
-  unfolding finish
   behind-is e h f g =
       let x = rests n k (length a) (length b) h in
       let y : k % 136 ≡ (n + length a) % 136 = ap (λ (i : ℕ). i % 136) h ∙ rest n (length a) in
       let z : B ≡ absorbFrom (absorbFrom S n a) (n + length a) b =
       f ∙ absorb-mod b A k (n + length a) y ∙ ap (λ (X : State). absorbFrom X (n + length a) b) e in
-      g ∙ rw (x, z)
+      g ∙ finish-mod B (k + length b % 136) (n + length a + length b) x ∙ ap (λ (X : State). finish X (n + length a + length b)) z
 
 -- two parts, and two behind a header
 pub two-parts : (S : State) (a b out : List ℕ) (n : ℕ) → S ≡ zeros

@@ -17,7 +17,8 @@ use Rattle.hash.specs.declared.params.Params.{Params}
 use Rattle.hash.specs.declared.params.Selected.{Selected}
 use Rattle.hash.proofs.Output.{output-length, output-bytes}
 use Rattle.hash.proofs.Rows.{found}
-use Rattle.ring.specs.Checks.{filled}
+use Rattle.ring.proofs.Checks.{absurd-bool}
+use Rattle.ring.proofs.Filled.{some-filled, none-filled}
 use Rattle.signature.specs.Challenge.{draw, place, minusBit, sign, nz, weight, step, run, draws, challenge, chalPoly, ordered, chalHash, sampledChallenge, headed, chalHeld}
 use Rattle.signature.specs.declared.challenge.Challenged.{Challenged}
 
@@ -132,28 +133,22 @@ module _ (p : Params) (w mu : List ℕ) where
 
 -- ---- the answers
 
-pub held-some : (o : Option (List ℤ)) (r : Challenged) → r ≡ chalHeld o → r .ok ≡ true → o ≡ some (r .poly)
+pub challenge-there : (o : Option (List ℤ)) (r : Challenged) → r ≡ chalHeld o → r .ok ≡ true → o ≡ some (r .poly)
 unfolding chalHeld
-held-some (some c) r h e = ap some (sym (ap (λ (x : Challenged). x .poly) h))
-held-some none r h e =
-    let f : false ≡ true = sym (ap (λ (x : Challenged). x .ok) h) ∙ e in
-    let z : _≡_ {A = ℕ} 0 1 = ap (λ (b : Bool). pick b 1 0) f in
-    absurd (omega arith)
+challenge-there (some c) r h e = ap some (sym (ap (λ (x : Challenged). x .poly) h))
+challenge-there none r h e = absurd-bool (sym e ∙ ap (λ (x : Challenged). x .ok) h)
 
-pub held-none : (o : Option (List ℤ)) (r : Challenged) → r ≡ chalHeld o → r .ok ≡ false → o ≡ none
+pub challenge-missing : (o : Option (List ℤ)) (r : Challenged) → r ≡ chalHeld o → r .ok ≡ false → o ≡ none
 unfolding chalHeld
-held-none (some c) r h e =
-    let f : true ≡ false = sym (ap (λ (x : Challenged). x .ok) h) ∙ e in
-    let z : _≡_ {A = ℕ} 1 0 = ap (λ (b : Bool). pick b 1 0) f in
-    absurd (omega arith)
-held-none none r h e = refl
+challenge-missing (some c) r h e = absurd-bool (sym (ap (λ (x : Challenged). x .ok) h) ∙ e)
+challenge-missing none r h e = refl
 
 module _ (set : ℕ) (s : List ℕ) (out : List ℤ) (x : Selected) (is : x ≡ lookupOf set 1 Edition.Printed) where
   pub no-set : x ≡ Selected.NoSet → (1, out) ≡ sampledChallenge set s out
   unfolding sampledChallenge
   no-set h = rw (← is, h)
 
-  pub no-shares : x ≡ Selected.NoShares → (1, out) ≡ sampledChallenge set s out
+  pub no-shares : x ≡ Selected.NoShares → (2, out) ≡ sampledChallenge set s out
   unfolding sampledChallenge
   no-shares h = rw (← is, h)
 
@@ -167,12 +162,12 @@ module _ (set : ℕ) (s : List ℕ) (out : List ℤ) (x : Selected) (is : x ≡ 
 
     module _ (room : length out ≡ 512) (r : Challenged) (held : r ≡ chalHeld (challenge (p .edition) (p .omega) s)) where
       pub sampled-none : r .ok ≡ false → (11, out) ≡ sampledChallenge set s out
-      unfolding sampledChallenge filled
-      sampled-none h = rw (← is, known, eq-eqb _ _ room, held-none _ r held h)
+      unfolding sampledChallenge
+      sampled-none h = rw (← is, known, eq-eqb _ _ room, challenge-missing _ r held h, none-filled {A = ℤ} none refl)
 
       pub sampled-some : r .ok ≡ true → (0, r .poly) ≡ sampledChallenge set s out
-      unfolding sampledChallenge filled
-      sampled-some h = rw (← is, known, eq-eqb _ _ room, held-some _ r held h)
+      unfolding sampledChallenge
+      sampled-some h = rw (← is, known, eq-eqb _ _ room, challenge-there _ r held h, some-filled (some (r .poly)) (r .poly) refl)
 
       pub sampled-length : r .ok ≡ true → length out ≡ length (r .poly)
-      sampled-length h = room ∙ sym (challenge-length (p .edition) (p .omega) s (r .poly) (held-some _ r held h))
+      sampled-length h = room ∙ sym (challenge-length (p .edition) (p .omega) s (r .poly) (challenge-there _ r held h))

@@ -60,9 +60,9 @@ pub record Held (e : Edition) (s : List ℕ) (w : ℕ) (m : List ℕ) (c : List 
   pub same : (p : ℕ) → p < 512 → bitAt m p ≡ nz (getD c p (pos 0))
   pub count : onesOf m ≡ weight c
 
-pub start : (e : Edition) (s : List ℕ) (w at : ℕ) → at ≡ 0 → Held e s w (replicate 8 0) (replicate 512 (pos 0)) at
+pub run-start : (e : Edition) (s : List ℕ) (w at : ℕ) → at ≡ 0 → Held e s w (replicate 8 0) (replicate 512 (pos 0)) at
 unfolding run
-start e s w at h = record {
+run-start e s w at h = record {
   is = rw h refl;
   words = refl;
   size = refl;

@@ -13,26 +13,23 @@ use mir.Val.{Fits}
 use Rattle.hash.specs.declared.params.Params.{Params}
 use Rattle.ring.specs.Words.{q, Below, allBelow}
 use Rattle.ring.proofs.Sums.{all-below}
+use Rattle.ring.proofs.Checks.{absurd-bool, both-true}
 use Rattle.sharing.specs.Blocks.{block}
 use Rattle.sharing.specs.Masks.{maskStart}
 use Rattle.sharing.specs.Noise.{noiseBytes}
 use Rattle.sharing.specs.declared.masks.MaskGen.{MaskGen}
 use Rattle.sharing.proofs.Lists.{inside}
+use Rattle.sharing.proofs.NoisePlaces.{noise-bytes}
 use Rattle.sharing.proofs.Regions.{length-sub}
-use Rattle.signature.specs.Attempt.{coinsOf, Within, Committed}
+use Rattle.signature.specs.Attempt.{coinsOf, Within, Begun, Committed}
 use Rattle.signature.specs.Checks.{both}
 use Rattle.signature.specs.Keygen.{Small}
 use Rattle.signature.specs.Masked.{Noise, seeded, explicit}
 use Rattle.signature.specs.Sign.{Coins, noiseAt, maskAt}
 use Rattle.signature.specs.SignCalls.{coinsGood}
-use Rattle.signature.proofs.Checks.{absurd-bool, both-true}
 use Rattle.signature.proofs.Sizes.{coins-low}
 
--- a part of n words from a n on is block a
-pub part-block : (n a : ℕ) (xs : List ℕ) → take (a * n + n - a * n) (drop (a * n) xs) ≡ block n a xs
-unfolding block
-part-block n a xs = let e : a * n + n - a * n ≡ n = omega arith in ap (λ (m : ℕ). take m (drop (a * n) xs)) e
-
+-- a part of n words from a n on
 pub part-long : (n a : ℕ) (xs : List ℕ) → a * n + n ≤ length xs → length (take (a * n + n - a * n) (drop (a * n) xs)) ≡ n
 part-long n a xs h = let e : a * n + n - a * n ≡ n = omega arith in rw e (length-sub xs (a * n) n h)
 
@@ -73,19 +70,22 @@ module _ (p : Params) (seeds words masks : List ℕ) (a : ℕ) where
   -- from seeds
   pub seeds-long : (x : Bool) → x ≡ false → Within p (coinsOf x seeds words masks) a
       → a * ((p .l + p .k) * p .shares * p .rep * (p .kappa / 8)) + (p .l + p .k) * p .shares * p .rep * (p .kappa / 8) ≤ length seeds
-  unfolding noiseBytes
-  seeds-long false e w = w .noise-long
+  seeds-long false e w = rw (← noise-bytes p) (w .noise-long)
   seeds-long true e w = absurd-bool e
 
   pub seeds-at : (x : Bool) → x ≡ false
       → seeded p (p .uw) (block ((p .l + p .k) * p .shares * p .rep * (p .kappa / 8)) a seeds) ≡ noiseAt p (coinsOf x seeds words masks) a
-  unfolding noiseAt noiseBytes
-  seeds-at false e = refl
+  unfolding noiseAt
+  seeds-at false e = ap (λ (n : ℕ). seeded p (p .uw) (block n a seeds)) (sym (noise-bytes p))
   seeds-at true e = absurd-bool e
 
   pub mask-at : (x : Bool) → maskStart (block 32 a masks) ≡ maskAt (coinsOf x seeds words masks) a
   unfolding maskAt
   mask-at x = refl
+
+pub begun-at : (p : Params) {N M : Noise} {g h : MaskGen} {s ys : List ℕ} → N ≡ M → g ≡ h → Begun p N g s ys → Begun p M h s ys
+begun-at p {N} {M} {g} {h} {s} {ys} e f c =
+    subst (λ (k : MaskGen). Begun p M k s ys) f (subst (λ (K : Noise). Begun p K g s ys) e c)
 
 pub committed-at : (p : Params) {N M : Noise} {g h : MaskGen} (A : List ℕ) {y : MaskGen} {xs ys : List ℕ} → N ≡ M → g ≡ h
     → Committed p N g A y xs ys → Committed p M h A y xs ys

@@ -10,13 +10,13 @@ use Rattle.hash.specs.declared.params.Edition.{Edition}
 use Rattle.ring.specs.Words.{addW, subW}
 use Rattle.ring.specs.Uniform.{heldOf}
 use Rattle.ring.specs.declared.uniform.Sampled.{Sampled}
+use Rattle.ring.proofs.Filled.{filled-some, not-filled, held-ok, held-there}
 use Rattle.sharing.specs.Blocks.{block, build}
 use Rattle.sharing.specs.Region.{sub, Wrote}
 use Rattle.sharing.proofs.Regions.{block-sub, wrote-value, wrote-turn, wrote-end}
 use Rattle.sharing.proofs.Turns.{source}
 use Rattle.signature.specs.Matrix.{filled}
 use Rattle.signature.specs.Compress.{shareHeader, exchanged, seededShareOf, collectedOf, collectedAt, compressedOf}
-use Rattle.signature.proofs.Checks.{filled-some, not-filled, held-ok}
 use Rattle.signature.proofs.Entries.{all-some}
 
 -- ---- the headers
@@ -83,8 +83,7 @@ module _ (e : Edition) (n : ℕ) (seeds : List ℕ) (j : ℕ) where
 
     pub collect-end : (i : ℕ) (x : List ℕ) → i ≡ d → collectedOf e n seeds (sub s at (d * 512)) j (i - 1) ≡ some x
         → _≡_ {A = Sampled} (record { ok = true; poly = x }) (heldOf (collectedOf e n seeds (sub s at (d * 512)) j (d - 1)))
-    unfolding heldOf
-    collect-end i x p h = sym (ap heldOf (ap (λ (m : ℕ). collectedOf e n seeds (sub s at (d * 512)) j (m - 1)) (sym p) ∙ h))
+    collect-end i x p h = held-there _ x (ap (λ (m : ℕ). collectedOf e n seeds (sub s at (d * 512)) j (m - 1)) (sym p) ∙ h)
 
 -- ---- l polynomials
 

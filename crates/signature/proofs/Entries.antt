@@ -12,37 +12,34 @@ use native.Mathlib.Omega.{arith}
 use Rattle.ring.specs.Words.{Words}
 use Rattle.ring.specs.Uniform.{heldOf}
 use Rattle.ring.proofs.Draws.{sampleQ-words}
+use Rattle.ring.proofs.Filled.{none-some, some-filled, none-filled, not-filled, filled-some, held-is}
 use Rattle.sharing.specs.Blocks.{block, build}
 use Rattle.sharing.proofs.Lists.{words-build, block-build}
+use Rattle.sharing.proofs.Built.{block-of, build-none, build-next}
 use Rattle.signature.specs.Matrix.{joinedTo, buildAll, matrixAt, matrixOf, matrixHeader, filled, rowEntry}
-use Rattle.signature.proofs.Checks.{absurd-bool}
-use Rattle.signature.proofs.Product.{block-of}
 
 -- ---- two of them
 
+joined-none : (a : Option (List ℕ)) → joinedTo a none ≡ none
+joined-none none = refl
+joined-none (some a) = refl
+
 joined-yes : (a b : Option (List ℕ)) → filled a ≡ true → filled b ≡ true → filled (joinedTo a b) ≡ true
-unfolding filled
-joined-yes none b e g = e
-joined-yes (some a) none e g = g
-joined-yes (some a) (some b) e g = refl
+joined-yes a b e g =
+    some-filled (joinedTo a b) (heldOf a .poly ++ heldOf b .poly)
+    (ap (λ (o : Option (List ℕ)). joinedTo o b) (filled-some a e) ∙ ap (joinedTo (some (heldOf a .poly))) (filled-some b g))
 
 joined-left : (a b : Option (List ℕ)) → filled a ≡ false → filled (joinedTo a b) ≡ false
-unfolding filled
-joined-left none b e = refl
-joined-left (some a) none e = refl
-joined-left (some a) (some b) e = e
+joined-left a b e = none-filled (joinedTo a b) (ap (λ (o : Option (List ℕ)). joinedTo o b) (not-filled a e))
 
 joined-right : (a b : Option (List ℕ)) → filled b ≡ false → filled (joinedTo a b) ≡ false
-unfolding filled
-joined-right none b e = refl
-joined-right (some a) none e = refl
-joined-right (some a) (some b) e = e
+joined-right a b e = none-filled (joinedTo a b) (ap (joinedTo a) (not-filled b e) ∙ joined-none a)
 
 -- ---- n of them: none yet, one more, and one that is not there
 
 pub all-none : (f : ℕ → Option (List ℕ)) → filled (buildAll 0 f) ≡ true
-unfolding buildAll filled
-all-none f = refl
+unfolding buildAll
+all-none f = some-filled (buildAll 0 f) [] refl
 
 pub all-more : (n : ℕ) (f : ℕ → Option (List ℕ)) → filled (buildAll n f) ≡ true → filled (f n) ≡ true → filled (buildAll (n + 1) f) ≡ true
 unfolding buildAll
@@ -67,10 +64,13 @@ record Joined (a b : Option (List ℕ)) (c : List ℕ) : Type 0 where
   pub both : c ≡ heldOf a .poly ++ heldOf b .poly
 
 joined : (a b : Option (List ℕ)) (c : List ℕ) → joinedTo a b ≡ some c → Joined a b c
-unfolding heldOf filled
-joined none b c e = absurd-bool (sym (ap filled e))
-joined (some a) none c e = absurd-bool (sym (ap filled e))
-joined (some a) (some b) c e = let z : a ++ b ≡ c = cc in record { left = refl; right = refl; both = sym z }
+joined none b c e = absurd (none-some c e)
+joined (some a) none c e = absurd (none-some c e)
+joined (some a) (some b) c e =
+    let x : heldOf (some a) .poly ≡ a = held-is (some a) a refl in
+    let y : heldOf (some b) .poly ≡ b = held-is (some b) b refl in
+    let z : a ++ b ≡ c = cc in
+    record { left = ap some (sym x); right = ap some (sym y); both = cc (x, y, z) }
 
 -- if all are there, the whole is built of them
 pub record All (n : ℕ) (f : ℕ → Option (List ℕ)) (A : List ℕ) : Type 0 where
@@ -78,16 +78,16 @@ pub record All (n : ℕ) (f : ℕ → Option (List ℕ)) (A : List ℕ) : Type 0
   pub whole : A ≡ build n (λ (i : ℕ). heldOf (f i) .poly)
 
 pub all-some : (n : ℕ) (f : ℕ → Option (List ℕ)) (A : List ℕ) → buildAll n f ≡ some A → All n f A
-unfolding buildAll build heldOf
+unfolding buildAll
 all-some zero f A e =
     let z : [] ≡ A = cc in
-    record { here = λ (i : ℕ) (h : i < 0). absurd (not-suc-le-zero h); whole = sym z }
+    record { here = λ (i : ℕ) (h : i < 0). absurd (not-suc-le-zero h); whole = sym (build-none (λ (i : ℕ). heldOf (f i) .poly) ∙ z) }
 all-some (suc n) f A e =
     let j = joined (buildAll n f) (f n) A e in
     let r = all-some n f (heldOf (buildAll n f) .poly) (j .left) in
     record {
       here = λ (i : ℕ) (h : i < suc n). go i h (decLt i n) (r .here i) (j .right);
-      whole = j .both ∙ ap (λ (x : List ℕ). x ++ heldOf (f n) .poly) (r .whole);
+      whole = j .both ∙ ap (λ (x : List ℕ). x ++ heldOf (f n) .poly) (r .whole) ∙ sym (build-next n (λ (i : ℕ). heldOf (f i) .poly));
     }
   where
     go : (i : ℕ) → i < suc n → Dec (i < n) → (i < n → f i ≡ some (heldOf (f i) .poly)) → f n ≡ some (heldOf (f n) .poly) → f i ≡ some (heldOf (f i) .poly)
@@ -127,7 +127,7 @@ module _ (k l : ℕ) (seed A : List ℕ) (e : matrixOf k l seed ≡ some A) wher
       ap (block (l * 512) i) (rows .whole) ∙ block-build (l * 512) k i R (λ (j : ℕ) (h : j < k). row-words j h .long) hi in
       let b : block 512 m (R i) ≡ rowEntry seed i m =
       ap (block 512 m) (row i hi .whole) ∙ block-build 512 l m (rowEntry seed i) (λ (j : ℕ) (h : j < l). entry-words i j hi h .long) hm in
-      sym b ∙ ap (block 512 m) (sym a) ∙ block-of l i m A hm
+      sym b ∙ ap (block 512 m) (sym a) ∙ block-of 512 l i m A hm
 
   pub matrix-at : (i m : ℕ) → i < k → m < l → matrixAt seed i m ≡ some (block 512 (i * l + m) A)
   matrix-at i m hi hm = row i hi .here m hm ∙ ap some (entry-is i m hi hm)

@@ -12,15 +12,17 @@ use Rattle.hash.specs.declared.params.Params.{Params}
 use Rattle.ring.specs.Words.{q, Below}
 use Rattle.ring.specs.Uniform.{heldOf}
 use Rattle.ring.specs.declared.uniform.Sampled.{Sampled}
+use Rattle.ring.proofs.Filled.{filled-some, some-filled, held-is, held-ok}
 use Rattle.sharing.specs.Blocks.{zeros, block, build}
 use Rattle.sharing.specs.Region.{sub, Wrote}
 use Rattle.sharing.proofs.Lists.{zeros-words, inside, build-ext}
+use Rattle.sharing.proofs.Built.{block-is}
 use Rattle.sharing.proofs.Regions.{wrote-start, wrote-turn, wrote-end}
 use Rattle.signature.specs.Matrix.{buildAll, filled}
 use Rattle.signature.specs.Bits.{repack}
-use Rattle.signature.proofs.Checks.{filled-some, some-filled, held-is, held-ok}
 use Rattle.signature.proofs.Entries.{All, all-some}
 use Rattle.signature.proofs.Packing.{length-repack}
+use Rattle.signature.proofs.Sizes.{part-all}
 use Rattle.signature.specs.Keys.{seedBytes, fullShare, seededShare, shareAt, decompressed, expandOf}
 use Rattle.signature.specs.Expanding.{Listed, partBytes, expandedAt, expandedShares, expandedKey}
 use Rattle.signature.specs.KeyCalls.{outcome}
@@ -37,11 +39,6 @@ module _ (p : Params) (h : Listed p) where
   pub share-in : (j i : ℕ) → j < p .l → i < p .shares → j * (p .shares * 512) + i * 512 + 512 ≤ p .l * (p .shares * 512)
   share-in j i k l = omega (arith, inside j (p .l) (p .shares * 512) k, inside i (p .shares) 512 l)
 
--- ---- the tail of a list as a part
-
-pub tail-is : (xs : List ℕ) (a : ℕ) → take (length xs - a) (drop a xs) ≡ drop a xs
-tail-is xs a = take-all (length xs - a) (drop a xs) (omega (arith, length-drop a xs))
-
 -- ---- what fills
 
 module _ (f : ℕ → Option (List ℕ)) (n : ℕ) (h : filled (buildAll n f) ≡ true) where
@@ -56,8 +53,8 @@ module _ (f : ℕ → Option (List ℕ)) (n : ℕ) (h : filled (buildAll n f) �
 
 module _ (p : Params) (part : List ℕ) where
   pub first-fills : (j : ℕ) → filled (buildAll 1 (shareAt p part j)) ≡ true
-  unfolding buildAll filled shareAt
-  first-fills j = refl
+  unfolding buildAll shareAt
+  first-fills j = some-filled (buildAll 1 (shareAt p part j)) (block 512 j (fullShare p part)) refl
 
   share-is : (j i : ℕ) → 1 ≤ i → seededShare p part j i ≡ shareAt p part j i
   unfolding shareAt
@@ -65,8 +62,8 @@ module _ (p : Params) (part : List ℕ) where
   share-is j (suc i) h = refl
 
   full-is : (j : ℕ) → block 512 j (fullShare p part) ≡ expandedAt p part j 0
-  unfolding shareAt heldOf
-  full-is j = refl
+  unfolding shareAt
+  full-is j = sym (held-is (shareAt p part j 0) (block 512 j (fullShare p part)) refl)
 
   pub expanded-all : filled (decompressed p part) ≡ true → decompressed p part ≡ some (expandedShares p part)
   unfolding decompressed expandedShares
@@ -87,8 +84,8 @@ module _ (p : Params) (part : List ℕ) where
       ap (λ (s : Sampled). s .poly) e ∙ ap (λ (o : Option (List ℕ)). heldOf o .poly) (share-is j i k)
 
   pub full-expands : (j i : ℕ) (full : List ℕ) → i ≡ 0 → full ≡ fullShare p part → sub full (j * 512) 512 ≡ expandedAt p part j i
-  unfolding block
-  full-expands j i full z e = ap (λ (l : List ℕ). sub l (j * 512) 512) e ∙ full-is j ∙ sym (ap (expandedAt p part j) z)
+  full-expands j i full z e =
+      ap (λ (l : List ℕ). sub l (j * 512) 512) e ∙ sym (block-is 512 j (fullShare p part)) ∙ full-is j ∙ sym (ap (expandedAt p part j) z)
 
   pub full-length : length (fullShare p part) ≡ p .l * 512
   unfolding fullShare
@@ -98,7 +95,7 @@ module _ (p : Params) (part : List ℕ) where
       → out ≡ repack 8 49 (length out₀) (take (length part - (p .shares - 1) * seedBytes p) (drop ((p .shares - 1) * seedBytes p) part))
       → out ≡ fullShare p part
   unfolding fullShare
-  full-made out out₀ n e = e ∙ cc (n, tail-is part ((p .shares - 1) * seedBytes p))
+  full-made out out₀ n e = e ∙ cc (n, part-all ((p .shares - 1) * seedBytes p) part)
 
   -- ---- the loop over the polynomials, from words that are zero
   abbrev pub polynomial : ℕ → List ℕ
@@ -129,18 +126,18 @@ module _ (p : Params) (h : Listed p) (key : List ℕ) (n : length key ≡ p .«s
   pub vk-in : p .«vk_bytes» ≤ length key
   vk-in = omega (arith, h .sk)
 
-  pub part-long : length (take (length key - p .«vk_bytes») (drop (p .«vk_bytes») key)) ≡ partBytes p
-  part-long =
-      ap (λ (l : List ℕ). length l) (tail-is key (p .«vk_bytes»)) ∙ length-drop (p .«vk_bytes») key ∙ omega (arith, h .sk)
+  pub key-part-long : length (take (length key - p .«vk_bytes») (drop (p .«vk_bytes») key)) ≡ partBytes p
+  key-part-long =
+      ap (λ (l : List ℕ). length l) (part-all (p .«vk_bytes») key) ∙ length-drop (p .«vk_bytes») key ∙ omega (arith, h .sk)
 
-  pub part-low : Below q (fullShare p (drop (p .«vk_bytes») key)) → Below q (fullShare p (take (length key - p .«vk_bytes») (drop (p .«vk_bytes») key)))
-  part-low b = subst (λ (l : List ℕ). Below q (fullShare p l)) (sym (tail-is key (p .«vk_bytes»))) b
+  pub key-part-low : Below q (fullShare p (drop (p .«vk_bytes») key)) → Below q (fullShare p (take (length key - p .«vk_bytes») (drop (p .«vk_bytes») key)))
+  key-part-low b = subst (λ (l : List ℕ). Below q (fullShare p l)) (sym (part-all (p .«vk_bytes») key)) b
 
 module _ (p : Params) (key bytes words : List ℕ) (r : Bool)
     (e : r ≡ filled (decompressed p (take (length key - p .«vk_bytes») (drop (p .«vk_bytes») key)))) where
   fills : r ≡ filled (expandOf p key)
   unfolding expandOf
-  fills = e ∙ ap (λ (l : List ℕ). filled (decompressed p l)) (tail-is key (p .«vk_bytes»))
+  fills = e ∙ ap (λ (l : List ℕ). filled (decompressed p l)) (part-all (p .«vk_bytes») key)
 
   pub key-unfilled : r ≡ false → outcome 10 bytes words ≡ expandedKey p key bytes words
   unfolding expandedKey
@@ -152,6 +149,6 @@ module _ (p : Params) (key bytes words : List ℕ) (r : Bool)
   key-expanded z b w eb ew =
       let k : p .«vk_bytes» - 0 ≡ p .«vk_bytes» = omega arith in
       let fb : b ≡ take (p .«vk_bytes») key = eb ∙ ap (λ (m : ℕ). take m key) k in
-      let fw : w ≡ expandedShares p (drop (p .«vk_bytes») key) = ew ∙ ap (expandedShares p) (tail-is key (p .«vk_bytes»)) in
+      let fw : w ≡ expandedShares p (drop (p .«vk_bytes») key) = ew ∙ ap (expandedShares p) (part-all (p .«vk_bytes») key) in
       let m : outcome 0 (take (p .«vk_bytes») key) (expandedShares p (drop (p .«vk_bytes») key)) ≡ expandedKey p key bytes words = simp (sym fills ∙ z) in
       (λ i. outcome 0 (fb i) (fw i)) ∙ m

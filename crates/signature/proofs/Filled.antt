@@ -125,6 +125,6 @@ module _ (c : List ℕ) (h z : List ℤ) (out₀ out₁ out : List ℕ) (n : ℕ
       ∙ ap (chop 8 n) (f ∙ ap (λ (l : List ℕ). sets l (8 * length c) vs) f₀ ∙ g ∙ sym (append-assoc (fields 8 c) vs (replicate (k * 8 - length vs) 0))
       ∙ ap (λ (m : ℕ). (fields 8 c ++ vs) ++ replicate m 0) d)
 
-pub room : (c : List ℕ) (h z : List ℤ) (n : ℕ) → bitCount (fieldsOf c h z) ≤ 8 * n → 8 * length c + (length (codes 0 h) + length (codes 40 z)) ≤ n * 8
+pub form-room : (c : List ℕ) (h z : List ℤ) (n : ℕ) → bitCount (fieldsOf c h z) ≤ 8 * n → 8 * length c + (length (codes 0 h) + length (codes 40 z)) ≤ n * 8
 unfolding bitCount
-room c h z n l = omega (arith, codes-length 0 h, codes-length 40 z)
+form-room c h z n l = omega (arith, codes-length 0 h, codes-length 40 z)

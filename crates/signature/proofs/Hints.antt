@@ -16,6 +16,7 @@ use Rattle.ring.proofs.Sums.{below-take, below-drop, length-zip}
 use Rattle.sharing.specs.Blocks.{block, build}
 use Rattle.sharing.specs.Region.{sub}
 use Rattle.sharing.proofs.Lists.{build-ext, blocks-all}
+use Rattle.sharing.proofs.Built.{block-is, build-next}
 use Rattle.sharing.proofs.Regions.{block-sub}
 use Rattle.signature.specs.Masked.{transformed}
 use Rattle.signature.specs.Matrix.{matrix, rowEntry}
@@ -25,9 +26,8 @@ use Rattle.signature.proofs.Centred.{centred-append}
 
 -- polynomial i of w, below p as all of w
 pub part-below : (p : ℕ) (xs : List ℕ) (a k i : ℕ) → i < k → Below p (sub xs a (k * 512)) → Below p (sub xs (a + i * 512) 512)
-unfolding block
 part-below p xs a k i h b =
-    subst (Below p) (block-sub 512 k i xs a h) (below-take p 512 (drop (i * 512) (sub xs a (k * 512))) (below-drop p (i * 512) (sub xs a (k * 512)) b))
+    subst (Below p) (sym (block-is 512 i (sub xs a (k * 512))) ∙ block-sub 512 k i xs a h) (below-take p 512 (drop (i * 512) (sub xs a (k * 512))) (below-drop p (i * 512) (sub xs a (k * 512)) b))
 
 -- X put at row i of h
 module _ (i : ℕ) (h X : List ℤ) (b : i * 512 + 512 ≤ length h) (n : length X ≡ 512) where
@@ -41,7 +41,7 @@ module _ (i : ℕ) (h X : List ℤ) (b : i * 512 + 512 ≤ length h) (n : length
   pub hint-turn : (l : ℕ) (seed Z C t w v r : List ℕ) → take (i * 512) h ≡ centredAll 31 (build i (hintRow l seed Z C t w))
       → X ≡ centredAll 31 (zipTo sub31 v (roundW r)) → v ≡ block 512 i w → r ≡ recoveredBy l (rowEntry seed i) Z C (block 512 i t)
       → take ((i + 1) * 512) (putMid (i * 512) (i * 512 + 512 - i * 512) h X) ≡ centredAll 31 (build (i + 1) (hintRow l seed Z C t w))
-  unfolding build hintRow
+  unfolding hintRow
   hint-turn l seed Z C t w v r e x f g =
       let F : ℕ → List ℕ = hintRow l seed Z C t w in
       let o : (i + 1) * 512 ≡ i * 512 + 512 = omega arith in
@@ -53,7 +53,7 @@ module _ (i : ℕ) (h X : List ℤ) (b : i * 512 + 512 ≤ length h) (n : length
       ∙ ap (λ (u : List ℤ). u ++ X) e
       ∙ ap (λ (u : List ℤ). centredAll 31 (build i F) ++ u) y
       ∙ sym (centred-append 31 (build i F) (F i))
-      ∙ ap (λ (m : ℕ). centredAll 31 (build m F)) (sym (add-one i))
+      ∙ ap (centredAll 31) (sym (ap (λ (m : ℕ). build m F) (add-one i) ∙ build-next i F))
 
 -- all rows are the definition's
 pub hint-all : (p : Params) (seed A z c t w : List ℕ) → matrix p seed ≡ some A → Words (p .l * 512) z → Words 512 c → length t ≡ p .k * 512

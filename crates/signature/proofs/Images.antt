@@ -3,7 +3,7 @@
 use mathlib.Core.Path.{_≡_, sym, ap, _∙_}
 use mathlib.Core.List.{List}
 use mathlib.Core.Option.{some}
-use Prim.Native.Nat.{ℕ, _+_, _*_, _^_, _≤_, _<_}
+use Prim.Native.Nat.{ℕ, suc, _+_, _*_, _^_, _≤_, _<_}
 use native.Mathlib.Omega.{arith}
 use lib.ListN.{length}
 use Rattle.hash.specs.Params.{orderIndex}
@@ -18,8 +18,9 @@ use Rattle.sharing.proofs.Decode.{totals-build}
 use Rattle.sharing.proofs.Lists.{inside, block-words, block-build, words-build, build-ext}
 use Rattle.sharing.proofs.Regions.{wrote-value, wrote-wide, wrote-scratch, wrote-turn, wrote-end}
 use Rattle.sharing.proofs.Totals.{rep-words}
+use Rattle.sharing.proofs.Turns.{noised, noise-built}
 use Rattle.signature.specs.Matrix.{matrixOf, rowEntry}
-use Rattle.signature.specs.Masked.{maskedRow, maskedProduct, rowShare, transformed, rowImage, rowsOf}
+use Rattle.signature.specs.Masked.{maskedRow, maskedProduct, rowShare, transformed, noisedRow, rowsOf, Summed, SummedAll}
 use Rattle.signature.proofs.Entries.{matrix-words, entry-is}
 use Rattle.signature.proofs.Product.{row-shares}
 use Rattle.signature.proofs.Rows.{row-words, row-ext}
@@ -29,51 +30,86 @@ pub image-made : (d l r row at to : ℕ) (g : MaskGen) (f a : ℕ → List ℕ) 
     → Wrote 0 row (d * 512) (build d (rowShare d l a (sub s₀ at (l * (d * 512))))) s₀ s₁
     → Wrote (d * 512) row (d * 512) (addRep masks d g r f (sub s₁ row (d * 512))) s₁ s₂
     → Wrote 0 to 512 (total d (sub s₂ row (d * 512))) s₂ s₃
-    → Wrote (row + d * 512) to 512 (rowImage d l g r f a (sub s₀ at (l * (d * 512)))) s₀ s₃
+    → Summed d row to (noisedRow d l g r f a (sub s₀ at (l * (d * 512)))) s₀ s₃
 image-made d l r row at to g f a s₀ s₁ s₂ s₃ h k u v w =
-    let e : total d (sub s₂ row (d * 512)) ≡ rowImage d l g r f a (sub s₀ at (l * (d * 512))) =
-    ap (total d) (v .new ∙ ap (addRep masks d g r f) (u .new)) in
-    wrote-scratch (omega arith) (omega arith) u (wrote-scratch (omega arith) (omega arith) v (wrote-wide (omega arith) (wrote-value e w)))
+    let e : sub s₂ row (d * 512) ≡ noisedRow d l g r f a (sub s₀ at (l * (d * 512))) = v .new ∙ ap (addRep masks d g r f) (u .new) in
+    record {
+      shares = w .front row (d * 512) (omega arith) k ∙ e;
+      sum =
+          wrote-scratch (omega arith) (omega arith) u
+          (wrote-scratch (omega arith) (omega arith) v (wrote-wide (omega arith) (wrote-value (ap (total d) e) w)));
+    }
 
--- row i of the loop; g is the generator where it begins
+-- row i of the loop, its shares and their sum; g is the generator where the loop begins
+abbrev pub noisedRows : ℕ → ℕ → ℕ → (ℕ → ℕ → List ℕ) → MaskGen → List ℕ → List ℕ → ℕ → List ℕ
+noisedRows d l r f g seed X i = noisedRow d l (skip masks d (i * r) g) r (f i) (rowEntry seed i) X
+
 abbrev pub imaged : ℕ → ℕ → ℕ → (ℕ → ℕ → List ℕ) → MaskGen → List ℕ → List ℕ → ℕ → List ℕ
-imaged d l r f g seed X i = rowImage d l (skip masks d (i * r) g) r (f i) (rowEntry seed i) X
+imaged d l r f g seed X i = total d (noisedRows d l r f g seed X i)
 
-module _ (d l r n at to : ℕ) (f : ℕ → ℕ → List ℕ) (g : MaskGen) (seed s₀ : List ℕ) (h : n ≤ at) (k : at + l * (d * 512) ≤ to) where
-  pub image-turn : (i : ℕ) (x : MaskGen) (s t : List ℕ) → x ≡ skip masks d (i * r) g
-      → Wrote n to (i * 512) (build i (imaged d l r f g seed (sub s₀ at (l * (d * 512))))) s₀ s
-      → Wrote n (to + i * 512) 512 (rowImage d l x r (f i) (rowEntry seed i) (sub s at (l * (d * 512)))) s t
-      → Wrote n to ((i + 1) * 512) (build (i + 1) (imaged d l r f g seed (sub s₀ at (l * (d * 512))))) s₀ t
-  image-turn i x s t e u v =
-      let X = sub s₀ at (l * (d * 512)) in
-      let b : sub s at (l * (d * 512)) ≡ X = u .front at (l * (d * 512)) h k in
-      wrote-turn 512 i (imaged d l r f g seed X) (omega arith) u
-      (wrote-value (ap (λ (y : MaskGen). rowImage d l y r (f i) (rowEntry seed i) (sub s at (l * (d * 512)))) e
-      ∙ ap (λ (Y : List ℕ). rowImage d l (skip masks d (i * r) g) r (f i) (rowEntry seed i) Y) b) v)
+-- the region `row` of s behind i rows
+abbrev pub RowsDone : ℕ → ℕ → ℕ → (ℕ → ℕ → List ℕ) → MaskGen → List ℕ → List ℕ → ℕ → List ℕ → ℕ → Type 0
+RowsDone d l r f g seed X row s i = (j : ℕ) → i ≡ suc j → sub s row (d * 512) ≡ noisedRows d l r f g seed X j
+
+pub rows-none : (d l r : ℕ) (f : ℕ → ℕ → List ℕ) (g : MaskGen) (seed X : List ℕ) (row : ℕ) (s : List ℕ) → RowsDone d l r f g seed X row s 0
+rows-none d l r f g seed X row s j e = absurd (omega (arith, e))
+
+module _ (d l r row at to : ℕ) (f : ℕ → ℕ → List ℕ) (g : MaskGen) (seed s₀ : List ℕ) (h : row + d * 512 ≤ at) (k : at + l * (d * 512) ≤ to) where
+  module _ (i : ℕ) (x : MaskGen) (s t : List ℕ) (e : x ≡ skip masks d (i * r) g)
+      (u : Wrote (row + d * 512) to (i * 512) (build i (imaged d l r f g seed (sub s₀ at (l * (d * 512))))) s₀ s)
+      (v : Summed d row (to + i * 512) (noisedRow d l x r (f i) (rowEntry seed i) (sub s at (l * (d * 512)))) s t) where
+    row-here : noisedRow d l x r (f i) (rowEntry seed i) (sub s at (l * (d * 512))) ≡ noisedRows d l r f g seed (sub s₀ at (l * (d * 512))) i
+    row-here =
+        ap (λ (y : MaskGen). noisedRow d l y r (f i) (rowEntry seed i) (sub s at (l * (d * 512)))) e
+        ∙ ap (noisedRow d l (skip masks d (i * r) g) r (f i) (rowEntry seed i)) (u .front at (l * (d * 512)) h k)
+
+    pub image-turn : Wrote (row + d * 512) to ((i + 1) * 512) (build (i + 1) (imaged d l r f g seed (sub s₀ at (l * (d * 512))))) s₀ t
+    image-turn =
+        wrote-turn 512 i (imaged d l r f g seed (sub s₀ at (l * (d * 512)))) (omega arith) u (wrote-value (ap (total d) row-here) (v .sum))
+
+    pub rows-turn : RowsDone d l r f g seed (sub s₀ at (l * (d * 512))) row t (i + 1)
+    rows-turn j o =
+        let n : i ≡ j = omega (arith, o) in
+        v .shares ∙ row-here ∙ ap (noisedRows d l r f g seed (sub s₀ at (l * (d * 512)))) n
 
 -- all rows
 module _ (d k l r : ℕ) (f : ℕ → ℕ → List ℕ) (g : MaskGen) (seed A X : List ℕ) (power : d ≡ 2 ^ orderIndex d) (e : matrixOf k l seed ≡ some A) where
-  images-all : build k (imaged d l r f g seed X) ≡ totals k d (addNoise masks d g k r f (rowsOf d k l A X))
-  unfolding addNoise
-  images-all =
-      let a : ℕ → ℕ → List ℕ = λ (i m : ℕ). block 512 (i * l + m) A in
-      let R : ℕ → List ℕ = λ (i : ℕ). build d (rowShare d l (a i) X) in
-      let G : ℕ → List ℕ → List ℕ = λ (i : ℕ) (Y : List ℕ). addRep masks d (skip masks d (i * r) g) r (f i) Y in
-      let wR : Words (k * (d * 512)) (build k R) = words-build k R (λ (i : ℕ) (h : i < k). row-words d l (a i) X) in
-      let w : (i : ℕ) → i < k → length (G i (block (d * 512) i (build k R))) ≡ d * 512 =
-      λ (i : ℕ) (h : i < k). rep-words masks mask-low d power (skip masks d (i * r) g) r (f i) (block (d * 512) i (build k R)) (block-words k i (build k R) wR h) .long in
-      let b : (i : ℕ) → i < k → total d (G i (block (d * 512) i (build k R))) ≡ imaged d l r f g seed X i =
-      λ (i : ℕ) (h : i < k).
-      ap (λ (Y : List ℕ). total d (G i Y))
-      (block-build (d * 512) k i R (λ (j : ℕ) (m : j < k). row-words d l (a j) X .long) h
-      ∙ sym (row-ext d l (rowEntry seed i) (a i) X (λ (m : ℕ) (o : m < l). entry-is k l seed A e i m h o))) in
-      sym
-      (totals-build k d (λ (i : ℕ). G i (block (d * 512) i (build k R))) w
-      ∙ build-ext k (λ (i : ℕ). total d (G i (block (d * 512) i (build k R)))) (imaged d l r f g seed X) b)
+  -- row i of the matrix by the transform
+  abbrev rowAt : ℕ → List ℕ
+  rowAt i = build d (rowShare d l (λ (m : ℕ). block 512 (i * l + m) A) X)
 
-  pub image-end : (n to i : ℕ) (s₀ s : List ℕ) → i ≡ k → Wrote n to (i * 512) (build i (imaged d l r f g seed X)) s₀ s
-      → Wrote n to (k * 512) (totals k d (addNoise masks d g k r f (rowsOf d k l A X))) s₀ s
-  image-end n to i s₀ s o u = wrote-value images-all (wrote-end 512 (imaged d l r f g seed X) o u)
+  noised-row : (i : ℕ) → i < k → noised masks d g r f (rowsOf d k l A X) i ≡ noisedRows d l r f g seed X i
+  noised-row i h =
+      ap (addRep masks d (skip masks d (i * r) g) r (f i))
+      (block-build (d * 512) k i rowAt (λ (j : ℕ) (m : j < k). row-words d l (λ (m : ℕ). block 512 (j * l + m) A) X .long) h
+      ∙ sym (row-ext d l (rowEntry seed i) (λ (m : ℕ). block 512 (i * l + m) A) X (λ (m : ℕ) (o : m < l). entry-is k l seed A e i m h o)))
+
+  rows-long : (i : ℕ) → i < k → length (noised masks d g r f (rowsOf d k l A X) i) ≡ d * 512
+  rows-long i h =
+      let w : Words (k * (d * 512)) (rowsOf d k l A X) =
+      words-build k rowAt (λ (i : ℕ) (h : i < k). row-words d l (λ (m : ℕ). block 512 (i * l + m) A) X) in
+      rep-words masks mask-low d power (skip masks d (i * r) g) r (f i) (block (d * 512) i (rowsOf d k l A X)) (block-words k i (rowsOf d k l A X) w h) .long
+
+  images-all : build k (imaged d l r f g seed X) ≡ totals k d (addNoise masks d g k r f (rowsOf d k l A X))
+  images-all =
+      let F : ℕ → List ℕ = noised masks d g r f (rowsOf d k l A X) in
+      sym
+      (ap (totals k d) (noise-built masks d g k r f (rowsOf d k l A X)) ∙ totals-build k d F rows-long
+      ∙ build-ext k (λ (i : ℕ). total d (F i)) (imaged d l r f g seed X) (λ (i : ℕ) (h : i < k). ap (total d) (noised-row i h)))
+
+  row-last : (i : ℕ) → i < k → noisedRows d l r f g seed X i ≡ block (d * 512) i (addNoise masks d g k r f (rowsOf d k l A X))
+  row-last i h =
+      sym
+      (ap (block (d * 512) i) (noise-built masks d g k r f (rowsOf d k l A X))
+      ∙ block-build (d * 512) k i (noised masks d g r f (rowsOf d k l A X)) rows-long h ∙ noised-row i h)
+
+  pub image-end : (row to i : ℕ) (s₀ s : List ℕ) → i ≡ k → Wrote (row + d * 512) to (i * 512) (build i (imaged d l r f g seed X)) s₀ s
+      → RowsDone d l r f g seed X row s i → SummedAll d k row to (addNoise masks d g k r f (rowsOf d k l A X)) s₀ s
+  image-end row to i s₀ s o u v =
+      record {
+        shares = λ (j : ℕ) (n : k ≡ suc j). v j (o ∙ n) ∙ row-last j (omega (arith, n));
+        sums = wrote-value images-all (wrote-end 512 (imaged d l r f g seed X) o u);
+      }
 
 -- ---- the rows by the transform are the masked product
 

@@ -16,13 +16,15 @@ use Rattle.sharing.specs.Blocks.{zeros}
 use Rattle.sharing.specs.Region.{sub}
 use Rattle.sharing.proofs.Regions.{length-sub}
 use Rattle.signature.specs.Bits.{repack}
+use Rattle.sharing.specs.Masks.{maskStart}
 use Rattle.signature.specs.Checks.{both, workWords}
-use Rattle.signature.specs.Keys.{keygenBytes, vkSeed, sharePart, keygenOf, publicKey}
-use Rattle.signature.specs.Keygen.{atT, atX, Small, keyOf}
+use Rattle.signature.specs.Keys.{keygenBytes, vkSeed, noisePart, sharePart, keygenOf, publicKey}
+use Rattle.signature.specs.Keygen.{atT, Small, Generated, keyOf}
 use Rattle.signature.specs.KeyCalls.{outcome, keygenNo, keygenMade, keygenCall}
 use Rattle.signature.specs.Expanding.{Listed}
 use Rattle.signature.specs.Matrix.{matrix, filled}
-use Rattle.signature.proofs.Checks.{both-true, filled-some, not-filled}
+use Rattle.ring.proofs.Checks.{both-true}
+use Rattle.ring.proofs.Filled.{filled-some, not-filled}
 use Rattle.signature.proofs.KeyMade.{fullOf, vectorOf, no-matrix, no-share, both-there}
 use Rattle.signature.proofs.KeyBytes.{key-bytes}
 use Rattle.signature.proofs.Sizes.{room, seed-long, share-part, share-long}
@@ -37,15 +39,15 @@ module _ (p : Params) (seeds mask : List ℕ) where
       go false f e = no-matrix p seeds mask (not-filled (matrix p (vkSeed p seeds)) f)
 
   module _ (out work : List ℕ) (r : Bool) (is : r ≡ both (filled (matrix p (vkSeed p seeds))) (filled (fullOf p seeds mask))) where
-    pub unfilled : (w : List ℕ) → r ≡ false → length w ≡ length work → outcome 10 out (zeros (length w)) ≡ keygenMade (keygenOf p seeds mask) out work
-    unfilled w f l = rw (none-made (sym is ∙ f), l)
+    pub keygen-none : (w : List ℕ) → r ≡ false → length w ≡ length work → outcome 10 out (zeros (length w)) ≡ keygenMade (keygenOf p seeds mask) out work
+    keygen-none w f l = rw (none-made (sym is ∙ f), l)
 
-    pub made : (k w : List ℕ) → r ≡ true
+    pub keygen-some : (k w : List ℕ) → r ≡ true
         → ((A x : List ℕ) → matrix p (vkSeed p seeds) ≡ some A → fullOf p seeds mask ≡ some x
-        → (sub w (atT (p .l) (p .shares)) (p .k * 512) ≡ vectorOf p seeds mask A) × (sub w (atX (p .k) (p .l) (p .shares)) (p .l * 512) ≡ x))
+        → Generated p (noisePart p seeds) (maskStart mask) A x w)
         → k ≡ keyOf p seeds w → length w ≡ length work → outcome 0 k (zeros (length w)) ≡ keygenMade (keygenOf p seeds mask) out work
     unfolding keyOf
-    made k w f parts e l =
+    keygen-some k w f parts e l =
         let b = both-true (filled (matrix p (vkSeed p seeds))) (filled (fullOf p seeds mask)) (sym is ∙ f) in
         let A = heldOf (matrix p (vkSeed p seeds)) .poly in
         let x = heldOf (fullOf p seeds mask) .poly in
@@ -53,17 +55,17 @@ module _ (p : Params) (seeds mask : List ℕ) where
         let hx = filled-some (fullOf p seeds mask) (b .1) in
         let s = parts A x hA hx in
         let key : k ≡ publicKey p (vkSeed p seeds) (vectorOf p seeds mask A) ++ (sharePart p seeds ++ repack 49 8 (p .l * 3136) x) =
-        e ∙ rw (s .0, s .1) (sym (key-bytes p (vkSeed p seeds) (vectorOf p seeds mask A) (sharePart p seeds) x)) in
+        e ∙ rw (s .vector, s .full) (sym (key-bytes p (vkSeed p seeds) (vectorOf p seeds mask A) (sharePart p seeds) x)) in
         rw (both-there p seeds mask A x hA hx, key, l)
 
 pub key-long : (p : Params) → Listed p → p .«sk_bytes» ≡ p .kappa / 8 + p .k * 448 + ((p .shares - 1) * (p .kappa / 8) + p .l * 3136)
 key-long p h = omega (arith, h .vk, h .sk)
 
 -- behind the checks
-pub goes-on : (e : Edition) (set d : ℕ) (seeds mask out work : List ℕ) (p : Params) → lookupOf set d e ≡ Selected.Found p
+pub keygen-on : (e : Edition) (set d : ℕ) (seeds mask out work : List ℕ) (p : Params) → lookupOf set d e ≡ Selected.Found p
     → keygenNo p seeds mask out work ≡ 0 → keygenMade (keygenOf p seeds mask) out work ≡ keygenCall e set d seeds mask out work
 unfolding keygenCall
-goes-on e set d seeds mask out work p h k = rw (h, k)
+keygen-on e set d seeds mask out work p h k = rw (h, k)
 
 -- the key's four parts, as slices of the seeds and of the work buffer
 module _ (p : Params) (h : Small p) (seeds work : List ℕ) (w : length work ≡ workWords p) (s : length seeds ≡ keygenBytes p) where

@@ -14,7 +14,7 @@ use Rattle.signature.specs.Keys.{keygenBytes, keygenOf}
 use Rattle.signature.specs.Checks.{workWords}
 use Rattle.signature.specs.KeyCalls.{outcome, keygenNo, keygenCall}
 use Rattle.signature.specs.KeySizes.{keygenNoOf}
-use Rattle.signature.proofs.Checks.{asked, both-true}
+use Rattle.ring.proofs.Checks.{asked, both-true}
 
 -- ---- the checks
 

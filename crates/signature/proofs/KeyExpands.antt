@@ -2,16 +2,17 @@
 use Prim.Native.Nat.{ℕ, _*_}
 use mathlib.Core.Path.{_≡_, refl, sym, ap, _∙_}
 use mathlib.Core.Bool.{Bool, true}
-use mathlib.Core.List.{List, [], _∷_}
+use mathlib.Core.List.{List}
 use mathlib.Core.Option.{some}
-use borrow.Author.Tests.{lt-ltb, eq-eqb}
+use borrow.Author.Tests.{eq-eqb}
 use lib.ListN.{length, take}
 use Rattle.hash.specs.Params.{lookupOf}
 use Rattle.hash.specs.declared.params.Edition.{Edition}
 use Rattle.hash.specs.declared.params.Params.{Params}
 use Rattle.hash.specs.declared.params.Selected.{Selected}
-use Rattle.hash.proofs.Rows.{found}
-use Rattle.ring.specs.Words.{q, Words, Below, allBelow}
+use Rattle.hash.proofs.Rows.{found, count-power}
+use Rattle.ring.specs.Words.{q, Words, allBelow}
+use Rattle.ring.proofs.Checks.{below-yes}
 use Rattle.sharing.specs.Blocks.{totals}
 use Rattle.sharing.specs.Encoding.{refreshed}
 use Rattle.sharing.specs.Masks.{masks, maskStart}
@@ -24,11 +25,6 @@ use Rattle.signature.proofs.Asked.{listed, refreshable, refresh-done}
 use Rattle.signature.proofs.KeyRanges.{ranged}
 use Rattle.signature.proofs.KeyMade.{made, expand-made, vector-words}
 use Rattle.signature.proofs.KeySecret.{Expansion, expansion}
-
-below-yes : (m : ℕ) (xs : List ℕ) → Below m xs → allBelow m xs ≡ true
-unfolding allBelow
-below-yes m [] b = refl
-below-yes m (x ∷ xs) b = simp (lt-ltb _ _ (b .0), below-yes m xs (b .1))
 
 yes : (a b c d : Bool) → a ≡ true → b ≡ true → c ≡ true → d ≡ true → ask 3 a (ask 4 b (ask 5 c (ask 8 d 0))) ≡ 0
 yes a b c d ha hb hc hd = rw (ha, hb, hc, hd)
@@ -69,7 +65,7 @@ pub refresh-keeps : (set d : ℕ) (p : Params) → lookupOf set d Edition.Printe
 refresh-keeps set d p h key shares mask bytes words n =
     let r = refreshable p key shares mask bytes words n in
     let w : Words (p .l * (p .shares * 512)) shares = record { long = r .shares-long; low = r .shares-low } in
-    let power = listed set d Edition.Printed p h .power in
+    let power = count-power (p .shares) (listed set d Edition.Printed p h .count) in
     record {
       renewed = refreshed masks (p .shares) (maskStart mask) (p .l) shares;
       is = sym (refresh-done set d key shares mask bytes words p (sym h) 0 (sym n) refl key (refreshed masks (p .shares) (maskStart mask) (p .l) shares) refl refl);

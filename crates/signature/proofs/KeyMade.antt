@@ -10,14 +10,18 @@ use lib.Seq.{take-at, drop-at, length-take-le}
 use Rattle.hash.specs.declared.params.Params.{Params}
 use Rattle.hash.proofs.Rows.{Rule}
 use Rattle.ring.specs.Words.{q, addW, subW, Below, Residues, Words}
+use Rattle.ring.specs.Transform.{ntt}
 use Rattle.ring.specs.Uniform.{heldOf}
 use Rattle.ring.proofs.Sums.{below-at, words-add, words-sub}
+use Rattle.ring.proofs.Filled.{some-same, none-some}
+use Rattle.ring.proofs.Mapped.{rounded-residues}
 use Rattle.ring.proofs.Theorems.{ntt-words}
-use Rattle.sharing.specs.Blocks.{block, each}
+use Rattle.sharing.specs.Blocks.{block}
 use Rattle.sharing.specs.Masks.{maskStart}
 use Rattle.sharing.specs.Noise.{noiseBytes}
 use Rattle.sharing.specs.declared.masks.MaskGen.{MaskGen}
 use Rattle.sharing.proofs.Lists.{block-words, words-build}
+use Rattle.sharing.proofs.Built.{each-made}
 use Rattle.sharing.proofs.Decode.{totals-words}
 use Rattle.signature.specs.Bits.{repack}
 use Rattle.signature.specs.Compress.{exchanged, collectedOf, compressedOf}
@@ -25,13 +29,6 @@ use Rattle.signature.specs.Matrix.{matrix}
 use Rattle.signature.specs.Keys.{vkSeed, vkVector, publicKey, fullShare, seededShare, collected, compressed, keygenBytes, noisePart, sharePart, keyShares, keyVector, keygenOf}
 use Rattle.signature.proofs.Packing.{length-repack, repack-trip}
 use Rattle.signature.proofs.Entries.{all-some}
-use Rattle.signature.proofs.Rounded.{rounded-residues}
-
-pub some-same : (a b : List ℕ) → some a ≡ some b → a ≡ b
-some-same a b e = cc
-
-none-some : (a : List ℕ) → none ≡ some a → ⊥
-none-some a e = let x : _≡_ {A = ℕ} 0 1 = cc in omega arith
 
 -- ---- whether there is a key, by matrix and share
 
@@ -81,8 +78,8 @@ vector-words p coins g A = rounded-residues 42 125 (p .k * 512) (lit< tt) _ (tot
 -- ---- the full share is l polynomials of words below q
 
 pub key-words : (p : Params) (coins : List ℕ) (g : MaskGen) → Words (p .l * (p .shares * 512)) (keyShares p coins g)
-unfolding keyShares each
-key-words p coins g = words-build (p .l) _ (λ i h. words-build (p .shares) _ (λ j k. ntt-words _))
+unfolding keyShares
+key-words p coins g = words-build (p .l) _ (λ i h. each-made (p .shares) ntt ntt-words _)
 
 -- a step of Algorithm 14 that is there
 pub record Step (s : List ℕ) (a b : Option (List ℕ)) (y : List ℕ) : Type 0 where

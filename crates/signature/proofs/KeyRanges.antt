@@ -1,41 +1,24 @@
 -- The ranges of the parameters, and the sizes of key generation below 2^32.
 use Prim.Native.Nat.{ℕ, _+_, _-_, _*_, _/_, _^_, _≤_, _<_}
-use mathlib.Core.Path.{_≡_, refl, _∙_}
-use mathlib.Core.Bool.{Bool, true, false}
+use mathlib.Core.Path.{_≡_, sym, ap}
 use native.Mathlib.Omega.{arith}
 use native.Mathlib.Nat.{mul-le-mul}
-use borrow.Author.Tests.{eqb-false}
-use lib.Dec.{eqb}
-use lib.Pow.{pow-pos, pow-mono}
 use Rattle.hash.specs.declared.params.Edition.{Edition}
 use Rattle.hash.specs.declared.params.Params.{Params}
 use Rattle.hash.specs.declared.params.Selected.{Selected}
-use Rattle.hash.specs.Lists.{pick}
-use Rattle.hash.specs.Params.{setIndex, orderIndex, lookupOf}
-use Rattle.hash.proofs.Rows.{found, order-le}
-use Rattle.sharing.specs.Noise.{noiseBytes}
+use Rattle.hash.specs.Params.{lookupOf}
+use Rattle.hash.proofs.Rows.{found, count-low}
+use Rattle.sharing.proofs.NoisePlaces.{noise-bytes}
 use Rattle.signature.specs.Keys.{keygenBytes}
 use Rattle.signature.specs.KeySizes.{Ranges}
-
-picked : (a b : Bool) (f : Selected) (p : Params) → pick a Selected.NoSet (pick b Selected.NoShares f) ≡ Selected.Found p → b ≡ false
-picked true b f p e = let x : _≡_ {A = ℕ} 0 1 = cc in absurd (omega arith)
-picked false true f p e = let x : _≡_ {A = ℕ} 0 1 = cc in absurd (omega arith)
-picked false false f p e = refl
-
-few : (set d : ℕ) (e : Edition) (p : Params) → lookupOf set d e ≡ Selected.Found p → orderIndex d ≤ 5
-unfolding lookupOf
-few set d e p h =
-    let n = eqb-false (orderIndex d) 6 (picked (eqb (setIndex set) 3) (eqb (orderIndex d) 6) _ p h) in
-    omega (arith, order-le d, n)
 
 pub ranged : (set d : ℕ) (e : Edition) (p : Params) → lookupOf set d e ≡ Selected.Found p → Ranges p
 ranged set d e p h =
     let r = found set d e p h in
-    let i = orderIndex d in
-    let a : p .shares ≡ 2 ^ i = r .shares-are ∙ r .power in
+    let c = count-low d (r .count) in
     record {
-      shares-pos = omega (arith, a, pow-pos i);
-      shares-low = omega (arith, a, pow-mono {i = i} {j = 5} (few set d e p h));
+      shares-pos = omega (arith, r .shares-are, c .0);
+      shares-low = omega (arith, r .shares-are, c .1);
       rows-low = r .rule .rows-low;
       columns-low = r .rule .columns-low;
       rep-low = r .rule .rep-low;
@@ -78,8 +61,7 @@ module _ (p : Params) (r : Ranges p) where
   bytes-fit = omega (arith, noise-le, seed-le, share-seeds-le)
 
   pub bytes-are : p .kappa / 8 + (p .l + p .k) * p .shares * p .rep * (p .kappa / 8) + (p .shares - 1) * (p .kappa / 8) ≡ keygenBytes p
-  unfolding noiseBytes
-  bytes-are = refl
+  bytes-are = ap (λ (n : ℕ). p .kappa / 8 + n + (p .shares - 1) * (p .kappa / 8)) (sym (noise-bytes p))
 
   columns-le : 2 * p .l * p .shares ≤ 448
   columns-le = let a : 2 * p .l ≤ 14 = omega (arith, r .columns-low) in omega (arith, mul-le-mul a (r .shares-low))

@@ -2,7 +2,7 @@
 use Prim.Native.Nat.{ℕ, zero, suc, _-_, _*_, _/_, _≤_, _<_}
 use mathlib.Core.Path.{_≡_, refl, sym, ap, _∙_}
 use mathlib.Core.List.{List, _++_}
-use mathlib.Core.Option.{Option, some, none}
+use mathlib.Core.Option.{Option, some}
 use native.Mathlib.Decide.{decLt}
 use native.Mathlib.Omega.{arith}
 use lib.ListN.{length}
@@ -10,25 +10,26 @@ use Rattle.hash.specs.declared.params.Params.{Params}
 use Rattle.hash.proofs.Rows.{Rule}
 use Rattle.ring.specs.Words.{addW, subW, Words}
 use Rattle.ring.specs.Uniform.{sampleQ, heldOf}
-use Rattle.ring.proofs.Sums.{words-sub, words-zeros, add-comm, add-assoc, add-sub}
+use Rattle.ring.proofs.Filled.{held-is, held-words}
+use Rattle.ring.proofs.Sums.{words-sub, add-comm, add-assoc, add-sub}
 use Rattle.ring.proofs.Draws.{sampleQ-words}
 use Rattle.sharing.specs.Blocks.{zeros, block, build, sumOf, total, totals}
 use Rattle.sharing.specs.Masks.{maskStart}
 use Rattle.sharing.proofs.Lists.{zeros-words, block-words, block-left, build-ext, words-build, block-build}
+use Rattle.sharing.proofs.Built.{build-none, build-next, sum-one, sum-next, total-is, totals-are}
 use Rattle.sharing.proofs.Decode.{words-sum, total-build, totals-build}
 use Rattle.signature.specs.Bits.{repack}
 use Rattle.signature.specs.Matrix.{buildAll}
 use Rattle.signature.specs.Compress.{shareHeader, seededShareOf, compressedOf}
 use Rattle.signature.specs.Keys.{seedBytes, fullShare, seededShare, shareAt, decompressed, collected, compressed, keygenBytes, noisePart, sharePart, keyShares, keygenOf, expandOf}
-use Rattle.signature.proofs.Checks.{held-is}
 use Rattle.signature.proofs.Entries.{All, all-some}
 use Rattle.signature.proofs.KeyMade.{Step, collected-step, collected-first, collected-words, key-words, share-part-long, made, expand-made}
 
 -- if all are there, so is the whole
 all-there : (n : ℕ) (f : ℕ → Option (List ℕ)) (g : ℕ → List ℕ) → ((i : ℕ) → i < n → f i ≡ some (g i)) → buildAll n f ≡ some (build n g)
-unfolding buildAll build
-all-there zero f g h = refl
-all-there (suc n) f g h = rw (all-there n f g (λ i k. h i (omega arith)), h n (omega arith))
+unfolding buildAll
+all-there zero f g h = ap some (sym (build-none g))
+all-there (suc n) f g h = rw (all-there n f g (λ i k. h i (omega arith)), h n (omega arith), build-next n g)
 
 -- the shares of one polynomial: y in full, then r 0, r 1, ..
 abbrev pub shares : List ℕ → (ℕ → List ℕ) → ℕ → List ℕ
@@ -41,34 +42,33 @@ swap a b c ha hb hc = add-assoc a b c ha hb hc ∙ ap (addW a) (add-comm b c hb 
 module _ (r : ℕ → List ℕ) (good : (i : ℕ) → Words 512 (r i)) where
   -- what is added to the full share is added to the sum
   shift : (i : ℕ) (y z : List ℕ) → Words 512 y → Words 512 z → sumOf 512 (suc i) (shares (addW y z) r) ≡ addW (sumOf 512 (suc i) (shares y r)) z
-  unfolding sumOf
-  shift zero y z hy hz = sym (add-assoc (zeros 512) y z (zeros-words 512) hy hz)
+  shift zero y z hy hz =
+      sum-one 512 (shares (addW y z) r) ∙ sym (add-assoc (zeros 512) y z (zeros-words 512) hy hz)
+      ∙ ap (λ (t : List ℕ). addW t z) (sym (sum-one 512 (shares y r)))
   shift (suc i) y z hy hz =
       let S : List ℕ = sumOf 512 (suc i) (shares y r) in
-      ap (λ (t : List ℕ). addW t (r i)) (shift i y z hy hz) ∙ swap S z (r i) (words-sum 512 (suc i) (shares y r)) hz (good i)
+      sum-next 512 (suc i) (shares (addW y z) r)
+      ∙ ap (λ (t : List ℕ). addW t (r i)) (shift i y z hy hz) ∙ swap S z (r i) (words-sum 512 (suc i) (shares y r)) hz (good i)
+      ∙ ap (λ (t : List ℕ). addW t z) (sym (sum-next 512 (suc i) (shares y r)))
 
   -- a step of Algorithm 14
   turn : (i : ℕ) (x s : List ℕ) (f : ℕ → List ℕ) → Words 512 x → Words 512 s → s ≡ f (suc i)
       → sumOf 512 (suc i) (shares x r) ≡ sumOf 512 (suc i) f → sumOf 512 (suc (suc i)) (shares (addW (subW x (r i)) s) r) ≡ sumOf 512 (suc (suc i)) f
-  unfolding sumOf
   turn i x s f hx hs e h =
       let u : List ℕ = subW x (r i) in
       let hu : Words 512 u = words-sub x (r i) hx in
       let S : List ℕ = sumOf 512 (suc i) (shares u r) in
       let hS : Words 512 S = words-sum 512 (suc i) (shares u r) in
-      ap (λ (t : List ℕ). addW t (r i)) (shift i u s hu hs) ∙ swap S s (r i) hS hs (good i)
+      sum-next 512 (suc i) (shares (addW u s) r)
+      ∙ ap (λ (t : List ℕ). addW t (r i)) (shift i u s hu hs) ∙ swap S s (r i) hS hs (good i)
       ∙ ap (λ (t : List ℕ). addW t s) (sym (shift i u (r i) hu (good i))
       ∙ ap (λ (t : List ℕ). sumOf 512 (suc i) (shares t r)) (add-sub x (r i) hx (good i)) ∙ h)
       ∙ ap (addW (sumOf 512 (suc i) f)) e
+      ∙ sym (sum-next 512 (suc i) f)
 
 -- share i + 1 of polynomial j, from its seed: zero where it does not fill
 abbrev pub fromSeed : Params → List ℕ → ℕ → ℕ → List ℕ
 fromSeed p seeds j i = heldOf (seededShare p seeds j (suc i)) .poly
-
-held-words : (o : Option (List ℕ)) → ((f : List ℕ) → o ≡ some f → Words 512 f) → Words 512 (heldOf o .poly)
-unfolding heldOf
-held-words none h = words-zeros 512
-held-words (some f) h = h f refl
 
 seed-words : (p : Params) (seeds : List ℕ) (j i : ℕ) → Words 512 (fromSeed p seeds j i)
 unfolding seededShareOf
@@ -80,8 +80,9 @@ module _ (p : Params) (seeds xs : List ℕ) (j n : ℕ) (w : Words (n * 512) xs)
   -- the sum of the first i + 1 shares stays
   sum-stays : (i : ℕ) → i < n → (y : List ℕ) → collected p seeds xs j i ≡ some y
       → sumOf 512 (suc i) (shares y (fromSeed p seeds j)) ≡ sumOf 512 (suc i) (λ (m : ℕ). block 512 m xs)
-  unfolding sumOf
-  sum-stays zero h y e = ap (addW (zeros 512)) (collected-first p seeds xs j y e)
+  sum-stays zero h y e =
+      sum-one 512 (shares y (fromSeed p seeds j)) ∙ ap (addW (zeros 512)) (collected-first p seeds xs j y e)
+      ∙ sym (sum-one 512 (λ (m : ℕ). block 512 m xs))
   sum-stays (suc i) h y e =
       let t = collected-step p seeds xs j i y e in
       let k : y ≡ addW (subW (t .x) (fromSeed p seeds j i)) (block 512 (suc i) xs) =
@@ -162,24 +163,26 @@ module _ (p : Params) (Z X s x : List ℕ) (h : 1 ≤ p .shares) (w : Words (p .
       all-there (p .l) (λ (j : ℕ). buildAll (p .shares) (shareAt p (Z ++ X) j)) (λ (j : ℕ). build (p .shares) (sharing j))
       (λ j k. all-there (p .shares) (shareAt p (Z ++ X) j) (sharing j) (share-there j k))
 
-  pub expanded-words : Words (p .l * (p .shares * 512)) expanded
+  pub expansion-words : Words (p .l * (p .shares * 512)) expanded
   unfolding expanded
-  expanded-words = words-build (p .l) (λ (j : ℕ). build (p .shares) (sharing j)) (λ j k. words-build (p .shares) (sharing j) (sharing-words j k))
+  expansion-words = words-build (p .l) (λ (j : ℕ). build (p .shares) (sharing j)) (λ j k. words-build (p .shares) (sharing j) (sharing-words j k))
 
   total-same : (j : ℕ) → j < p .l → total (p .shares) (build (p .shares) (sharing j)) ≡ total (p .shares) (given j)
-  unfolding total sharing
+  unfolding sharing
   total-same j k =
       let n : suc (p .shares - 1) ≡ p .shares = omega arith in
       total-build (p .shares) (sharing j) (λ i g. sharing-words j k i g .long)
       ∙ ap (λ (m : ℕ). sumOf 512 m (sharing j)) (sym n)
       ∙ sum-stays p Z (given j) j (p .shares) (given-words j k) (p .shares - 1) (omega arith) (full-at j) (last-is j k)
       ∙ ap (λ (m : ℕ). sumOf 512 m (λ (i : ℕ). block 512 i (given j))) n
+      ∙ sym (total-is (p .shares) (given j))
 
   pub secrets-same : totals (p .l) (p .shares) expanded ≡ totals (p .l) (p .shares) s
-  unfolding expanded totals given
+  unfolding expanded given
   secrets-same =
       totals-build (p .l) (p .shares) (λ (j : ℕ). build (p .shares) (sharing j)) (λ j k. words-build (p .shares) (sharing j) (sharing-words j k) .long)
       ∙ build-ext (p .l) (λ (j : ℕ). total (p .shares) (build (p .shares) (sharing j))) (λ (j : ℕ). total (p .shares) (given j)) total-same
+      ∙ sym (totals-are (p .l) (p .shares) s)
 
 -- of a key that key generation made
 pub record Expansion (p : Params) (seeds mask key : List ℕ) : Type 0 where
@@ -203,6 +206,6 @@ expansion p seeds mask key r h l e =
     record {
       shares-of = expanded p Z X s (m .x) h w z (m .share-is) f;
       is = ap (decompressed p) (k .part) ∙ expand-there p Z X s (m .x) h w z (m .share-is) f;
-      words = expanded-words p Z X s (m .x) h w z (m .share-is) f;
+      words = expansion-words p Z X s (m .x) h w z (m .share-is) f;
       secrets = secrets-same p Z X s (m .x) h w z (m .share-is) f;
     }

@@ -3,7 +3,7 @@ use mathlib.Core.Path.{_≡_, sym, ap, subst, _∙_}
 use mathlib.Core.Bool.{Bool, true, false}
 use mathlib.Core.List.{List}
 use mathlib.Core.Option.{some}
-use Prim.Native.Nat.{ℕ, _+_, _*_, _/_, _^_}
+use Prim.Native.Nat.{ℕ, suc, _+_, _*_, _/_, _^_, _≤_}
 use native.Mathlib.Omega.{arith}
 use lib.ListN.{length, drop}
 use Rattle.hash.specs.Params.{orderIndex}
@@ -11,7 +11,7 @@ use Rattle.hash.specs.declared.params.Params.{Params}
 use Rattle.ring.specs.Words.{q, Below}
 use Rattle.ring.specs.Round.{roundT}
 use Rattle.ring.specs.Uniform.{heldOf}
-use Rattle.sharing.specs.Blocks.{totals}
+use Rattle.sharing.specs.Blocks.{block, totals}
 use Rattle.sharing.specs.Region.{sub, Wrote}
 use Rattle.sharing.specs.Encoding.{skip, addNoise, zeroVector}
 use Rattle.sharing.specs.Masks.{masks}
@@ -19,19 +19,24 @@ use Rattle.sharing.specs.Noise.{seedNoise}
 use Rattle.sharing.specs.declared.masks.MaskGen.{MaskGen}
 use Rattle.sharing.proofs.Regions.{wrote-value, wrote-wide, wrote-over}
 use Rattle.signature.specs.Checks.{both}
-use Rattle.signature.specs.Keygen.{atS, atT, atX}
+use Rattle.signature.specs.Keygen.{atS, atT, atX, Rounded, Generated}
 use Rattle.signature.specs.Keys.{keyShares, keyVector, compressed}
 use Rattle.signature.specs.Compress.{compressedOf}
-use Rattle.signature.specs.Masked.{seeded, maskedNoise, transformed, rowsOf}
+use Rattle.signature.specs.Masked.{seeded, maskedNoise, maskedImage, transformed, rowsOf, SummedAll}
 use Rattle.signature.specs.Matrix.{matrix, matrixOf, filled}
-use Rattle.signature.proofs.Checks.{filled-some}
+use Rattle.ring.proofs.Filled.{filled-some}
 use Rattle.signature.proofs.Masking.{image-is}
 use Rattle.signature.proofs.Product.{transformed-each}
 
 -- lines 5 to 8: a sum, rounded where it is
-pub rounded-made : (n at k : ℕ) (X s₀ s₁ s₂ : List ℕ) → Wrote n at (k * 512) X s₀ s₁ → Wrote 0 at (k * 512) (roundT (sub s₁ at (k * 512))) s₁ s₂
-    → Wrote n at (k * 512) (roundT X) s₀ s₂
-rounded-made n at k X s₀ s₁ s₂ u v = wrote-over u (wrote-wide (omega arith) (wrote-value (ap roundT (u .new)) v))
+pub rounded-made : (p : Params) (to : ℕ) (W s₀ s₁ s₂ : List ℕ) → p .shares * 512 + p .shares * 512 ≤ to
+    → SummedAll (p .shares) (p .k) (p .shares * 512) to W s₀ s₁ → Wrote 0 to (p .k * 512) (roundT (sub s₁ to (p .k * 512))) s₁ s₂
+    → Rounded p to W s₀ s₂
+rounded-made p to W s₀ s₁ s₂ h u v =
+    record {
+      row = λ (i : ℕ) (e : p .k ≡ suc i). v .front (p .shares * 512) (p .shares * 512) (omega arith) h ∙ u .shares i e;
+      vector = wrote-over (u .sums) (wrote-wide (omega arith) (wrote-value (ap roundT (u .sums .new)) v));
+    }
 
 -- ---- all of it: s₁ is the buffer behind `secret`, s₂ behind `public_vector`, s₃ behind `compress_vector`
 
@@ -46,7 +51,7 @@ abbrev pub Said : Params → List ℕ → List ℕ → List ℕ → Bool → Lis
 Said p seed coins shares c s g =
     (c ≡ both (filled (matrix p seed)) (filled (compressed p shares (keyShares p coins g))))
     × ((A X : List ℕ) → matrix p seed ≡ some A → compressed p shares (keyShares p coins g) ≡ some X
-    → (sub s (atT (p .l) (p .shares)) (p .k * 512) ≡ keyVector p coins g A) × (sub s (atX (p .k) (p .l) (p .shares)) (p .l * 512) ≡ X))
+    → Generated p coins g A X s)
 
 -- s in the coefficient domain
 abbrev pub secretOf : Params → List ℕ → MaskGen → List ℕ
@@ -58,28 +63,31 @@ secretOf p coins g =
 abbrev pub restOf : Params → List ℕ → List ℕ
 restOf p coins = drop (p .l * p .rep * p .shares * (p .kappa / 8)) coins
 
--- t, of the rest of the noise seeds, the list at s and the generator x behind it
-abbrev pub publicOf : Params → List ℕ → MaskGen → List ℕ → List ℕ → List ℕ
-publicOf p rest x A S =
-    roundT (totals (p .k) (p .shares) (addNoise masks (p .shares) x (p .k) (p .rep) (seedNoise (p .shares) (p .rep) (p .ut) (p .kappa / 8) rest)
-    (rowsOf (p .shares) (p .k) (p .l) A S)))
+-- the shares of all rows of t, of the rest of the noise seeds, the list at s and the generator x behind it
+abbrev pub imageOf : Params → List ℕ → MaskGen → List ℕ → List ℕ → List ℕ
+imageOf p rest x A S =
+    addNoise masks (p .shares) x (p .k) (p .rep) (seedNoise (p .shares) (p .rep) (p .ut) (p .kappa / 8) rest) (rowsOf (p .shares) (p .k) (p .l) A S)
 
 module _ (p : Params) (power : p .shares ≡ 2 ^ orderIndex (p .shares)) (coins shares : List ℕ) (g : MaskGen) where
   shares-is : transformed (p .l * p .shares) (secretOf p coins g) ≡ keyShares p coins g
   unfolding keyShares maskedNoise seeded
   shares-is = transformed-each (p .l) (p .shares) (secretOf p coins g)
 
-  vector-is : (seed A : List ℕ) (x : MaskGen) → matrix p seed ≡ some A → x ≡ skip masks (p .shares) (p .l + p .l * p .rep) g
-      → publicOf p (restOf p coins) x A (transformed (p .l * p .shares) (secretOf p coins g)) ≡ keyVector p coins g A
-  unfolding keyVector maskedNoise seeded
-  vector-is seed A x e f = ap roundT (image-is p (seeded p (p .ut) coins) g x power f seed A e)
+  rows-are : (seed A : List ℕ) (x : MaskGen) → matrix p seed ≡ some A → x ≡ skip masks (p .shares) (p .l + p .l * p .rep) g
+      → imageOf p (restOf p coins) x A (transformed (p .l * p .shares) (secretOf p coins g)) ≡ maskedImage p (seeded p (p .ut) coins) g A
+  unfolding maskedNoise seeded
+  rows-are seed A x e f = image-is p (seeded p (p .ut) coins) g x power f seed A e
+
+  vector-is : (A W : List ℕ) → W ≡ maskedImage p (seeded p (p .ut) coins) g A → roundT (totals (p .k) (p .shares) W) ≡ keyVector p coins g A
+  unfolding keyVector
+  vector-is A W e = ap (λ (X : List ℕ). roundT (totals (p .k) (p .shares) X)) e
 
   module _ (seed rest s₀ s₁ s₂ s₃ : List ℕ) (x : MaskGen) (b : Bool) (hr : rest ≡ restOf p coins)
       (u : Wrote (p .shares * 512) (atS (p .shares)) (p .l * (p .shares * 512)) (transformed (p .l * p .shares) (secretOf p coins g)) s₀ s₁)
       (hx : x ≡ skip masks (p .shares) (p .l + p .l * p .rep) g)
       (hb : b ≡ filled (matrixOf (p .k) (p .l) seed))
       (v : (A : List ℕ) → matrixOf (p .k) (p .l) seed ≡ some A
-      → Wrote (p .shares * 512 + p .shares * 512) (atT (p .l) (p .shares)) (p .k * 512) (publicOf p rest x A (sub s₁ (atS (p .shares)) (p .l * (p .shares * 512)))) s₁ s₂) where
+      → Rounded p (atT (p .l) (p .shares)) (imageOf p rest x A (sub s₁ (atS (p .shares)) (p .l * (p .shares * 512)))) s₁ s₂) where
     module _ (c : Bool) (yes : b ≡ true)
         (hc : c ≡ filled (compressedOf (p .edition) (p .kappa / 8) shares (p .l) (p .shares) (sub s₂ (atS (p .shares)) (p .l * (p .shares * 512)))))
         (w : (X : List ℕ) → compressedOf (p .edition) (p .kappa / 8) shares (p .l) (p .shares) (sub s₂ (atS (p .shares)) (p .l * (p .shares * 512))) ≡ some X
@@ -87,7 +95,7 @@ module _ (p : Params) (power : p .shares ≡ 2 ^ orderIndex (p .shares)) (coins 
       kept : sub s₂ (atS (p .shares)) (p .l * (p .shares * 512)) ≡ keyShares p coins g
       kept =
           let m = matrixOf (p .k) (p .l) seed in
-          v (heldOf m .poly) (filled-some m (sym hb ∙ yes)) .front (atS (p .shares)) (p .l * (p .shares * 512)) (omega arith) (omega arith)
+          v (heldOf m .poly) (filled-some m (sym hb ∙ yes)) .vector .front (atS (p .shares)) (p .l * (p .shares * 512)) (omega arith) (omega arith)
           ∙ u .new ∙ shares-is
 
       full : compressedOf (p .edition) (p .kappa / 8) shares (p .l) (p .shares) (sub s₂ (atS (p .shares)) (p .l * (p .shares * 512)))
@@ -98,14 +106,20 @@ module _ (p : Params) (power : p .shares ≡ 2 ^ orderIndex (p .shares)) (coins 
       key-filled =
           hc ∙ ap filled full ∙ sym (both-right (filled (matrix p seed)) (filled (compressed p shares (keyShares p coins g))) (sym hb ∙ yes))
 
-      key-made : (A X : List ℕ) → matrix p seed ≡ some A → compressed p shares (keyShares p coins g) ≡ some X
-          → (sub s₃ (atT (p .l) (p .shares)) (p .k * 512) ≡ keyVector p coins g A) × (sub s₃ (atX (p .k) (p .l) (p .shares)) (p .l * 512) ≡ X)
+      key-made : (A X : List ℕ) → matrix p seed ≡ some A → compressed p shares (keyShares p coins g) ≡ some X → Generated p coins g A X s₃
       key-made A X hA hX =
-          let z = w X (full ∙ hX) in (
-            z .front (atT (p .l) (p .shares)) (p .k * 512) (omega arith) (omega arith) ∙ v A hA .new ∙ ap (publicOf p rest x A) (u .new)
-                ∙ ap (λ (t : List ℕ). publicOf p t x A (transformed (p .l * p .shares) (secretOf p coins g))) hr ∙ vector-is seed A x hA hx,
-            z .new,
-          )
+          let z = w X (full ∙ hX) in
+          let r = v A hA in
+          let W : imageOf p rest x A (sub s₁ (atS (p .shares)) (p .l * (p .shares * 512))) ≡ maskedImage p (seeded p (p .ut) coins) g A =
+          ap (imageOf p rest x A) (u .new) ∙ ap (λ (t : List ℕ). imageOf p t x A (transformed (p .l * p .shares) (secretOf p coins g))) hr
+          ∙ rows-are seed A x hA hx in
+          record {
+            shares = z .front (atS (p .shares)) (p .l * (p .shares * 512)) (omega arith) (omega arith) ∙ kept;
+            row = λ (i : ℕ) (e : p .k ≡ suc i).
+                z .front (p .shares * 512) (p .shares * 512) (omega arith) (omega arith) ∙ r .row i e ∙ ap (block (p .shares * 512) i) W;
+            vector = z .front (atT (p .l) (p .shares)) (p .k * 512) (omega arith) (omega arith) ∙ r .vector .new ∙ vector-is A _ W;
+            full = z .new;
+          }
 
       pub made-parts : (g′ : MaskGen) → g ≡ g′ → Said p seed coins shares c s₃ g′
       made-parts g′ e = subst (Said p seed coins shares c s₃) e (key-filled, key-made)
@@ -119,4 +133,4 @@ abbrev pub Made : Params → MaskGen → Bool → List ℕ → List ℕ → List
 Made p g r s₀ s seed coins shares =
     ((r ≡ both (filled (matrix p seed)) (filled (compressed p shares (keyShares p coins g)))) × (length s ≡ length s₀) × Below q s)
     × ((A x : List ℕ) → matrix p seed ≡ some A → compressed p shares (keyShares p coins g) ≡ some x
-    → (sub s (atT (p .l) (p .shares)) (p .k * 512) ≡ keyVector p coins g A) × (sub s (atX (p .k) (p .l) (p .shares)) (p .l * 512) ≡ x))
+    → Generated p coins g A x s)

@@ -9,7 +9,6 @@ pub mod ChalBytes
 pub mod ChalMap
 pub mod ChalResult
 pub mod ChalRun
-pub mod Checks
 pub mod Codes
 pub mod Collected
 pub mod Commits

@@ -1,18 +1,19 @@
 -- The shares of a key in the work buffer of signing: those of a signing key are words, and what checks 3 and 5 say of a key.
-use mathlib.Core.Path.{_≡_, refl, sym, ap, _∙_}
+use mathlib.Core.Path.{_≡_, refl, sym, ap, subst, _∙_}
 use mathlib.Core.Bool.{Bool, true, false}
 use mathlib.Core.List.{List}
-use mathlib.Core.Option.{Option, some, none}
+use mathlib.Core.Option.{some}
 use Prim.Native.Nat.{ℕ, zero, suc, _+_, _-_, _*_, _≤_, _<_}
 use native.Mathlib.Omega.{arith}
 use borrow.Author.Tests.{eqb-true}
 use lib.ListN.{length, take, drop}
 use Rattle.hash.specs.declared.params.Params.{Params}
 use Rattle.ring.specs.Words.{q, Below, Words}
-use Rattle.ring.specs.Uniform.{heldOf}
 use Rattle.ring.proofs.Draws.{sampleQ-words}
-use Rattle.ring.proofs.Sums.{words-zeros, all-below}
-use Rattle.sharing.specs.Blocks.{build}
+use Rattle.ring.proofs.Sums.{all-below}
+use Rattle.ring.proofs.Checks.{absurd-bool}
+use Rattle.ring.proofs.Filled.{some-same, held-words}
+use Rattle.sharing.specs.Blocks.{block, build}
 use Rattle.sharing.specs.Region.{put, Wrote}
 use Rattle.sharing.proofs.Lists.{block-words, words-build}
 use Rattle.sharing.proofs.Regions.{put-back, wrote-put}
@@ -23,20 +24,16 @@ use Rattle.signature.specs.Matrix.{filled}
 use Rattle.signature.specs.Expanding.{expandedAt, expandedShares}
 use Rattle.signature.specs.SignCalls.{keySized, sharesGood, sharesOf}
 use Rattle.signature.proofs.Asked.{sizes}
-use Rattle.signature.proofs.KeyMade.{some-same}
-use Rattle.signature.proofs.Checks.{absurd-bool}
-use Rattle.signature.proofs.Expanded.{full-length, expanded-all, tail-is}
+use Rattle.signature.proofs.Expanded.{full-length, expanded-all}
+use Rattle.signature.proofs.Sizes.{part-all}
 
 -- ---- the shares of a signing key are words
 
-held-words : (o : Option (List ℕ)) → ((f : List ℕ) → o ≡ some f → Words 512 f) → Words 512 (heldOf o .poly)
-unfolding heldOf
-held-words none h = words-zeros 512
-held-words (some f) h = h f refl
-
 share-words : (p : Params) (part : List ℕ) → Below q (fullShare p part) → (j i : ℕ) → j < p .l → Words 512 (expandedAt p part j i)
-unfolding shareAt seededShareOf heldOf
-share-words p part b j zero h = block-words (p .l) j (fullShare p part) (record { long = full-length p part; low = b }) h
+unfolding shareAt seededShareOf
+share-words p part b j zero h =
+    let w = block-words (p .l) j (fullShare p part) (record { long = full-length p part; low = b }) h in
+    held-words (shareAt p part j 0) (λ (f : List ℕ) e. subst (Words 512) (some-same (block 512 j (fullShare p part)) f e) w)
 share-words p part b j (suc i) h = held-words (seededShare p part j (suc i)) (λ (f : List ℕ) e. sampleQ-words _ _ f e)
 
 pub expanded-words : (p : Params) (part : List ℕ) → Below q (fullShare p part) → Words (p .l * (p .shares * 512)) (expandedShares p part)
@@ -79,7 +76,7 @@ module _ (p : Params) (key words : List ℕ) where
   pub packed-shares : (x : Bool) → x ≡ true
       → decompressed p (take (length key - p .«vk_bytes») (drop (p .«vk_bytes») key)) ≡ sharesOf p (keyFrom x key words)
   unfolding expandOf
-  packed-shares true e = ap (decompressed p) (tail-is key (p .«vk_bytes»))
+  packed-shares true e = ap (decompressed p) (part-all (p .«vk_bytes») key)
   packed-shares false e = absurd-bool (sym e)
 
   pub expanded-shares : (x : Bool) → x ≡ false → some words ≡ sharesOf p (keyFrom x key words)

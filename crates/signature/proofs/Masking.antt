@@ -7,7 +7,6 @@ use native.Mathlib.Omega.{arith}
 use Rattle.hash.specs.Params.{orderIndex}
 use Rattle.hash.specs.declared.params.Params.{Params}
 use Rattle.ring.specs.Words.{Words}
-use Rattle.sharing.specs.Blocks.{totals}
 use Rattle.sharing.specs.Region.{sub, Wrote}
 use Rattle.sharing.specs.Encoding.{skip, addNoise, zeroVector}
 use Rattle.sharing.specs.Masks.{masks}
@@ -21,7 +20,7 @@ use Rattle.signature.proofs.Images.{image-product}
 
 -- l zero encodings, their noise, and the transform
 pub noise-made : (l d rep at : ℕ) (N : ℕ → ℕ → List ℕ) (g x : MaskGen) (s₀ s₁ s₂ s₃ : List ℕ) → x ≡ skip masks d l g
-    → Wrote (d * 512) at (l * (d * 512)) (zeroVector masks d g l) s₀ s₁
+    → Wrote 0 at (l * (d * 512)) (zeroVector masks d g l) s₀ s₁
     → Wrote (d * 512) at (l * (d * 512)) (addNoise masks d x l rep N (sub s₁ at (l * (d * 512)))) s₁ s₂
     → Wrote 0 at (l * d * 512) (transformed (l * d) (sub s₂ at (l * d * 512))) s₂ s₃
     → Wrote (d * 512) at (l * (d * 512)) (transformed (l * d) (addNoise masks d (skip masks d l g) l rep N (zeroVector masks d g l))) s₀ s₃
@@ -31,7 +30,7 @@ noise-made l d rep at N g x s₀ s₁ s₂ s₃ e u v w =
     subst (λ (m : ℕ). Wrote 0 at m (transformed (l * d) (sub s₂ at m)) s₂ s₃) n w in
     let f : sub s₂ at (l * (d * 512)) ≡ addNoise masks d (skip masks d l g) l rep N (zeroVector masks d g l) =
     v .new ∙ ap (addNoise masks d x l rep N) (u .new) ∙ ap (λ (h : MaskGen). addNoise masks d h l rep N (zeroVector masks d g l)) e in
-    wrote-over u (wrote-over v (wrote-wide (omega arith) (wrote-value (ap (transformed (l * d)) f) t)))
+    wrote-over (wrote-wide (omega arith) u) (wrote-over v (wrote-wide (omega arith) (wrote-value (ap (transformed (l * d)) f) t)))
 
 pub skip-two : (d a b : ℕ) (g x y : MaskGen) → x ≡ skip masks d a g → y ≡ skip masks d b x → y ≡ skip masks d (a + b) g
 skip-two d a b g x y e f = f ∙ ap (skip masks d b) e ∙ skip-add masks d a b g
@@ -47,12 +46,12 @@ module _ (p : Params) (N : Noise) (g x : MaskGen) (power : p .shares ≡ 2 ^ ord
     (e : x ≡ skip masks (p .shares) (beforeProduct p N) g) where
   -- the image of the transformed noise, by the rows of the matrix
   pub image-is : (seed A : List ℕ) → matrix p seed ≡ some A
-      → totals (p .k) (p .shares) (addNoise masks (p .shares) x (p .k) (N .reps) (N .second)
-      (rowsOf (p .shares) (p .k) (p .l) A (transformed (p .l * p .shares) (maskedNoise p N g))))
-      ≡ totals (p .k) (p .shares) (maskedImage p N g A)
+      → addNoise masks (p .shares) x (p .k) (N .reps) (N .second)
+      (rowsOf (p .shares) (p .k) (p .l) A (transformed (p .l * p .shares) (maskedNoise p N g)))
+      ≡ maskedImage p N g A
   unfolding maskedImage
   image-is seed A m =
-      let I : MaskGen → List ℕ → List ℕ = λ (h : MaskGen) (Y : List ℕ). totals (p .k) (p .shares) (addNoise masks (p .shares) h (p .k) (N .reps) (N .second) Y) in
+      let I : MaskGen → List ℕ → List ℕ = λ (h : MaskGen) (Y : List ℕ). addNoise masks (p .shares) h (p .k) (N .reps) (N .second) Y in
       let R = rowsOf (p .shares) (p .k) (p .l) A (transformed (p .l * p .shares) (maskedNoise p N g)) in
       ap (λ (h : MaskGen). I h R) e
       ∙ ap (I (skip masks (p .shares) (beforeProduct p N) g))

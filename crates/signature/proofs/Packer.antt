@@ -41,9 +41,9 @@ pub top-fits : (acc y have t x : ℕ) → acc < 2 ^ have → have + t ≤ 64 →
 top-fits acc y have t x h k e = omega (arith, top-exact y have t x k e, top-lt acc have t x h, pow-mono {i = have + t} {j = 64} k)
 
 module _ (w : ℕ) (xs l : List ℕ) where
-  pub start : Packed w xs l l 0 0 0 0
+  pub pack-start : Packed w xs l l 0 0 0 0
   unfolding fields bitsOf
-  start = record { done = []; long = omega arith; low = omega arith; stored-is = refl; all-is = refl }
+  pack-start = record { done = []; long = omega arith; low = omega arith; stored-is = refl; all-is = refl }
 
   module _ (out : List ℕ) (i j acc have : ℕ) (s : Packed w xs l out i j acc have) where
     pub place : i ≤ length xs → j * 8 + have ≡ i * w
@@ -51,8 +51,8 @@ module _ (w : ℕ) (xs l : List ℕ) where
         let e = length-fields w (take i xs) ∙ ap (λ (n : ℕ). n * w) (length-take-le i xs h) in
         omega (arith, ap length (s .all-is), length-append (s .done) (bitsOf have acc), s .long, length-bits have acc)
 
-    pub room : (n : ℕ) → i < length xs → length xs * w ≡ n * 8 → 64 ≤ have + w → j + 8 ≤ n
-    room n h e k = omega (arith, place (omega arith), inside i (length xs) w h)
+    pub word-room : (n : ℕ) → i < length xs → length xs * w ≡ n * 8 → 64 ≤ have + w → j + 8 ≤ n
+    word-room n h e k = omega (arith, place (omega arith), inside i (length xs) w h)
 
     pub last-place : (n : ℕ) → i ≤ length xs → length xs ≤ i → length xs * w ≡ n * 8 → j * 8 + have ≡ n * 8
     last-place n h g e = let d : i ≡ length xs = omega arith in place h ∙ ap (λ (m : ℕ). m * w) d ∙ e

@@ -64,8 +64,8 @@ module _ (n m : ℕ) (t : List ℕ) where
       unfolding parsed
       by-fill = rw (e, g)
 
-      pub both : allZero (drop j (drop i t)) ≡ true → parsed n m t ≡ some (h, z)
-      both k = by-fill ∙ ap (λ (b : Bool). pick b (some (h, z)) none) k
+      pub parsed-both : allZero (drop j (drop i t)) ≡ true → parsed n m t ≡ some (h, z)
+      parsed-both k = by-fill ∙ ap (λ (b : Bool). pick b (some (h, z)) none) k
 
       no-fill : allZero (drop j (drop i t)) ≡ false → parsed n m t ≡ none
       no-fill k = by-fill ∙ ap (λ (b : Bool). pick b (some (h, z)) none) k
@@ -84,7 +84,7 @@ module _ (n m : ℕ) (t : List ℕ) where
       go₃ : (a : List ℤ × ℕ) → readCodes 0 n t ≡ some a → (c : List ℤ × ℕ) → readCodes 40 m (drop (a .1) t) ≡ some c
           → (d : Bool) → allZero (drop (c .1) (drop (a .1) t)) ≡ d → Both h z
       go₃ a g c k true x =
-          let q = both (a .0) (a .1) g (c .0) (c .1) k x in
+          let q = parsed-both (a .0) (a .1) g (c .0) (c .1) k x in
           let r : _≡_ {A = List ℤ × List ℤ} (a .0, c .0) (h, z) = cc in
           record {
             i = a .1;

@@ -14,12 +14,12 @@ use Rattle.hash.specs.declared.params.Params.{Params}
 use Rattle.signature.specs.Answers.{fieldsOf, parsed, ReadOf, boundsOf}
 use Rattle.signature.specs.Bits.{fields}
 use Rattle.signature.specs.Bounds.{within, squares, checkBounds}
-use Rattle.signature.specs.Checks.{ask, sameBytes, writtenAs, properFields, properForm}
+use Rattle.signature.specs.Checks.{ask, writtenAs, properFields, properForm}
 use Rattle.signature.specs.Form.{Fields, hashBytes, write, read}
 use Rattle.signature.specs.Verify.{verifyMatrix, verifyFields}
-use Rattle.signature.proofs.Canonical.{accepted, refused, read-sized}
+use Rattle.signature.proofs.Canonical.{read-accepted, read-refused, read-sized}
 use Rattle.signature.proofs.Parsed.{read-true, read-false}
-use Rattle.signature.proofs.Checks.{absurd-bool}
+use Rattle.ring.proofs.Checks.{absurd-bool}
 use Rattle.signature.proofs.SameBytes.{same-refl, same-eq}
 
 -- what the writer makes of the fields read
@@ -62,18 +62,18 @@ module _ (p : Params) (vk msg b : List ℕ) (byte : Bytes b) (long : length b �
   bits = drop (8 * hashBytes p) (fields 8 b)
 
   pub status-14 : parsed (p .k * 512) (p .l * 512) bits ≡ none → ask 14 (properForm p b) (verifyFields p vk msg (read p b)) ≡ 14
-  status-14 e = ap (λ (t : Bool). ask 14 t (verifyFields p vk msg (read p b))) (proper-none p b (λ (f : Fields). λ (r : read p b ≡ some f) (w : write p f ≡ some b). refused p b byte long size f e r w))
+  status-14 e = ap (λ (t : Bool). ask 14 t (verifyFields p vk msg (read p b))) (proper-none p b (λ (f : Fields). λ (r : read p b ≡ some f) (w : write p f ≡ some b). read-refused p b byte long size f e r w))
 
   pub status-read : (h z : List ℤ) → parsed (p .k * 512) (p .l * 512) bits ≡ some (h, z)
       → ask 14 (properForm p b) (verifyFields p vk msg (read p b)) ≡ verifyFields p vk msg (some (fieldsOf (take (hashBytes p) b) h z))
   status-read h z e =
-      let a = accepted p b byte long size h z e in
+      let a = read-accepted p b byte long size h z e in
       ap (λ (t : Bool). ask 14 t (verifyFields p vk msg (read p b))) (proper-some p b (fieldsOf (take (hashBytes p) b) h z) (a .0) (a .1)) ∙ ap (verifyFields p vk msg) (a .0)
 
   -- the fields have the set's sizes
   pub sizes-read : (h z : List ℤ) → parsed (p .k * 512) (p .l * 512) bits ≡ some (h, z) → (length h ≡ p .k * 512) × (length z ≡ p .l * 512)
   sizes-read h z e =
-      let s = read-sized p b (fieldsOf (take (hashBytes p) b) h z) byte size (accepted p b byte long size h z e .0) in
+      let s = read-sized p b (fieldsOf (take (hashBytes p) b) h z) byte size (read-accepted p b byte long size h z e .0) in
       (s .hint-long, s .response-long)
 
 -- what the reader's answer says of the definition, where its lists have n and m numbers

@@ -1,37 +1,38 @@
 -- Rows of y = A z - 2^42 c t: as the code makes them, and as the definition has them.
-use mathlib.Core.Path.{_≡_, refl, sym, ap, _∙_}
+use mathlib.Core.Path.{_≡_, sym, ap, _∙_}
 use mathlib.Core.List.{List}
 use mathlib.Core.Option.{some}
 use Prim.Native.Nat.{ℕ, _+_, _*_, _≤_, _<_}
 use native.Mathlib.Omega.{arith}
 use lib.ListN.{length}
-use Rattle.ring.specs.Words.{q, Below, Words, subW}
-use Rattle.ring.specs.Transform.{ntt, intt, pointwise, mul}
+use Rattle.ring.specs.Words.{Words, subW}
+use Rattle.ring.specs.Transform.{ntt, mul}
 use Rattle.ring.specs.Round.{scaledT}
 use Rattle.ring.proofs.Sums.{words-sub}
 use Rattle.ring.proofs.Theorems.{product}
 use Rattle.sharing.specs.Blocks.{block, build, sumOf}
 use Rattle.sharing.specs.Region.{sub, put, Wrote}
 use Rattle.sharing.proofs.Lists.{inside, block-words}
+use Rattle.sharing.proofs.Built.{block-of, build-one}
 use Rattle.sharing.proofs.Decode.{sum-ext}
 use Rattle.sharing.proofs.Regions.{sub-words, wrote-put, wrote-value, wrote-over}
 use Rattle.signature.specs.Masked.{rowShare, transformed}
 use Rattle.signature.specs.Matrix.{matrixOf, rowEntry}
 use Rattle.signature.specs.Recover.{productRow, recoveredRow, scaledBy, recoveredBy}
 use Rattle.signature.proofs.Entries.{matrix-words, entry-is}
-use Rattle.signature.proofs.Product.{block-of, row-share}
+use Rattle.signature.proofs.Product.{row-share}
 
 -- the row of A z made at `to`, and 2^42 c t, which is r, subtracted there
 pub recover-made : (l to at : ℕ) (a : ℕ → List ℕ) (C t r s₀ s₁ s₂ : List ℕ) → to + 512 ≤ length s₀
     → Wrote 0 to 512 (build 1 (rowShare 1 l a (sub s₀ at (l * 512)))) s₀ s₁ → r ≡ scaledBy C t → s₂ ≡ put s₁ to 512 (subW (sub s₁ to 512) r)
     → Wrote 0 to 512 (recoveredBy l a (sub s₀ at (l * 512)) C t) s₀ s₂
-unfolding recoveredBy build
+unfolding recoveredBy
 recover-made l to at a C t r s₀ s₁ s₂ h u e f =
     let n = u .long in
     let k : to + 512 ≤ length s₁ = omega (arith, n, h) in
     let X = subW (sub s₁ to 512) r in
     let w : Words 512 X = words-sub (sub s₁ to 512) r (sub-words s₁ to 512 k (u .low)) in
-    let g : X ≡ subW (rowShare 1 l a (sub s₀ at (l * 512)) 0) (scaledBy C t) = ap (λ (y : List ℕ). subW y r) (u .new) ∙ ap (subW (rowShare 1 l a (sub s₀ at (l * 512)) 0)) e in
+    let g : X ≡ subW (rowShare 1 l a (sub s₀ at (l * 512)) 0) (scaledBy C t) = ap (λ (y : List ℕ). subW y r) (u .new ∙ build-one (rowShare 1 l a (sub s₀ at (l * 512)))) ∙ ap (subW (rowShare 1 l a (sub s₀ at (l * 512)) 0)) e in
     wrote-over u (wrote-value g (wrote-put to 512 X s₁ s₂ k (w .long) (u .low) (w .low) f))
 
 -- row i, of the matrix of a seed, z and c below q
@@ -51,7 +52,7 @@ module _ (k l : ℕ) (seed A z c t : List ℕ) (e : matrixOf k l seed ≡ some A
       λ (m : ℕ) (o : m < l).
       let j : m * 1 + 0 ≡ m = omega arith in
       ap (λ (x : List ℕ). mul x (block 512 0 (block (1 * 512) m z))) (entry-is k l seed A e i m h o)
-      ∙ ap (mul (block 512 (i * l + m) A)) (block-of 1 m 0 z (omega arith) ∙ ap (λ (x : ℕ). block 512 x z) j) in
+      ∙ ap (mul (block 512 (i * l + m) A)) (block-of 512 1 m 0 z (omega arith) ∙ ap (λ (x : ℕ). block 512 x z) j) in
       ap (λ (x : List ℕ). subW x (scaledBy (ntt c) (block 512 i t)))
       (u ∙ sum-ext 512 l (λ (m : ℕ). mul (a m) (block 512 0 (block (1 * 512) m z))) (λ (m : ℕ). mul (block 512 (i * l + m) A) (block 512 m z)) v)
       ∙ ap (subW (productRow l A z i)) (product c (scaledT (block 512 i t)) wc wt)

@@ -13,8 +13,9 @@ use Rattle.sharing.specs.Encoding.{skip, refreshed}
 use Rattle.sharing.specs.Masks.{masks}
 use Rattle.sharing.specs.declared.masks.MaskGen.{MaskGen}
 use Rattle.sharing.proofs.Lists.{block-words, block-build, build-ext, build-add, blocks-all}
+use Rattle.sharing.proofs.Built.{each-is}
 use Rattle.sharing.proofs.Regions.{wrote-value, wrote-turn}
-use Rattle.sharing.proofs.Turns.{rest, source}
+use Rattle.sharing.proofs.Turns.{block-rest, source}
 use Rattle.signature.specs.Attempt.{atR, answered, answeredAt, Renewed, Responded}
 use Rattle.signature.specs.Keygen.{atS, atT, atX}
 use Rattle.signature.specs.Masked.{transformed, untransformed}
@@ -32,7 +33,7 @@ module _ (c : List ℕ) (d a b : ℕ) (s₀ : List ℕ) (h : a + d * 512 ≤ b) 
   answer-turn j s t p l u e v =
       let f = answered c (sub s₀ a (d * 512)) (sub s₀ b (d * 512)) in
       let x : sub s (a + j * 512) 512 ≡ block 512 j (sub s₀ a (d * 512)) = source 0 512 d a j s₀ s l b (j * 512) (build j f) (omega arith) h u in
-      let y : sub s (b + j * 512) 512 ≡ block 512 j (sub s₀ b (d * 512)) = rest 0 512 d b j s₀ s l (build j f) (omega arith) u in
+      let y : sub s (b + j * 512) 512 ≡ block 512 j (sub s₀ b (d * 512)) = block-rest 0 512 d b j s₀ s l (build j f) (omega arith) u in
       wrote-turn 512 j f (omega arith) u (wrote-value (cc (e, x, y)) v)
 
 -- polynomial by polynomial
@@ -46,7 +47,7 @@ module _ (c : List ℕ) (l d a b : ℕ) (s₀ : List ℕ) (h : a + l * (d * 512)
       let x : sub s (a + i * (d * 512)) (d * 512) ≡ block (d * 512) i (sub s₀ a (l * (d * 512))) =
       source 0 (d * 512) l a i s₀ s g b (i * (d * 512)) (build i f) (omega arith) h u in
       let y : sub s (b + i * (d * 512)) (d * 512) ≡ block (d * 512) i (sub s₀ b (l * (d * 512))) =
-      rest 0 (d * 512) l b i s₀ s g (build i f) (omega arith) u in
+      block-rest 0 (d * 512) l b i s₀ s g (build i f) (omega arith) u in
       wrote-turn (d * 512) i f (omega arith) u (wrote-value (ap (λ (X : List ℕ). build d (answered c X (sub s (b + i * (d * 512)) (d * 512)))) x
       ∙ ap (λ (Y : List ℕ). build d (answered c (block (d * 512) i (sub s₀ a (l * (d * 512)))) Y)) y) v)
 
@@ -54,7 +55,6 @@ module _ (c : List ℕ) (l d a b : ℕ) (s₀ : List ℕ) (h : a + l * (d * 512)
 module _ (c : List ℕ) (wc : Words 512 c) (d : ℕ) where
   share-is : (X Y : List ℕ) → Words (d * 512) X → Words (d * 512) Y
       → build d (answered (ntt c) X Y) ≡ addW (each d (λ (x : List ℕ). mul c (intt x)) X) Y
-  unfolding each
   share-is X Y wX wY =
       let F : ℕ → List ℕ = λ (j : ℕ). mul c (intt (block 512 j X)) in
       let wx : (j : ℕ) → j < d → Words 512 (block 512 j X) = λ (j : ℕ) (h : j < d). block-words d j X wX h in
@@ -64,6 +64,7 @@ module _ (c : List ℕ) (wc : Words 512 c) (d : ℕ) where
       (λ (j : ℕ) (h : j < d). mul-words c (intt (block 512 j X)) (intt-words (block 512 j X) (wx j h) .long) .long)
       (λ (j : ℕ) (h : j < d). block-words d j Y wY h .long)
       ∙ ap (addW (build d F)) (blocks-all 512 d Y (wY .long))
+      ∙ ap (λ (x : List ℕ). addW x Y) (sym (each-is d (λ (x : List ℕ). mul c (intt x)) X))
 
   pub response-is : (l : ℕ) (X Y : List ℕ) → Words (l * (d * 512)) X → Words (l * (d * 512)) Y
       → build l (answeredAt d (ntt c) X Y) ≡ maskedResponse d l c X Y
@@ -99,6 +100,8 @@ renew-made l d a b g x s₀ s₁ s₂ s₃ h k e u v w =
       noise =
           w .new ∙ ap (λ (y : MaskGen). refreshed masks d y l (sub s₂ b (l * (d * 512)))) e
           ∙ ap (refreshed masks d (skip masks d l g) l) (t .new ∙ ap (untransformed (l * d)) (u .behind b L (omega arith) k));
+      front = λ (o m : ℕ) (i : d * 512 ≤ o) (j : o + m ≤ a).
+          w .front o m i (omega arith) ∙ t .front o m (omega arith) (omega arith) ∙ u .front o m i j;
       behind = λ (o m : ℕ) (i : b + l * (d * 512) ≤ o).
           w .behind o m (omega arith) i ∙ t .behind o m (omega arith) i ∙ u .behind o m (omega arith) (omega arith);
       long = w .long ∙ t .long ∙ u .long;
@@ -130,6 +133,9 @@ respond-made k l d c g x s₀ s₁ s₂ s₃ s₄ e n u v w =
           ∙ ap (λ (X : List ℕ). maskedResponse d l c X (sub s₁ (atR l d) (l * (d * 512)))) (n .key)
           ∙ ap (maskedResponse d l c (refreshed masks d g l S)) (n .noise ∙ ap (refreshed masks d (skip masks d l g) l) b));
       response = w .new ∙ ap (totals l d) (sym (w .front (atR l d) L (omega arith) (omega arith)));
+      row =
+          w .front (d * 512) (d * 512) (omega arith) (omega arith) ∙ v .front (d * 512) (d * 512) (omega arith) (omega arith)
+          ∙ u .front (d * 512) (d * 512) (omega arith) (omega arith) ∙ n .front (d * 512) (d * 512) (omega arith) (omega arith);
       commitment =
           w .front (atT l d) (k * 512) (omega arith) (omega arith) ∙ v .behind (atT l d) (k * 512) (omega arith) (omega arith)
           ∙ u .behind (atT l d) (k * 512) (omega arith) (omega arith) ∙ n .behind (atT l d) (k * 512) (omega arith);

@@ -11,9 +11,11 @@ use Rattle.ring.proofs.Theorems.{intt-words}
 use Rattle.sharing.specs.Blocks.{zeros, block, build, sumOf}
 use Rattle.sharing.specs.Region.{sub, Wrote}
 use Rattle.sharing.proofs.Lists.{build-ext, block-build, build-zeros, words-build}
+use Rattle.sharing.proofs.Built.{sum-next}
 use Rattle.sharing.proofs.Decode.{words-sum, sum-ext}
+use Rattle.sharing.proofs.Loops.{sum-start}
 use Rattle.sharing.proofs.Regions.{block-sub, wrote-value, wrote-over, wrote-turn}
-use Rattle.sharing.proofs.Turns.{rest}
+use Rattle.sharing.proofs.Turns.{block-rest}
 use Rattle.signature.specs.Masked.{rowShare, untransformed, accrued, rowSum}
 
 -- products added to the shares at `to`
@@ -25,7 +27,7 @@ module _ (a : List ℕ) (d to at : ℕ) (s₀ : List ℕ) (h : to + d * 512 ≤ 
       → Wrote 0 to ((j + 1) * 512) (build (j + 1) (accrued a (sub s₀ to (d * 512)) (sub s₀ at (d * 512)))) s₀ t
   accrue-turn j s t x y p l u ex ey ep v =
       let f = accrued a (sub s₀ to (d * 512)) (sub s₀ at (d * 512)) in
-      let b : sub s (to + j * 512) 512 ≡ block 512 j (sub s₀ to (d * 512)) = rest 0 512 d to j s₀ s l (build j f) (omega arith) u in
+      let b : sub s (to + j * 512) 512 ≡ block 512 j (sub s₀ to (d * 512)) = block-rest 0 512 d to j s₀ s l (build j f) (omega arith) u in
       let e : sub s (at + j * 512) 512 ≡ sub s₀ (at + j * 512) 512 = u .behind (at + j * 512) 512 (omega arith) (omega arith) in
       let g : block 512 j (sub s₀ at (d * 512)) ≡ sub s₀ (at + j * 512) 512 = block-sub 512 d j s₀ at l in
       wrote-turn 512 j f (omega arith) u (wrote-value (cc (ex, ey, ep, b, e, g)) v)
@@ -37,13 +39,15 @@ unfolding rowSum
 sum-words d a X m j = words-sum 512 m (λ (i : ℕ). pointwise (ntt (a i)) (block 512 j (block (d * 512) i X)))
 
 sum-none : (d : ℕ) (a : ℕ → List ℕ) (X : List ℕ) → build d (rowSum d a X 0) ≡ zeros (d * 512)
-unfolding rowSum sumOf
-sum-none d a X = build-ext d (rowSum d a X 0) (λ (j : ℕ). zeros 512) (λ (j : ℕ) (l : j < d). refl) ∙ build-zeros 512 d
+unfolding rowSum
+sum-none d a X = build-ext d (rowSum d a X 0) (λ (j : ℕ). zeros 512) (λ (j : ℕ) (l : j < d). sym (sum-start 512 _)) ∙ build-zeros 512 d
 
 sum-more : (d : ℕ) (a : ℕ → List ℕ) (X : List ℕ) (m j : ℕ)
     → rowSum d a X (m + 1) j ≡ addW (rowSum d a X m j) (pointwise (ntt (a m)) (block 512 j (block (d * 512) m X)))
-unfolding rowSum sumOf
-sum-more d a X m j = ap (λ (n : ℕ). sumOf 512 n (λ (i : ℕ). pointwise (ntt (a i)) (block 512 j (block (d * 512) i X)))) (add-one m)
+unfolding rowSum
+sum-more d a X m j =
+    let f : ℕ → List ℕ = λ (i : ℕ). pointwise (ntt (a i)) (block 512 j (block (d * 512) i X)) in
+    ap (λ (n : ℕ). sumOf 512 n f) (add-one m) ∙ sum-next 512 m f
 
 module _ (d l to at : ℕ) (a : ℕ → List ℕ) (h : to + d * 512 ≤ at) where
   -- zero is the sum of no columns

@@ -9,14 +9,15 @@ use lib.ListN.{length}
 use Rattle.hash.specs.Lists.{pick}
 use Rattle.hash.specs.declared.params.Params.{Params}
 use Rattle.ring.specs.Words.{q, allBelow}
+use Rattle.ring.proofs.Checks.{absurd-bool, asked, both-true, left-no, right-no, both-last}
 use Rattle.sharing.specs.Noise.{noiseBytes}
+use Rattle.sharing.proofs.NoisePlaces.{noise-bytes}
 use Rattle.signature.specs.Attempt.{coinsOf}
 use Rattle.signature.specs.Checks.{ask, both, attemptsAllowed, signBuffersSized, messageSized, workWords}
 use Rattle.signature.specs.Sign.{Coins}
 use Rattle.signature.specs.SignCalls.{Key, keySized, keyGood, sharesGood, coinsGood, signNo}
 use Rattle.signature.specs.SignSteps.{keyNo, callNo}
 use Rattle.signature.proofs.Asked.{sizes}
-use Rattle.signature.proofs.Checks.{absurd-bool, asked, both-true, left-no, right-no, both-last}
 
 -- ---- the two parts
 
@@ -61,14 +62,43 @@ module _ (p : Params) (n : ℕ) (seeds noise masks : List ℕ) where
 
     pub coins-seeds : (x : Bool) → x ≡ false
         → eqb (length seeds) (n * ((p .l + p .k) * p .shares * p .rep * (p .kappa / 8))) ≡ coinsGood p n (coinsOf x seeds noise masks)
-    unfolding noiseBytes
     coins-seeds false e =
-        let a = eqb (length seeds) (n * ((p .l + p .k) * p .shares * p .rep * (p .kappa / 8))) in
-        sym (ap (both a) (eq-eqb (length masks) (n * 32) m) ∙ both-last a)
+        let a = eqb (length seeds) (n * noiseBytes p) in
+        ap (λ (x : ℕ). eqb (length seeds) (n * x)) (sym (noise-bytes p)) ∙ sym (ap (both a) (eq-eqb (length masks) (n * 32) m) ∙ both-last a)
     coins-seeds true e = absurd-bool e
 
 -- ---- what passing gives
 
+-- where no check of signing is a no
+pub record AllPassed (p : Params) (key : Key) (n : ℕ) (msg : List ℕ) (T : Coins) (out work : List ℕ) : Type 0 where
+  pub sized : keySized p key ≡ true
+  pub good : keyGood p key ≡ true
+  pub shares : sharesGood p key ≡ true
+  pub attempts : attemptsAllowed n ≡ true
+  pub coins : coinsGood p n T ≡ true
+  pub buffers : signBuffersSized p out work ≡ true
+  pub message : messageSized msg ≡ true
+
+pub all-passed : (p : Params) (key : Key) (n : ℕ) (msg : List ℕ) (T : Coins) (out work : List ℕ) → signNo p key n msg T out work ≡ 0
+    → AllPassed p key n msg T out work
+unfolding signNo
+all-passed p key n msg T out work e =
+    let n9 = ask 9 (messageSized msg) 0 in
+    let n8 = ask 8 (signBuffersSized p out work) n9 in
+    let n7 = ask 7 (coinsGood p n T) n8 in
+    let n6 = ask 6 (attemptsAllowed n) n7 in
+    let n5 = ask 5 (sharesGood p key) n6 in
+    let n4 = ask 4 (keyGood p key) n5 in
+    let a3 = asked 2 (keySized p key) n4 e in
+    let a4 = asked 3 (keyGood p key) n5 (a3 .1) in
+    let a5 = asked 4 (sharesGood p key) n6 (a4 .1) in
+    let a6 = asked 5 (attemptsAllowed n) n7 (a5 .1) in
+    let a7 = asked 6 (coinsGood p n T) n8 (a6 .1) in
+    let a8 = asked 7 (signBuffersSized p out work) n9 (a7 .1) in
+    let a9 = asked 8 (messageSized msg) 0 (a8 .1) in
+    record { sized = a3 .0; good = a4 .0; shares = a5 .0; attempts = a6 .0; coins = a7 .0; buffers = a8 .0; message = a9 .0 }
+
+-- .. in numbers
 pub record Signable (p : Params) (key : Key) (n : ℕ) (T : Coins) (out work : List ℕ) : Type 0 where
   pub sized : keySized p key ≡ true
   pub good : keyGood p key ≡ true
@@ -81,28 +111,17 @@ pub record Signable (p : Params) (key : Key) (n : ℕ) (T : Coins) (out work : L
 
 pub signable : (p : Params) (key : Key) (n : ℕ) (msg : List ℕ) (T : Coins) (out work : List ℕ) → signNo p key n msg T out work ≡ 0
     → Signable p key n T out work
-unfolding signNo
 signable p key n msg T out work e =
-    let n9 = ask 9 (messageSized msg) 0 in
-    let n8 = ask 8 (signBuffersSized p out work) n9 in
-    let n7 = ask 7 (coinsGood p n T) n8 in
-    let n6 = ask 6 (attemptsAllowed n) n7 in
-    let n5 = ask 5 (sharesGood p key) n6 in
-    let a3 = asked 2 (keySized p key) (ask 4 (keyGood p key) n5) e in
-    let a4 = asked 3 (keyGood p key) n5 (a3 .1) in
-    let a5 = asked 4 (sharesGood p key) n6 (a4 .1) in
-    let a6 = asked 5 (attemptsAllowed n) n7 (a5 .1) in
-    let a7 = asked 6 (coinsGood p n T) n8 (a6 .1) in
-    let a8 = asked 7 (signBuffersSized p out work) n9 (a7 .1) in
-    let b = both-true (leb 1 n) (leb n 16) (a6 .0) in
-    let s = sizes (length out) (p .«sig_bytes») (length work) (workWords p) (a8 .0) in
+    let a = all-passed p key n msg T out work e in
+    let b = both-true (leb 1 n) (leb n 16) (a .attempts) in
+    let s = sizes (length out) (p .«sig_bytes») (length work) (workWords p) (a .buffers) in
     record {
-      sized = a3 .0;
-      good = a4 .0;
-      low = a5 .0;
+      sized = a .sized;
+      good = a .good;
+      low = a .shares;
       some-attempt = leb-true 1 n (b .0);
       most = leb-true n 16 (b .1);
-      coins = a7 .0;
+      coins = a .coins;
       out-long = s .0;
       work-long = s .1;
     }

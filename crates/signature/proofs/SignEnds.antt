@@ -28,7 +28,8 @@ use Rattle.signature.specs.Sign.{Public, Attempted, made, over, stuck, A
 use Rattle.signature.specs.SignCalls.{Key, keySized, keyGood, publicOf, sharesOf, signNo, publicFor, signMade, signGo, signOf, Signing, signing, leftBy, signCall}
 use Rattle.signature.specs.SignSteps.{kept}
 use Rattle.signature.proofs.Asked.{sizes}
-use Rattle.signature.proofs.Checks.{not-filled, both-yes, right-no}
+use Rattle.ring.proofs.Checks.{both-yes, right-no}
+use Rattle.ring.proofs.Filled.{not-filled}
 use Rattle.signature.proofs.Loads.{packed-long}
 use Rattle.signature.proofs.Expanded.{vk-in}
 

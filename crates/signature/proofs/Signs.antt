@@ -44,15 +44,15 @@ module _ (z : ℤ) (f : SFits w64 z) where
     neg-held = ap held minus ∙ toZ-ofZ w64 (negℤ z) (neg-small z h)
 
   -- what the test `z < 0` says
-  pub below : ltZ (held z) (pos 0) ≡ true → negOf z ≡ 1
-  below e = go z (rw same at e)
+  pub neg-one : ltZ (held z) (pos 0) ≡ true → negOf z ≡ 1
+  neg-one e = go z (rw same at e)
     where
       go : (z : ℤ) → ltZ z (pos 0) ≡ true → negOf z ≡ 1
       go (pos n) e = omega (arith, ltb-true n 0 e)
       go (negsuc n) e = refl
 
-  pub not-below : ltZ (held z) (pos 0) ≡ false → negOf z ≡ 0
-  not-below e = go z (rw same at e)
+  pub neg-zero : ltZ (held z) (pos 0) ≡ false → negOf z ≡ 0
+  neg-zero e = go z (rw same at e)
     where
       go : (z : ℤ) → ltZ z (pos 0) ≡ false → negOf z ≡ 0
       go (pos n) e = refl

@@ -2,7 +2,7 @@
 use mathlib.Core.Path.{_≡_, sym, ap, subst, _∙_}
 use mathlib.Core.List.{List}
 use Prim.Native.Nat.{ℕ, _+_, _-_, _*_, _/_, _≤_}
-use native.Mathlib.Nat.{le-refl, mul-le-mul}
+use native.Mathlib.Nat.{mul-le-mul}
 use native.Mathlib.Omega.{arith}
 use lib.ListN.{length, take, drop, length-drop}
 use lib.Seq.{take-all, length-take-le}
@@ -13,6 +13,7 @@ use Rattle.ring.specs.Words.{Words}
 use Rattle.sharing.specs.Blocks.{zeros}
 use Rattle.sharing.proofs.Lists.{zeros-words}
 use Rattle.sharing.specs.Noise.{noiseBytes}
+use Rattle.sharing.proofs.NoisePlaces.{noise-bytes}
 use Rattle.signature.specs.Checks.{workWords}
 use Rattle.signature.specs.Keygen.{atS, atT, atX, Small}
 use Rattle.signature.specs.Keys.{keygenBytes, noisePart, sharePart}
@@ -38,8 +39,8 @@ module _ (p : Params) (h : Small p) where
   pub first-low : (p .l * p .rep ≤ 56) × (p .l * p .rep * p .shares ≤ 3584) × (p .l * p .rep * p .shares * (p .kappa / 8) ≤ 114688)
   first-low =
       let x : p .l * p .rep ≤ 7 * 8 = mul-le-mul (h .columns-low) (h .rep-low) in
-      let y : p .l * p .rep * p .shares ≤ 7 * 8 * 64 = mul-le-mul x (h .shares-low) in
-      let z : p .l * p .rep * p .shares * (p .kappa / 8) ≤ 7 * 8 * 64 * 32 = mul-le-mul y seed-low in
+      let y : p .l * p .rep * p .shares ≤ 7 * 8 * 32 = mul-le-mul x (h .shares-low) in
+      let z : p .l * p .rep * p .shares * (p .kappa / 8) ≤ 7 * 8 * 32 * 32 = mul-le-mul y seed-low in
       (omega arith, omega arith, omega arith)
 
   -- the noise seeds of one attempt
@@ -47,9 +48,9 @@ module _ (p : Params) (h : Small p) where
       × ((p .l + p .k) * p .shares * p .rep * (p .kappa / 8) ≤ 262144)
   coins-low =
       let a : p .l + p .k ≤ 16 = let m = h .columns-low in let n = h .rows-low in omega arith in
-      let x : (p .l + p .k) * p .shares ≤ 16 * 64 = mul-le-mul a (h .shares-low) in
-      let y : (p .l + p .k) * p .shares * p .rep ≤ 16 * 64 * 8 = mul-le-mul x (h .rep-low) in
-      let z : (p .l + p .k) * p .shares * p .rep * (p .kappa / 8) ≤ 16 * 64 * 8 * 32 = mul-le-mul y seed-low in
+      let x : (p .l + p .k) * p .shares ≤ 16 * 32 = mul-le-mul a (h .shares-low) in
+      let y : (p .l + p .k) * p .shares * p .rep ≤ 16 * 32 * 8 = mul-le-mul x (h .rep-low) in
+      let z : (p .l + p .k) * p .shares * p .rep * (p .kappa / 8) ≤ 16 * 32 * 8 * 32 = mul-le-mul y seed-low in
       (omega arith, omega arith, omega arith)
 
   -- the work buffer's regions
@@ -57,26 +58,16 @@ module _ (p : Params) (h : Small p) where
       × (atX (p .k) (p .l) (p .shares) + p .l * 512 ≤ n)
   room n e = let m = h .columns-rows in (omega arith, omega arith, omega arith)
 
-  -- a sharing has a polynomial or more
-  pub share-room : p .l * 512 ≤ p .l * (p .shares * 512)
-  share-room = let m = h .shares-pos in let n : 512 ≤ p .shares * 512 = omega arith in mul-le-mul (le-refl (p .l)) n
-
   -- their two parts
   pub coins-first : (n : ℕ) → n ≡ noiseBytes p → p .l * p .rep * p .shares * (p .kappa / 8) ≤ n
-  unfolding noiseBytes
-  coins-first n e = omega arith
+  coins-first n e = omega (arith, noise-bytes p)
 
   pub coins-second : (xs : List ℕ) → length xs ≡ noiseBytes p
       → p .k * p .rep * p .shares * (p .kappa / 8) ≤ length (take (length xs - p .l * p .rep * p .shares * (p .kappa / 8)) (drop (p .l * p .rep * p .shares * (p .kappa / 8)) xs))
-  unfolding noiseBytes
   coins-second xs e =
       let b = p .l * p .rep * p .shares * (p .kappa / 8) in
       let m : length (drop b xs) ≡ length xs - b = length-drop b xs in
-      rw (part-all b xs) (omega arith)
-
-  pub coins-is : noiseBytes p ≡ (p .l + p .k) * p .shares * p .rep * (p .kappa / 8)
-  unfolding noiseBytes
-  coins-is = omega arith
+      rw (part-all b xs) (omega (arith, noise-bytes p))
 
   -- the seeds' three parts
   module _ (xs : List ℕ) (e : length xs ≡ keygenBytes p) where
@@ -84,20 +75,20 @@ module _ (p : Params) (h : Small p) where
     seed-ends = omega arith
 
     pub coins-ends : p .kappa / 8 + (p .l + p .k) * p .shares * p .rep * (p .kappa / 8) ≤ length xs
-    coins-ends = let m = coins-is in omega (arith, m, e)
+    coins-ends = let m = noise-bytes p in omega (arith, m, e)
 
     pub seed-long : p .kappa / 8 ≡ length (take (p .kappa / 8) xs)
     seed-long = sym (length-take-le (p .kappa / 8) xs seed-ends)
 
     pub coins-part : take (p .kappa / 8 + (p .l + p .k) * p .shares * p .rep * (p .kappa / 8) - p .kappa / 8) (drop (p .kappa / 8) xs) ≡ noisePart p xs
     coins-part =
-        let m : p .kappa / 8 + (p .l + p .k) * p .shares * p .rep * (p .kappa / 8) - p .kappa / 8 ≡ noiseBytes p = omega (arith, coins-is) in
+        let m : p .kappa / 8 + (p .l + p .k) * p .shares * p .rep * (p .kappa / 8) - p .kappa / 8 ≡ noiseBytes p = omega (arith, noise-bytes p) in
         ap (λ (n : ℕ). take n (drop (p .kappa / 8) xs)) m
 
     pub share-part : take (length xs - (p .kappa / 8 + (p .l + p .k) * p .shares * p .rep * (p .kappa / 8))) (drop (p .kappa / 8 + (p .l + p .k) * p .shares * p .rep * (p .kappa / 8)) xs) ≡ sharePart p xs
     share-part =
         part-all (p .kappa / 8 + (p .l + p .k) * p .shares * p .rep * (p .kappa / 8)) xs
-        ∙ ap (λ (n : ℕ). drop (p .kappa / 8 + n) xs) (sym coins-is)
+        ∙ ap (λ (n : ℕ). drop (p .kappa / 8 + n) xs) (sym (noise-bytes p))
 
     pub coins-long : length (noisePart p xs) ≡ noiseBytes p
     coins-long =

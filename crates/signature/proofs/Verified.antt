@@ -1,8 +1,8 @@
 -- The checks of verifying in their order, and what the table gives.
-use mathlib.Core.Path.{_≡_, refl, sym, ap, subst, _∙_}
+use mathlib.Core.Path.{_≡_, refl, sym, ap, _∙_}
 use mathlib.Core.Bool.{Bool, true, false}
 use mathlib.Core.List.{List}
-use Prim.Native.Nat.{ℕ, _+_, _*_, _/_, _^_, _≤_, _<_}
+use Prim.Native.Nat.{ℕ, _<_}
 use native.Mathlib.Omega.{arith}
 use borrow.Author.Tests.{lt-leb}
 use lib.ListN.{length}
@@ -70,7 +70,7 @@ pub verify-no-set : (e : Edition) (set : ℕ) (vk msg sig : List ℕ) → lookup
 unfolding verifyCall
 verify-no-set e set vk msg sig h = sym (ap (λ (x : Selected). verifyFor x vk msg sig) h)
 
-pub verify-no-shares : (e : Edition) (set : ℕ) (vk msg sig : List ℕ) → lookupOf set 1 e ≡ Selected.NoShares → 1 ≡ verifyCall e set vk msg sig
+pub verify-no-shares : (e : Edition) (set : ℕ) (vk msg sig : List ℕ) → lookupOf set 1 e ≡ Selected.NoShares → 2 ≡ verifyCall e set vk msg sig
 unfolding verifyCall
 verify-no-shares e set vk msg sig h = sym (ap (λ (x : Selected). verifyFor x vk msg sig) h)
 

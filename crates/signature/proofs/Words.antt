@@ -1,6 +1,6 @@
 -- Laws of bit strings as words of eight bytes: a field of w bits is a word's, shifted.
 use Prim.Native.Nat.{ℕ, zero, suc, _+_, _*_, _-_, _/_, _%_, _^_, _≤_, _<_}
-use mathlib.Core.Path.{_≡_, refl, sym, ap, subst, _∙_}
+use mathlib.Core.Path.{_≡_, sym, ap, subst, _∙_}
 use mathlib.Core.List.{List, [], _∷_, _++_, append-nil}
 use native.Mathlib.Omega.{arith}
 use native.Mathlib.Nat.{mod-eq-of-lt, mod-lt, pow-suc, mul-assoc, mul-comm, add-comm, add-mul}
@@ -10,6 +10,8 @@ use lib.Seq.{take-all, take-at, drop-at, take-add, drop-drop, take-append-le, dr
 use lib.Pow.{high, low, pow-pos, pow-add, shl-exact, shr-lt, shr-shr}
 use Rattle.hash.specs.Endian.{le, byteOf}
 use Rattle.hash.specs.Lists.{table, pasted}
+use Rattle.hash.proofs.Table.{table-none, table-next}
+use Rattle.hash.proofs.Word.{le-none, le-next}
 use Rattle.signature.specs.Bits.{bitsOf, valOf, fields}
 use Rattle.signature.proofs.Strings.{length-bits, length-fields, Bits, bits-take, bits-drop, fields-bits, bits-low, bits-val, val-lt, bits-append, bits-cat, sets-right, sets-left, sets-mid}
 use Rattle.signature.proofs.Packing.{val-bits, fields-append}
@@ -37,8 +39,8 @@ module _ (w : ℕ) (xs : List ℕ) (i : ℕ) (h : i < length xs) where
 -- the number of n bytes is the number of their bits
 pub le-val : (xs : List ℕ) (a n : ℕ) → a + n ≤ length xs → ((i : ℕ) → getD xs i 0 < 2 ^ 8)
     → le (λ j. getD xs (a + j) 0) n ≡ valOf (take (n * 8) (drop (a * 8) (fields 8 xs)))
-unfolding le valOf
-le-val xs a zero h b = refl
+unfolding valOf
+le-val xs a zero h b = le-none (λ j. getD xs (a + j) 0)
 le-val xs a (suc n) h b =
     let F = fields 8 xs in
     let D = drop (a * 8) F in
@@ -46,7 +48,7 @@ le-val xs a (suc n) h b =
     let d : a * 8 + n * 8 ≡ (a + n) * 8 = omega arith in
     let k : length (take (n * 8) D) ≡ n * 8 = length-take-le (n * 8) D (omega (arith, length-drop (a * 8) F, length-fields 8 xs)) in
     let c : 8 * n ≡ n * 8 = omega arith in
-    ap (λ (x : ℕ). x + getD xs (a + n) 0 * 2 ^ (8 * n)) (le-val xs a n (omega arith) b)
+    le-next (λ j. getD xs (a + j) 0) n ∙ ap (λ (x : ℕ). x + getD xs (a + n) 0 * 2 ^ (8 * n)) (le-val xs a n (omega arith) b)
     ∙ ap (λ (x : ℕ). valOf (take (n * 8) D) + getD xs (a + n) 0 * 2 ^ x) (c ∙ sym k)
     ∙ sym (ap (λ (x : ℕ). valOf (take x D)) e ∙ ap valOf (take-add (n * 8) 8 D) ∙ val-append (take (n * 8) D) (take 8 (drop (n * 8) D))
     ∙ ap (λ (l : List ℕ). valOf (take (n * 8) D) + valOf l * 2 ^ length (take (n * 8) D))
@@ -165,12 +167,12 @@ module _ (x v k w : ℕ) (f : x < 2 ^ 64) (h : k + w < 64) where
 -- ---- a word stored
 
 table-bits : (x n : ℕ) → fields 8 (table (byteOf x) n) ≡ bitsOf (n * 8) x
-unfolding table fields bitsOf
-table-bits x zero = refl
+unfolding fields bitsOf
+table-bits x zero = ap (fields 8) (table-none (byteOf x))
 table-bits x (suc n) =
     let e : n * 8 + 8 ≡ suc n * 8 = omega arith in
     let d : n * 8 ≡ 8 * n = omega arith in
-    fields-append 8 (table (byteOf x) n) (byteOf x n ∷ [])
+    ap (fields 8) (table-next (byteOf x) n) ∙ fields-append 8 (table (byteOf x) n) (byteOf x n ∷ [])
     ∙ ap (λ (l : List ℕ). l ++ (bitsOf 8 (byteOf x n) ++ [])) (table-bits x n)
     ∙ ap (λ (l : List ℕ). bitsOf (n * 8) x ++ l) (append-nil (bitsOf 8 (byteOf x n)) ∙ bits-low 8 (x / 2 ^ (8 * n)) ∙ ap (λ (m : ℕ). bitsOf 8 (x / 2 ^ m)) (sym d))
     ∙ sym (bits-append (n * 8) 8 x) ∙ ap (λ (m : ℕ). bitsOf m x) e

@@ -3,8 +3,8 @@
 use mathlib.Core.Path.{_≡_}
 use mathlib.Core.Bool.{Bool, true, false}
 use mathlib.Core.List.{List}
-use mathlib.Core.Option.{some}
-use Prim.Native.Nat.{ℕ, _+_, _*_, _≤_}
+use mathlib.Core.Option.{some, none}
+use Prim.Native.Nat.{ℕ, suc, _+_, _*_, _≤_}
 use lib.IntN.{ℤ}
 use lib.ListN.{length}
 use Rattle.hash.specs.Lists.{pick}
@@ -43,9 +43,20 @@ pub record Within (p : Params) (T : Coins) (a : ℕ) : Type 0 where
 abbrev pub atR : ℕ → ℕ → ℕ
 atR l d = atS d + l * (d * 512)
 
--- lines 4 to 8 with the noise N, zero encodings from g on: r in the transform domain, the sum w, and s as it was; h is the generator behind
+-- lines 4 and 5 with the noise N, zero encodings from g on, whatever the matrix is: r in the transform domain, and s as it was
+pub record Begun (p : Params) (N : Noise) (g : MaskGen) (s ys : List ℕ) : Type 0 where
+  pub noise : sub ys (atR (p .l) (p .shares)) (p .l * (p .shares * 512)) ≡ transformed (p .l * p .shares) (maskedNoise p N g)
+  pub key : sub ys (atS (p .shares)) (p .l * (p .shares * 512)) ≡ s
+
+-- the d shares of the last row of w behind line 7, as they were added up: they stand behind the zero encoding
+abbrev pub LastRow : Params → Noise → MaskGen → List ℕ → List ℕ → Type 0
+LastRow p N g A ys =
+    (i : ℕ) → p .k ≡ suc i → sub ys (p .shares * 512) (p .shares * 512) ≡ block (p .shares * 512) i (maskedImage p N g A)
+
+-- lines 4 to 8: r in the transform domain, the shares of the last row of w, the sum w, and s as it was; h is the generator behind
 pub record Committed (p : Params) (N : Noise) (g : MaskGen) (A : List ℕ) (h : MaskGen) (xs ys : List ℕ) : Type 0 where
   pub noise : sub ys (atR (p .l) (p .shares)) (p .l * (p .shares * 512)) ≡ transformed (p .l * p .shares) (maskedNoise p N g)
+  pub row : LastRow p N g A ys
   pub image : sub ys (atT (p .l) (p .shares)) (p .k * 512) ≡ totals (p .k) (p .shares) (maskedImage p N g A)
   pub key : sub ys (atS (p .shares)) (p .l * (p .shares * 512)) ≡ sub xs (atS (p .shares)) (p .l * (p .shares * 512))
   pub next : h ≡ skip masks (p .shares) (behindProduct p N) g
@@ -61,21 +72,23 @@ answeredAt d c X Y i = build d (answered c (block (d * 512) i X) (block (d * 512
 
 -- ---- lines 12 to 16
 
--- lines 12 and 13, s at a and r at b: s refreshed, r turned back and refreshed; what is behind them as it was
+-- lines 12 and 13, s at a and r at b: s refreshed, r turned back and refreshed; what is before and behind them as it was
 pub record Renewed (l d a b : ℕ) (g : MaskGen) (xs ys : List ℕ) : Type 0 where
   pub key : sub ys a (l * (d * 512)) ≡ refreshed masks d g l (sub xs a (l * (d * 512)))
   pub noise : sub ys b (l * (d * 512)) ≡ refreshed masks d (skip masks d l g) l (untransformed (l * d) (sub xs b (l * (d * 512))))
+  pub front : (e n : ℕ) → d * 512 ≤ e → e + n ≤ a → sub ys e n ≡ sub xs e n
   pub behind : (e n : ℕ) → b + l * (d * 512) ≤ e → sub ys e n ≡ sub xs e n
   pub long : length ys ≡ length xs
   pub low : Below q ys
 
--- all of them, of the challenge polynomial c: s refreshed, the shares of z in the place of r, their sum z, and w as it was; g is the generator behind line 7
+-- all of them, of the challenge polynomial c: s refreshed, the shares of z in the place of r, their sum z, and w and its last row as they were; g is the generator behind line 7
 pub record Responded (k l d : ℕ) (c : List ℕ) (g : MaskGen) (xs ys : List ℕ) : Type 0 where
   pub key : sub ys (atS d) (l * (d * 512)) ≡ refreshed masks d g l (sub xs (atS d) (l * (d * 512)))
   pub shares : (r : List ℕ) → Words (l * (d * 512)) r → sub xs (atR l d) (l * (d * 512)) ≡ transformed (l * d) r
       → sub ys (atR l d) (l * (d * 512)) ≡ refreshed masks d (skip masks d (l + l) g) l
       (maskedResponse d l c (refreshed masks d g l (sub xs (atS d) (l * (d * 512)))) (refreshed masks d (skip masks d l g) l r))
   pub response : sub ys (atX k l d) (l * 512) ≡ totals l d (sub ys (atR l d) (l * (d * 512)))
+  pub row : sub ys (d * 512) (d * 512) ≡ sub xs (d * 512) (d * 512)
   pub commitment : sub ys (atT l d) (k * 512) ≡ sub xs (atT l d) (k * 512)
   pub long : length ys ≡ length xs
   pub low : Below q ys
@@ -89,11 +102,14 @@ commitmentOf p N g A = totals (p .k) (p .shares) (maskedImage p N g A)
 abbrev pub hashOf : Params → Noise → MaskGen → List ℕ → List ℕ → List ℕ
 hashOf p N g A mu = chalHash p (roundW (commitmentOf p N g A)) mu
 
--- what is left of lines 4 to 16: the challenge hash and polynomial, w rounded, and with a challenge s refreshed, the shares of z, and z
+-- what is left of lines 4 to 16: the challenge hash and polynomial, the shares of the last row of w, w rounded, and with a challenge s
+-- refreshed, the shares of z, and z; without one s and r as they were
 pub record Answered (p : Params) (N : Noise) (g : MaskGen) (A mu s : List ℕ) (o : Challenged) (hash ys : List ℕ) : Type 0 where
   pub hash-is : hash ≡ hashOf p N g A mu
   pub challenge-is : o ≡ chalHeld (chalPoly p (hashOf p N g A mu))
+  pub row : LastRow p N g A ys
   pub commitment : sub ys (atT (p .l) (p .shares)) (p .k * 512) ≡ roundW (commitmentOf p N g A)
+  pub idle : chalPoly p (hashOf p N g A mu) ≡ none → Begun p N g s ys
   pub key : (c : List ℤ) → chalPoly p (hashOf p N g A mu) ≡ some c → sub ys (atS (p .shares)) (p .l * (p .shares * 512)) ≡ refreshedKey p N g s
   pub shares : (c : List ℤ) → chalPoly p (hashOf p N g A mu) ≡ some c
       → sub ys (atR (p .l) (p .shares)) (p .l * (p .shares * 512)) ≡ refreshedResponse p N g s (residues q c)

@@ -9,7 +9,7 @@ use lib.IntN.{ℤ, pos, negsuc}
 use lib.ListN.{length, getD, set, replicate}
 use Rattle.hash.specs.Lists.{pick, table}
 use Rattle.hash.specs.Keccak.{State, keccakF}
-use Rattle.hash.specs.Params.{lookupOf}
+use Rattle.hash.specs.Params.{lookupOf, selectedNo}
 use Rattle.hash.specs.Shake.{absorbFrom, finish, rate, stream, shake256}
 use Rattle.hash.specs.declared.params.Edition.{Edition}
 use Rattle.hash.specs.declared.params.Params.{Params}
@@ -81,8 +81,8 @@ sampledNo p s out = ask 8 (polynomialSized out) (ask 11 (filled (challenge (p .e
 
 -- the set is looked up with any share count: nothing here depends on it
 abbrev sampledFor : Selected → List ℕ → List ℤ → ℕ × List ℤ
-sampledFor Selected.NoSet s out = (1, out)
-sampledFor Selected.NoShares s out = (1, out)
+sampledFor Selected.NoSet s out = (selectedNo Selected.NoSet, out)
+sampledFor Selected.NoShares s out = (selectedNo Selected.NoShares, out)
 sampledFor (Selected.Found p) s out = answered (sampledNo p s out) (challenge (p .edition) (p .omega) s) out
 
 -- the status, and what out holds afterwards

@@ -1,10 +1,10 @@
 -- Expanding a key (01: opening; 000, Algorithm 15): the sizes of a record of the table, and the shares one by one.
 use mathlib.Core.Path.{_≡_}
 use mathlib.Core.List.{List}
-use Prim.Native.Nat.{ℕ, _+_, _-_, _*_, _^_, _≤_}
+use Prim.Native.Nat.{ℕ, _+_, _-_, _*_, _≤_}
 use lib.ListN.{take, drop}
 use Rattle.hash.specs.Lists.{pick}
-use Rattle.hash.specs.Params.{orderIndex}
+use Rattle.hash.specs.Params.{ShareCount}
 use Rattle.hash.specs.declared.params.Params.{Params}
 use Rattle.ring.specs.Uniform.{heldOf}
 use Rattle.sharing.specs.Blocks.{build}
@@ -20,7 +20,7 @@ pub record Listed (p : Params) : Type 0 where
   pub columns-low : p .l ≤ 7
   pub shares-pos : 1 ≤ p .shares
   pub shares-low : p .shares ≤ 32
-  pub power : p .shares ≡ 2 ^ orderIndex (p .shares)
+  pub count : ShareCount (p .shares)
   pub seed-low : seedBytes p ≤ 32
 
 -- the bytes behind the public key: d - 1 seeds and one share

@@ -3,7 +3,7 @@ use mathlib.Core.List.{List}
 use mathlib.Core.Option.{Option, some, none}
 use Prim.Native.Nat.{ℕ, zero, suc}
 use lib.ListN.{length, take}
-use Rattle.hash.specs.Params.{lookupOf}
+use Rattle.hash.specs.Params.{lookupOf, selectedNo}
 use Rattle.hash.specs.declared.params.Edition.{Edition}
 use Rattle.hash.specs.declared.params.Params.{Params}
 use Rattle.hash.specs.declared.params.Selected.{Selected}
@@ -34,8 +34,8 @@ keygenGo zero p seeds mask out work = keygenMade (keygenOf p seeds mask) out wor
 keygenGo (suc n) p seeds mask out work = outcome (suc n) out work
 
 abbrev keygenFor : Selected → List ℕ → List ℕ → List ℕ → List ℕ → Outcome
-keygenFor Selected.NoSet seeds mask out work = outcome 1 out work
-keygenFor Selected.NoShares seeds mask out work = outcome 2 out work
+keygenFor Selected.NoSet seeds mask out work = outcome (selectedNo Selected.NoSet) out work
+keygenFor Selected.NoShares seeds mask out work = outcome (selectedNo Selected.NoShares) out work
 keygenFor (Selected.Found p) seeds mask out work = keygenGo (keygenNo p seeds mask out work) p seeds mask out work
 
 unfoldable pub keygenCall : Edition → ℕ → ℕ → List ℕ → List ℕ → List ℕ → List ℕ → Outcome
@@ -56,8 +56,8 @@ expandGo zero p key bytes words = expandMade p key (expandOf p key) bytes words
 expandGo (suc n) p key bytes words = outcome (suc n) bytes words
 
 abbrev expandFor : Selected → List ℕ → List ℕ → List ℕ → Outcome
-expandFor Selected.NoSet key bytes words = outcome 1 bytes words
-expandFor Selected.NoShares key bytes words = outcome 2 bytes words
+expandFor Selected.NoSet key bytes words = outcome (selectedNo Selected.NoSet) bytes words
+expandFor Selected.NoShares key bytes words = outcome (selectedNo Selected.NoShares) bytes words
 expandFor (Selected.Found p) key bytes words = expandGo (expandNo p key bytes words) p key bytes words
 
 unfoldable pub expandCall : Edition → ℕ → ℕ → List ℕ → List ℕ → List ℕ → Outcome
@@ -75,8 +75,8 @@ refreshGo zero p key shares mask bytes words = outcome 0 key (refreshOf p shares
 refreshGo (suc n) p key shares mask bytes words = outcome (suc n) bytes words
 
 abbrev refreshFor : Selected → List ℕ → List ℕ → List ℕ → List ℕ → List ℕ → Outcome
-refreshFor Selected.NoSet key shares mask bytes words = outcome 1 bytes words
-refreshFor Selected.NoShares key shares mask bytes words = outcome 2 bytes words
+refreshFor Selected.NoSet key shares mask bytes words = outcome (selectedNo Selected.NoSet) bytes words
+refreshFor Selected.NoShares key shares mask bytes words = outcome (selectedNo Selected.NoShares) bytes words
 refreshFor (Selected.Found p) key shares mask bytes words = refreshGo (refreshNo p key shares mask bytes words) p key shares mask bytes words
 
 unfoldable pub refreshCall : ℕ → ℕ → List ℕ → List ℕ → List ℕ → List ℕ → List ℕ → Outcome

@@ -1,13 +1,20 @@
--- The work buffer of key generation (01: memory), in words: zero encoding d * 512, row d * 512, room, s, room for r, t, x. And what is
--- known of a row of the parameter table.
+-- The work buffer of key generation (01: memory), in words: zero encoding d * 512, row d * 512, room of two more sharings, room of eight
+-- polynomials (4096), s, room for r, t, x. And what is known of a row of the parameter table.
 use mathlib.Core.Path.{_≡_}
 use mathlib.Core.List.{List, _++_}
-use Prim.Native.Nat.{ℕ, _+_, _*_, _^_, _≤_}
-use Rattle.hash.specs.Params.{orderIndex}
+use Prim.Native.Nat.{ℕ, suc, _+_, _*_, _≤_}
+use Rattle.hash.specs.Params.{ShareCount}
 use Rattle.hash.specs.declared.params.Params.{Params}
-use Rattle.sharing.specs.Region.{sub}
+use Rattle.ring.specs.Round.{roundT}
+use Rattle.sharing.specs.Blocks.{block, totals}
+use Rattle.sharing.specs.Region.{sub, Wrote}
+use Rattle.sharing.specs.declared.masks.MaskGen.{MaskGen}
 use Rattle.signature.specs.Bits.{repack}
-use Rattle.signature.specs.Keys.{vkSeed, sharePart}
+use Rattle.signature.specs.Keys.{vkSeed, sharePart, keyShares, keyVector}
+use Rattle.signature.specs.Masked.{seeded, maskedImage}
+
+abbrev pub atRoom : ℕ → ℕ
+atRoom d = 4 * (d * 512)
 
 abbrev pub atS : ℕ → ℕ
 atS d = 4 * (d * 512) + 4096
@@ -19,9 +26,9 @@ abbrev pub atX : ℕ → ℕ → ℕ → ℕ
 atX k l d = atT l d + k * 512
 
 pub record Small (p : Params) : Type 0 where
-  pub power : p .shares ≡ 2 ^ orderIndex (p .shares)
+  pub count : ShareCount (p .shares)
   pub shares-pos : 1 ≤ p .shares
-  pub shares-low : p .shares ≤ 64
+  pub shares-low : p .shares ≤ 32
   pub rows-low : p .k ≤ 9
   pub columns-low : p .l ≤ 7
   pub columns-rows : p .l ≤ p .k
@@ -32,6 +39,20 @@ pub record Small (p : Params) : Type 0 where
   pub uw-pos : 1 ≤ p .uw
   pub uw-low : p .uw ≤ 41
   pub kappa-low : p .kappa ≤ 256
+
+-- lines 5 to 8, W being the shares of all rows of t with their noise: those of the last row, behind the zero encoding; t, rounded, at `to`
+pub record Rounded (p : Params) (to : ℕ) (W xs ys : List ℕ) : Type 0 where
+  pub row : (i : ℕ) → p .k ≡ suc i → sub ys (p .shares * 512) (p .shares * 512) ≡ block (p .shares * 512) i W
+  pub vector : Wrote (p .shares * 512 + p .shares * 512) to (p .k * 512) (roundT (totals (p .k) (p .shares) W)) xs ys
+
+-- what lines 2 to 8 and the compression leave, of the noise seeds and the generator g: all shares of s in the transform domain; those of the
+-- last row of t, as they were added up; t, rounded; the share x that is written in full
+pub record Generated (p : Params) (coins : List ℕ) (g : MaskGen) (A x ys : List ℕ) : Type 0 where
+  pub shares : sub ys (atS (p .shares)) (p .l * (p .shares * 512)) ≡ keyShares p coins g
+  pub row : (i : ℕ) → p .k ≡ suc i
+      → sub ys (p .shares * 512) (p .shares * 512) ≡ block (p .shares * 512) i (maskedImage p (seeded p (p .ut) coins) g A)
+  pub vector : sub ys (atT (p .l) (p .shares)) (p .k * 512) ≡ keyVector p coins g A
+  pub full : sub ys (atX (p .k) (p .l) (p .shares)) (p .l * 512) ≡ x
 
 -- the signing key of t and x in the work buffer
 unfoldable pub keyOf : Params → List ℕ → List ℕ → List ℕ

@@ -1,11 +1,13 @@
 -- The masked steps that key generation and signing share (000, Algorithm 1 lines 3 to 7, Algorithm 2 lines 4 to 8), on all d shares.
+use mathlib.Core.Path.{_≡_}
 use mathlib.Core.List.{List}
-use Prim.Native.Nat.{ℕ, _+_, _*_, _/_}
+use Prim.Native.Nat.{ℕ, suc, _+_, _*_, _/_}
 use lib.ListN.{drop}
 use Rattle.hash.specs.declared.params.Params.{Params}
 use Rattle.ring.specs.Words.{addW}
 use Rattle.ring.specs.Transform.{ntt, intt, pointwise, mul}
-use Rattle.sharing.specs.Blocks.{block, build, sumOf, total, each}
+use Rattle.sharing.specs.Blocks.{block, build, sumOf, total, totals, each}
+use Rattle.sharing.specs.Region.{sub, Wrote}
 use Rattle.sharing.specs.Encoding.{skip, addRep, addNoise, zeroVector}
 use Rattle.sharing.specs.Masks.{masks}
 use Rattle.sharing.specs.Noise.{seedNoise, explicitNoise}
@@ -77,10 +79,20 @@ accrued a X Y j = addW (block 512 j X) (pointwise a (block 512 j Y))
 unfoldable pub rowSum : ℕ → (ℕ → List ℕ) → List ℕ → ℕ → ℕ → List ℕ
 rowSum d a X m j = sumOf 512 m (λ (i : ℕ). pointwise (ntt (a i)) (block 512 j (block (d * 512) i X)))
 
--- a row, its noise f, in r repetitions with the zero encodings from g on, and the sum of the shares
-abbrev pub rowImage : ℕ → ℕ → MaskGen → ℕ → (ℕ → List ℕ) → (ℕ → List ℕ) → List ℕ → List ℕ
-rowImage d l g r f a X = total d (addRep masks d g r f (build d (rowShare d l a X)))
+-- a row and its noise f, in r repetitions with the zero encodings from g on: all d shares
+abbrev pub noisedRow : ℕ → ℕ → MaskGen → ℕ → (ℕ → List ℕ) → (ℕ → List ℕ) → List ℕ → List ℕ
+noisedRow d l g r f a X = addRep masks d g r f (build d (rowShare d l a X))
 
 -- all k rows of a matrix
 abbrev pub rowsOf : ℕ → ℕ → ℕ → List ℕ → List ℕ → List ℕ
 rowsOf d k l A X = build k (λ (i : ℕ). build d (rowShare d l (λ (m : ℕ). block 512 (i * l + m) A) X))
+
+-- what a row's step leaves: the d shares R of the row in the region `row`, as they were added up, and their sum at `to`
+pub record Summed (d row to : ℕ) (R xs ys : List ℕ) : Type 0 where
+  pub shares : sub ys row (d * 512) ≡ R
+  pub sum : Wrote (row + d * 512) to 512 (total d R) xs ys
+
+-- .. and the steps of all k rows, W being their shares: those of the last row, and the sums of all
+pub record SummedAll (d k row to : ℕ) (W xs ys : List ℕ) : Type 0 where
+  pub shares : (i : ℕ) → k ≡ suc i → sub ys row (d * 512) ≡ block (d * 512) i W
+  pub sums : Wrote (row + d * 512) to (k * 512) (totals k d W) xs ys

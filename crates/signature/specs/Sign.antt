@@ -32,6 +32,12 @@ pub data Attempted : Type 0 where
   over : Attempted
   stuck : Attempted
 
+-- the status of an attempt that decides the call: a signature; check 12; check 11
+abbrev pub attemptedNo : Attempted → ℕ
+attemptedNo (made b) = 0
+attemptedNo over = 12
+attemptedNo stuck = 11
+
 -- what signing answers; with a refusal the signature is empty
 pub record Answer : Type 0 where
   pub status : ℕ

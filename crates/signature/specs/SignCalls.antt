@@ -1,12 +1,12 @@
 -- The signing calls: with a signing key or an expanded key, from seeds or with explicit noise. What each answers and leaves in every buffer.
-use mathlib.Core.Bool.{Bool, true, false}
+use mathlib.Core.Bool.{Bool}
 use mathlib.Core.List.{List, []}
 use mathlib.Core.Option.{Option, some, none}
 use Prim.Native.Nat.{ℕ, zero, suc}
 use lib.Dec.{eqb, leb}
 use lib.ListN.{length, take}
 use Rattle.hash.specs.Lists.{pick}
-use Rattle.hash.specs.Params.{lookupOf}
+use Rattle.hash.specs.Params.{lookupOf, selectedNo}
 use Rattle.hash.specs.declared.params.Edition.{Edition}
 use Rattle.hash.specs.declared.params.Params.{Params}
 use Rattle.hash.specs.declared.params.Selected.{Selected}
@@ -69,8 +69,8 @@ signGo zero p key n msg T = signMade p (publicOf p key) msg T n (matrix p (vkSee
 signGo (suc m) p key n msg T = answer (suc m) 0 []
 
 abbrev pub signFor : Selected → Key → ℕ → List ℕ → Coins → List ℕ → List ℕ → Answer
-signFor Selected.NoSet key n msg T out work = answer 1 0 []
-signFor Selected.NoShares key n msg T out work = answer 2 0 []
+signFor Selected.NoSet key n msg T out work = answer (selectedNo Selected.NoSet) 0 []
+signFor Selected.NoShares key n msg T out work = answer (selectedNo Selected.NoShares) 0 []
 signFor (Selected.Found p) key n msg T out work = signGo (signNo p key n msg T out work) p key n msg T
 
 unfoldable pub signOf : Edition → ℕ → ℕ → Key → ℕ → List ℕ → Coins → List ℕ → List ℕ → Answer

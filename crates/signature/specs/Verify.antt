@@ -3,7 +3,7 @@ use mathlib.Core.List.{List}
 use mathlib.Core.Option.{Option, some, none}
 use Prim.Native.Nat.{ℕ}
 use lib.IntN.{ℤ}
-use Rattle.hash.specs.Params.{lookupOf}
+use Rattle.hash.specs.Params.{lookupOf, selectedNo}
 use Rattle.hash.specs.declared.params.Edition.{Edition}
 use Rattle.hash.specs.declared.params.Params.{Params}
 use Rattle.hash.specs.declared.params.Selected.{Selected}
@@ -44,8 +44,8 @@ verifyOf p vk msg sig =
 
 -- the set is looked up with any share count: nothing in a verdict depends on it
 abbrev pub verifyFor : Selected → List ℕ → List ℕ → List ℕ → ℕ
-verifyFor Selected.NoSet vk msg sig = 1
-verifyFor Selected.NoShares vk msg sig = 1
+verifyFor Selected.NoSet vk msg sig = selectedNo Selected.NoSet
+verifyFor Selected.NoShares vk msg sig = selectedNo Selected.NoShares
 verifyFor (Selected.Found p) vk msg sig = verifyOf p vk msg sig
 
 unfoldable pub verifyCall : Edition → ℕ → List ℕ → List ℕ → List ℕ → ℕ

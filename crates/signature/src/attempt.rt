@@ -78,6 +78,6 @@ pub(crate) fn answer(
     }
     let f = c.poly;
     let r = from_signed(f);
-    respond(work, k, l, d, r, g);
+    respond(work, p, r, g);
     c
 }

@@ -187,7 +187,7 @@ pub fn sample_challenge(set: u64, bytes: &[u8], out: &mut [i8]) -> u32
     let found = hash::params::lookup(set, 1, Edition::Printed);
     match found {
         Selected::NoSet => 1,
-        Selected::NoShares => 1,
+        Selected::NoShares => 2,
         Selected::Found(p) => {
             if out.len() != 512 {
                 return 8;

@@ -1,5 +1,6 @@
 // The end of a signing attempt (000, Algorithm 2, lines 17 to 20): the hint, the bounds, and the signature. The work buffer is laid out as
-// specs/Keygen.antt says: w, rounded, at atT, and z at atX; r is free.
+// specs/Keygen.antt says: w, rounded, at atT, and z at atX. These lines write only to the room of eight polynomials before s: a row of y, and
+// z in the transform domain behind it. So all shares stay where they are.
 ghost use mathlib.Core.Path.{_≡_};
 ghost use mathlib.Core.Bool.{true};
 ghost use mathlib.Core.List.{List};
@@ -9,11 +10,11 @@ ghost use lib.IntN.{pos, natAbs};
 ghost use lib.ListN.{length, getD};
 ghost use Rattle.ring.specs.Words.{q, Below, Words, zipTo};
 ghost use Rattle.ring.specs.Round.{roundW, residues};
-ghost use Rattle.sharing.specs.Region.{sub};
+ghost use Rattle.sharing.specs.Region.{sub, Kept};
 ghost use Rattle.signature.specs.Answers.{fieldsOf, FinishedAs};
 ghost use Rattle.signature.specs.Checks.{workWords};
 ghost use Rattle.signature.specs.Form.{hashBytes};
-ghost use Rattle.signature.specs.Keygen.{atS, atT, atX, Small};
+ghost use Rattle.signature.specs.Keygen.{atRoom, atS, atT, atX, Small};
 ghost use Rattle.signature.specs.Keys.{vkSeed, vkVector};
 ghost use Rattle.signature.specs.Matrix.{matrix, matrixOf, filled};
 ghost use Rattle.signature.specs.Recover.{sub31, centredAll, hintOf, recovered, hintRows};
@@ -60,7 +61,7 @@ fn hint_rows(
     requires { ⌜ (row + 512 ≤ at) × (row + 512 ≤ wat) × (at + l * 512 ≤ length (now work)) × (wat + k * 512 ≤ length (now work)) × Below q (now work) ⌝ }
     requires { ⌜ (k ≤ 9) × (l ≤ 7) × Words 512 c × (length (now t) ≡ k * 512) × Below 125 (now t) × Below 31 (sub (now work) wat (k * 512)) × (length (now hint) ≡ k * 512) ⌝ }
     ensures { λ r. ⌜ (r ≡ filled (matrixOf k l (now (seed .entry)))) × (length (now (work .exit)) ≡ length (now (work .entry))) × Below q (now (work .exit)) ⌝ }
-    ensures { λ r. ⌜ (r ≡ true → (b j : ℕ) → row + 512 ≤ b → sub (now (work .exit)) b j ≡ sub (now (work .entry)) b j) ⌝ }
+    ensures { λ r. ⌜ (r ≡ true → Kept 0 row (now (work .entry)) (now (work .exit)) × Kept (row + 512) (length (now (work .entry))) (now (work .entry)) (now (work .exit))) ⌝ }
     ensures { λ r. ⌜ (r ≡ true → now (hint .exit) ≡ hintRows k l (now (seed .entry)) (sub (now (work .entry)) at (l * 512)) c (now (t .entry)) (sub (now (work .entry)) wat (k * 512))) ⌝ }
 {
     for i in 0..k {
@@ -74,12 +75,12 @@ fn hint_rows(
     true
 }
 
-// Lines 17 and 18: the hint. z, transformed, goes to r's front, the rows of y to the row's place.
+// Lines 17 and 18: the hint.
 fn make_hint(work: &mut [u64], p: Params, vk: &[u8], c: [i8; 512], hint: &mut [i64]) -> bool
     requires { ⌜ Tabled p × Small p × (length (now work) ≡ workWords p) × Below q (now work) × Below 31 (sub (now work) (atT (p .l) (p .shares)) (p .k * 512)) ⌝ }
     requires { ⌜ (length (now vk) ≡ p .«vk_bytes») × Below 125 (vkVector p (now vk)) × (length (now hint) ≡ p .k * 512) ⌝ }
     ensures { λ r. ⌜ (r ≡ filled (matrix p (vkSeed p (now (vk .entry))))) × (length (now (work .exit)) ≡ length (now (work .entry))) × Below q (now (work .exit)) ⌝ }
-    ensures { λ r. ⌜ (r ≡ true → sub (now (work .exit)) (atS (p .shares)) (p .l * (p .shares * 512)) ≡ sub (now (work .entry)) (atS (p .shares)) (p .l * (p .shares * 512))) ⌝ }
+    ensures { λ r. ⌜ (r ≡ true → Kept 0 (atRoom (p .shares)) (now (work .entry)) (now (work .exit)) × Kept (atS (p .shares)) (length (now (work .entry))) (now (work .entry)) (now (work .exit))) ⌝ }
     ensures { λ r. ⌜ ((A : List ℕ) → matrix p (vkSeed p (now (vk .entry))) ≡ some A → now (hint .exit) ≡ hintOf (sub (now (work .entry)) (atT (p .l) (p .shares)) (p .k * 512)) (recovered p A (sub (now (work .entry)) (atX (p .k) (p .l) (p .shares)) (p .l * 512)) (residues q c) (vkVector p (now (vk .entry))))) ⌝ }
 {
     let k = p.k;
@@ -88,13 +89,14 @@ fn make_hint(work: &mut [u64], p: Params, vk: &[u8], c: [i8; 512], hint: &mut [i
     let n = p.kappa / 8;
     let m = k * 512;
     let e = n + k * 448;
-    let at = 4 * (d * 512) + 4096 + l * (d * 512);
-    let wat = at + l * (d * 512);
+    let row = 4 * (d * 512);
+    let at = row + 512;
+    let wat = row + 4096 + l * (d * 512) + l * (d * 512);
     let mut t = [0u64; 4608];
     unpack(&vk[n..e], 7, &mut t[0..m]);
     ntt_to(work, wat + m, at, l);
     let x = ntt(from_signed(c));
-    hint_rows(work, d * 512, at, wat, &vk[0..n], k, l, x, &t[0..m], hint)
+    hint_rows(work, row, at, wat, &vk[0..n], k, l, x, &t[0..m], hint)
 }
 
 // Lines 19 and 20: the signature of the fields, where they pass the bounds and fit. Else out stays as it was.
@@ -128,7 +130,7 @@ fn finish_with(
     requires { ⌜ Tabled p × Small p × (length (now work) ≡ workWords p) × Below q (now work) × Below 31 (sub (now work) (atT (p .l) (p .shares)) (p .k * 512)) ⌝ }
     requires { ⌜ (length (now vk) ≡ p .«vk_bytes») × Below 125 (vkVector p (now vk)) × (filled (matrix p (vkSeed p (now vk))) ≡ true) × (length (now hash) ≡ hashBytes p) ⌝ }
     requires { ⌜ (length (now hint) ≡ p .k * 512) × (length (now z) ≡ p .l * 512) × (length (now out) ≡ p .«sig_bytes») ⌝ }
-    ensures { λ r. ⌜ (length (now (work .exit)) ≡ length (now (work .entry))) × Below q (now (work .exit)) × (sub (now (work .exit)) (atS (p .shares)) (p .l * (p .shares * 512)) ≡ sub (now (work .entry)) (atS (p .shares)) (p .l * (p .shares * 512))) ⌝ }
+    ensures { λ r. ⌜ (length (now (work .exit)) ≡ length (now (work .entry))) × Below q (now (work .exit)) × Kept 0 (atRoom (p .shares)) (now (work .entry)) (now (work .exit)) × Kept (atS (p .shares)) (length (now (work .entry))) (now (work .entry)) (now (work .exit)) ⌝ }
     ensures { λ r. ⌜ ((A mu : List ℕ) → matrix p (vkSeed p (now (vk .entry))) ≡ some A → FinishedAs (finished p (signedFields p (record { matrix = A; vector = vkVector p (now (vk .entry)); mu = mu }) (sub (now (work .entry)) (atT (p .l) (p .shares)) (p .k * 512)) (now (hash .entry)) (sub (now (work .entry)) (atX (p .k) (p .l) (p .shares)) (p .l * 512)) c)) r (now (out .entry)) (now (out .exit))) ⌝ }
 {
     let k = p.k;
@@ -143,7 +145,7 @@ fn finish_with(
     write_fields(p, hash, hint, z, out)
 }
 
-// Lines 17 to 20: true where the signature was made; where it is over the bounds or too long, out stays as it was. s is kept.
+// Lines 17 to 20: true where the signature was made; where it is over the bounds or too long, out stays as it was. All shares are kept.
 pub(crate) fn finish(
     work: &mut [u64],
     p: Params,
@@ -154,7 +156,7 @@ pub(crate) fn finish(
 ) -> bool
     requires { ⌜ Tabled p × Small p × (length (now work) ≡ workWords p) × Below q (now work) × Below 31 (sub (now work) (atT (p .l) (p .shares)) (p .k * 512)) ⌝ }
     requires { ⌜ (length (now vk) ≡ p .«vk_bytes») × Below 125 (vkVector p (now vk)) × (filled (matrix p (vkSeed p (now vk))) ≡ true) × (length (now hash) ≡ hashBytes p) × (length (now out) ≡ p .«sig_bytes») ⌝ }
-    ensures { λ r. ⌜ (length (now (work .exit)) ≡ length (now (work .entry))) × Below q (now (work .exit)) × (sub (now (work .exit)) (atS (p .shares)) (p .l * (p .shares * 512)) ≡ sub (now (work .entry)) (atS (p .shares)) (p .l * (p .shares * 512))) ⌝ }
+    ensures { λ r. ⌜ (length (now (work .exit)) ≡ length (now (work .entry))) × Below q (now (work .exit)) × Kept 0 (atRoom (p .shares)) (now (work .entry)) (now (work .exit)) × Kept (atS (p .shares)) (length (now (work .entry))) (now (work .entry)) (now (work .exit)) ⌝ }
     ensures { λ r. ⌜ ((A mu : List ℕ) → matrix p (vkSeed p (now (vk .entry))) ≡ some A → FinishedAs (finished p (signedFields p (record { matrix = A; vector = vkVector p (now (vk .entry)); mu = mu }) (sub (now (work .entry)) (atT (p .l) (p .shares)) (p .k * 512)) (now (hash .entry)) (sub (now (work .entry)) (atX (p .k) (p .l) (p .shares)) (p .l * 512)) c)) r (now (out .entry)) (now (out .exit))) ⌝ }
 {
     let m = p.k * 512;

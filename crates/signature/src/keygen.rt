@@ -2,22 +2,19 @@
 ghost use mathlib.Core.Path.{_≡_};
 ghost use mathlib.Core.List.{List};
 ghost use mathlib.Core.Option.{some};
-ghost use Prim.Native.Nat.{ℕ, _+_, _-_, _*_, _/_, _^_, _≤_, _<_};
+ghost use Prim.Native.Nat.{ℕ, _+_, _-_, _*_, _/_, _≤_};
 ghost use lib.ListN.{length};
-ghost use Rattle.hash.specs.Params.{orderIndex};
 ghost use Rattle.ring.specs.Words.{q, Below};
-ghost use Rattle.ring.specs.Round.{roundT};
-ghost use Rattle.sharing.specs.Blocks.{totals};
-ghost use Rattle.sharing.specs.Region.{sub, Wrote};
+ghost use Rattle.sharing.specs.Region.{sub};
 ghost use Rattle.sharing.specs.Encoding.{addNoise};
 ghost use Rattle.sharing.specs.Masks.{masks, maskStart};
 ghost use Rattle.sharing.specs.Noise.{seedNoise, noiseBytes};
 ghost use Rattle.signature.specs.Checks.{both, workWords};
-ghost use Rattle.signature.specs.Keygen.{atT, atX, Small, keyOf};
+ghost use Rattle.signature.specs.Keygen.{Small, Rounded, Generated, keyOf};
 ghost use Rattle.signature.specs.KeyCalls.{outcome, keygenMade, keygenCall};
-ghost use Rattle.signature.specs.Keys.{vkSeed, noisePart, sharePart, keygenBytes, keyShares, keyVector, compressed, keygenOf};
+ghost use Rattle.signature.specs.Keys.{vkSeed, noisePart, sharePart, keygenBytes, keyShares, compressed, keygenOf};
 ghost use Rattle.signature.specs.Masked.{rowsOf};
-ghost use Rattle.signature.specs.Matrix.{matrix, matrixOf, filled};
+ghost use Rattle.signature.specs.Matrix.{matrix, filled};
 use crate::compress::compress_vector;
 use crate::keycheck::keygen_no;
 use crate::keyform::write_key;
@@ -32,28 +29,26 @@ use sharing::masks::MaskGen;
 use sharing::masks::start;
 use sharing::region::clear;
 
-// Lines 5 to 8: t, rounded, at `to`; s is at `at`, transformed. False where the matrix does not fill.
+// Lines 5 to 8: t, rounded, at `to`, and the d shares of its last row, as they were added up; s is at `at`, transformed. False where the matrix
+// does not fill.
 fn public_vector(
     s: &mut [u64],
     at: usize,
     to: usize,
+    p: Params,
     seed: &[u8],
-    k: usize,
-    l: usize,
-    d: usize,
-    rep: usize,
-    u: usize,
     seeds: &[u8],
-    n: usize,
     g: MaskGen,
 ) -> bool
-    requires { ⌜ d ≡ 2 ^ orderIndex d ⌝ }
-    requires { ⌜ (d * 512 + d * 512 ≤ at) × (at + l * (d * 512) ≤ to) × (to + k * 512 ≤ length (now s)) × Below q (now s) × (k ≤ 256) × (l < 256) ⌝ }
-    requires { ⌜ (k * rep * d * n ≤ length (now seeds)) × (rep < 256) × (d < 256) × (1 ≤ u) × (u ≤ 48) ⌝ }
-    ensures { λ r. ⌜ (r ≡ filled (matrixOf k l (now (seed .entry)))) × (length (now (s .exit)) ≡ length (now (s .entry))) × Below q (now (s .exit)) ⌝ }
-    ensures { λ r. ⌜ ((A : List ℕ) → matrixOf k l (now (seed .entry)) ≡ some A → Wrote (d * 512 + d * 512) to (k * 512) (roundT (totals k d (addNoise masks d g k rep (seedNoise d rep u n (now (seeds .entry))) (rowsOf d k l A (sub (now (s .entry)) at (l * (d * 512))))))) (now (s .entry)) (now (s .exit))) ⌝ }
+    requires { ⌜ Small p × (p .k * p .rep * p .shares * (p .kappa / 8) ≤ length (now seeds)) ⌝ }
+    requires { ⌜ (p .shares * 512 + p .shares * 512 ≤ at) × (at + p .l * (p .shares * 512) ≤ to) × (to + p .k * 512 ≤ length (now s)) × Below q (now s) ⌝ }
+    ensures { λ r. ⌜ (r ≡ filled (matrix p (now (seed .entry)))) × (length (now (s .exit)) ≡ length (now (s .entry))) × Below q (now (s .exit)) ⌝ }
+    ensures { λ r. ⌜ ((A : List ℕ) → matrix p (now (seed .entry)) ≡ some A → Rounded p to (addNoise masks (p .shares) g (p .k) (p .rep) (seedNoise (p .shares) (p .rep) (p .ut) (p .kappa / 8) (now (seeds .entry))) (rowsOf (p .shares) (p .k) (p .l) A (sub (now (s .entry)) at (p .l * (p .shares * 512))))) (now (s .entry)) (now (s .exit))) ⌝ }
 {
-    let y = image_seeds(s, d * 512, at, to, seed, k, l, d, rep, u, seeds, n, g);
+    let k = p.k;
+    let d = p.shares;
+    let u = p.ut;
+    let y = image_seeds(s, d * 512, at, to, p, u, seed, seeds, g);
     if !y.ok {
         return false;
     }
@@ -72,7 +67,7 @@ fn make_parts(
 ) -> bool
     requires { ⌜ Small p × (length (now work) ≡ workWords p) × (length (now coins) ≡ noiseBytes p) × (length (now shares) ≡ (p .shares - 1) * (p .kappa / 8)) ⌝ }
     ensures { λ r. ⌜ (r ≡ both (filled (matrix p (now (seed .entry)))) (filled (compressed p (now (shares .entry)) (keyShares p (now (coins .entry)) (maskStart (now («mask_seed» .entry))))))) × (length (now (work .exit)) ≡ length (now (work .entry))) × Below q (now (work .exit)) ⌝ }
-    ensures { λ r. ⌜ ((A x : List ℕ) → matrix p (now (seed .entry)) ≡ some A → compressed p (now (shares .entry)) (keyShares p (now (coins .entry)) (maskStart (now («mask_seed» .entry)))) ≡ some x → (sub (now (work .exit)) (atT (p .l) (p .shares)) (p .k * 512) ≡ keyVector p (now (coins .entry)) (maskStart (now («mask_seed» .entry))) A) × (sub (now (work .exit)) (atX (p .k) (p .l) (p .shares)) (p .l * 512) ≡ x)) ⌝ }
+    ensures { λ r. ⌜ ((A x : List ℕ) → matrix p (now (seed .entry)) ≡ some A → compressed p (now (shares .entry)) (keyShares p (now (coins .entry)) (maskStart (now («mask_seed» .entry)))) ≡ some x → Generated p (now (coins .entry)) (maskStart (now («mask_seed» .entry))) A x (now (work .exit))) ⌝ }
 {
     let k = p.k;
     let l = p.l;
@@ -86,8 +81,8 @@ fn make_parts(
     let b = l * rep * d * n;
     clear(work);
     let g = start(mask_seed);
-    let x = noise_seeds(work, at, l, d, rep, u, coins, n, g);
-    if !public_vector(work, at, to, seed, k, l, d, rep, u, &coins[b..], n, x) {
+    let x = noise_seeds(work, at, p, u, coins, g);
+    if !public_vector(work, at, to, p, seed, &coins[b..], x) {
         return false;
     }
     compress_vector(work, at, to + k * 512, l, d, edition, shares, n)
@@ -97,7 +92,7 @@ fn make_parts(
 pub(crate) fn make_key(work: &mut [u64], p: Params, seeds: &[u8], mask_seed: &[u8]) -> bool
     requires { ⌜ Small p × (length (now work) ≡ workWords p) × (length (now seeds) ≡ keygenBytes p) ⌝ }
     ensures { λ r. ⌜ (r ≡ both (filled (matrix p (vkSeed p (now (seeds .entry))))) (filled (compressed p (sharePart p (now (seeds .entry))) (keyShares p (noisePart p (now (seeds .entry))) (maskStart (now («mask_seed» .entry))))))) × (length (now (work .exit)) ≡ length (now (work .entry))) × Below q (now (work .exit)) ⌝ }
-    ensures { λ r. ⌜ ((A x : List ℕ) → matrix p (vkSeed p (now (seeds .entry))) ≡ some A → compressed p (sharePart p (now (seeds .entry))) (keyShares p (noisePart p (now (seeds .entry))) (maskStart (now («mask_seed» .entry)))) ≡ some x → (sub (now (work .exit)) (atT (p .l) (p .shares)) (p .k * 512) ≡ keyVector p (noisePart p (now (seeds .entry))) (maskStart (now («mask_seed» .entry))) A) × (sub (now (work .exit)) (atX (p .k) (p .l) (p .shares)) (p .l * 512) ≡ x)) ⌝ }
+    ensures { λ r. ⌜ ((A x : List ℕ) → matrix p (vkSeed p (now (seeds .entry))) ≡ some A → compressed p (sharePart p (now (seeds .entry))) (keyShares p (noisePart p (now (seeds .entry))) (maskStart (now («mask_seed» .entry)))) ≡ some x → Generated p (noisePart p (now (seeds .entry))) (maskStart (now («mask_seed» .entry))) A x (now (work .exit))) ⌝ }
 {
     let k = p.k;
     let l = p.l;

@@ -1,10 +1,10 @@
 // Keys: expanding and refreshing (01, "Questions put to a call"; 000, Algorithms 11 and 15). A call puts its questions in their order; the
 // first no is its status, and the results are then as they were.
 ghost use mathlib.Core.Path.{_≡_};
-ghost use Prim.Native.Nat.{_+_, _*_, _^_, _≤_, _<_};
+ghost use Prim.Native.Nat.{_+_, _*_, _≤_, _<_};
 ghost use lib.Dec.{eqb};
 ghost use lib.ListN.{length, take, drop};
-ghost use Rattle.hash.specs.Params.{orderIndex};
+ghost use Rattle.hash.specs.Params.{ShareCount};
 ghost use Rattle.ring.specs.Words.{q, Below, Words, allBelow};
 ghost use Rattle.ring.specs.Uniform.{heldOf};
 ghost use Rattle.sharing.specs.Blocks.{build};
@@ -102,38 +102,37 @@ fn refresh_no(
 }
 
 // Algorithm 11 at each of l sharings, each with a zero encoding of its own.
-fn refresh_words(s: &mut [u64], l: usize, d: usize, g: MaskGen)
-    requires { ⌜ Words (l * (d * 512)) (now s) ⌝ }
-    requires { ⌜ (d ≡ 2 ^ orderIndex d) × (d ≤ 32) ⌝ }
-    ensures { λ _. ⌜ now (s .exit) ≡ refreshed masks d g l (now (s .entry)) ⌝ }
+fn refresh_words(s: &mut [u64], p: Params, g: MaskGen)
+    requires { ⌜ Words (p .l * (p .shares * 512)) (now s) × ShareCount (p .shares) ⌝ }
+    ensures { λ _. ⌜ now (s .exit) ≡ refreshed masks (p .shares) g (p .l) (now (s .entry)) ⌝ }
 {
+    let l = p.l;
+    let d = p.shares;
     let mut x = g;
     let mut z = [0u64; 16384];
     for i in 0..l {
         let a = i * (d * 512);
         x = zero_encoding_at(&mut z, 0, d, x);
-        add_shares_at(s, a, &z, 0, d);
+        add_shares_at(s, a, &z, 0, p);
     }
 }
 
 // The results of refreshing: the bytes as they are, the words refreshed.
 fn renew(
-    l: usize,
-    d: usize,
+    p: Params,
     bytes: &[u8],
     words: &[u64],
     mask_seed: &[u8],
     bytes_out: &mut [u8],
     words_out: &mut [u64],
 )
-    requires { ⌜ Words (l * (d * 512)) (now words) ⌝ }
+    requires { ⌜ Words (p .l * (p .shares * 512)) (now words) × ShareCount (p .shares) ⌝ }
     requires { ⌜ (length (now «bytes_out») ≡ length (now bytes)) × (length (now «words_out») ≡ length (now words)) ⌝ }
-    requires { ⌜ (d ≡ 2 ^ orderIndex d) × (d ≤ 32) ⌝ }
-    ensures { λ _. ⌜ (now («bytes_out» .exit) ≡ now (bytes .entry)) × (now («words_out» .exit) ≡ refreshed masks d (maskStart (now («mask_seed» .entry))) l (now (words .entry))) ⌝ }
+    ensures { λ _. ⌜ (now («bytes_out» .exit) ≡ now (bytes .entry)) × (now («words_out» .exit) ≡ refreshed masks (p .shares) (maskStart (now («mask_seed» .entry))) (p .l) (now (words .entry))) ⌝ }
 {
     copy_bytes(bytes, bytes_out);
     copy_into(words_out, words);
-    refresh_words(words_out, l, d, start(mask_seed));
+    refresh_words(words_out, p, start(mask_seed));
 }
 
 // Refreshing an expanded key (01, "Questions put to a call": 1 to 5, 7, 8).
@@ -154,7 +153,7 @@ pub fn refresh_key(
         Selected::Found(p) => {
             let k = refresh_no(p, bytes, words, mask_seed, bytes_out, words_out);
             if k == 0 {
-                renew(p.l, p.shares, bytes, words, mask_seed, bytes_out, words_out);
+                renew(p, bytes, words, mask_seed, bytes_out, words_out);
             }
             k
         }

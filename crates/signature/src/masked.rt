@@ -4,19 +4,20 @@ ghost use mathlib.Core.Path.{_≡_};
 ghost use mathlib.Core.Bool.{true};
 ghost use mathlib.Core.List.{List};
 ghost use mathlib.Core.Option.{some};
-ghost use Prim.Native.Nat.{ℕ, _+_, _*_, _^_, _≤_, _<_};
+ghost use Prim.Native.Nat.{ℕ, _+_, _*_, _/_, _≤_, _<_};
 ghost use lib.ListN.{length};
-ghost use Rattle.hash.specs.Params.{orderIndex};
 ghost use Rattle.ring.specs.Words.{q, Below, Words};
-ghost use Rattle.sharing.specs.Blocks.{zeros, build, totals};
-ghost use Rattle.sharing.specs.Region.{sub, Wrote};
+ghost use Rattle.sharing.specs.Blocks.{zeros, build};
+ghost use Rattle.sharing.specs.Region.{sub, Wrote, Kept};
 ghost use Rattle.sharing.specs.Encoding.{skip, addNoise};
 ghost use Rattle.sharing.specs.Masks.{masks};
 ghost use Rattle.sharing.specs.Noise.{seedNoise, explicitNoise};
-ghost use Rattle.signature.specs.Matrix.{matrixOf, filled, rowFills, rowEntry};
-ghost use Rattle.signature.specs.Masked.{accrued, rowSum, rowShare, rowImage, rowsOf};
+ghost use Rattle.signature.specs.Keygen.{Small};
+ghost use Rattle.signature.specs.Matrix.{matrix, filled, rowFills, rowEntry};
+ghost use Rattle.signature.specs.Masked.{accrued, rowSum, rowShare, noisedRow, rowsOf, Summed, SummedAll};
 use crate::matrix::entry;
 use crate::vector::intt_vector;
+use hash::params::Params;
 use ring::poly::mul_add;
 use ring::poly::ntt;
 use sharing::masks::MaskGen;
@@ -56,10 +57,10 @@ fn add_products(s: &mut [u64], to: usize, at: usize, a: [u64; 512], d: usize)
     }
 }
 
-// Row i before it is turned back, if its entries fill.
+// Row i before it is turned back, if its entries fill. What is behind `to` is kept in any case.
 fn row_sums(s: &mut [u64], to: usize, at: usize, seed: &[u8], i: usize, l: usize, d: usize) -> bool
     requires { ⌜ (to + d * 512 ≤ at) × (at + l * (d * 512) ≤ length (now s)) × Below q (now s) × (i < 256) × (l < 256) ⌝ }
-    ensures { λ r. ⌜ (r ≡ rowFills (now (seed .entry)) i l) × (length (now (s .exit)) ≡ length (now (s .entry))) × Below q (now (s .exit)) ⌝ }
+    ensures { λ r. ⌜ (r ≡ rowFills (now (seed .entry)) i l) × (length (now (s .exit)) ≡ length (now (s .entry))) × Below q (now (s .exit)) × Kept (to + d * 512) (length (now (s .entry))) (now (s .entry)) (now (s .exit)) ⌝ }
     ensures { λ r. ⌜ (r ≡ true → Wrote 0 to (d * 512) (build d (rowSum d (rowEntry (now (seed .entry)) i) (sub (now (s .entry)) at (l * (d * 512))) l)) (now (s .entry)) (now (s .exit))) ⌝ }
 {
     clear_at(s, to, d);
@@ -86,7 +87,7 @@ pub(crate) fn row_at(
     d: usize,
 ) -> bool
     requires { ⌜ (to + d * 512 ≤ at) × (at + l * (d * 512) ≤ length (now s)) × Below q (now s) × (i < 256) × (l < 256) ⌝ }
-    ensures { λ r. ⌜ (r ≡ rowFills (now (seed .entry)) i l) × (length (now (s .exit)) ≡ length (now (s .entry))) × Below q (now (s .exit)) ⌝ }
+    ensures { λ r. ⌜ (r ≡ rowFills (now (seed .entry)) i l) × (length (now (s .exit)) ≡ length (now (s .entry))) × Below q (now (s .exit)) × Kept (to + d * 512) (length (now (s .entry))) (now (s .entry)) (now (s .exit)) ⌝ }
     ensures { λ r. ⌜ (r ≡ true → Wrote 0 to (d * 512) (build d (rowShare d l (rowEntry (now (seed .entry)) i) (sub (now (s .entry)) at (l * (d * 512))))) (now (s .entry)) (now (s .exit))) ⌝ }
 {
     if !row_sums(s, to, at, seed, i, l, d) {
@@ -96,63 +97,58 @@ pub(crate) fn row_at(
     true
 }
 
-// Row i, its noise from seeds, and the sum of its shares at `to`. The row is made in the region `row`; before it is scratch.
+// Lines 6 to 8 at row i, with noise from seeds: its d shares in the region `row`, behind a zero encoding's room, and their sum at `to`; r, or s,
+// transformed, is at `at`.
 fn image_row_seeds(
     s: &mut [u64],
     row: usize,
     at: usize,
     to: usize,
+    p: Params,
+    u: usize,
     seed: &[u8],
     i: usize,
-    l: usize,
-    d: usize,
-    rep: usize,
-    u: usize,
     seeds: &[u8],
-    n: usize,
     g: MaskGen,
 ) -> Imaged
-    requires { ⌜ d ≡ 2 ^ orderIndex d ⌝ }
-    requires { ⌜ (d * 512 ≤ row) × (row + d * 512 ≤ at) × (at + l * (d * 512) ≤ to) × (to + 512 ≤ length (now s)) × Below q (now s) × (i < 256) × (l < 256) ⌝ }
-    requires { ⌜ ((i * rep + rep) * d * n ≤ length (now seeds)) × (rep < 256) × (d < 256) × (1 ≤ u) × (u ≤ 48) ⌝ }
-    ensures { λ r. ⌜ (r .ok ≡ rowFills (now (seed .entry)) i l) × (length (now (s .exit)) ≡ length (now (s .entry))) × Below q (now (s .exit)) ⌝ }
-    ensures { λ r. ⌜ (r .ok ≡ true → Wrote (row + d * 512) to 512 (rowImage d l g rep (seedNoise d rep u n (now (seeds .entry)) i) (rowEntry (now (seed .entry)) i) (sub (now (s .entry)) at (l * (d * 512)))) (now (s .entry)) (now (s .exit)) × (r .next ≡ skip masks d rep g)) ⌝ }
+    requires { ⌜ Small p × (i < 256) × (1 ≤ u) × (u ≤ 48) × ((i * p .rep + p .rep) * p .shares * (p .kappa / 8) ≤ length (now seeds)) ⌝ }
+    requires { ⌜ (p .shares * 512 ≤ row) × (row + p .shares * 512 ≤ at) × (at + p .l * (p .shares * 512) ≤ to) × (to + 512 ≤ length (now s)) × Below q (now s) ⌝ }
+    ensures { λ r. ⌜ (r .ok ≡ rowFills (now (seed .entry)) i (p .l)) × (length (now (s .exit)) ≡ length (now (s .entry))) × Below q (now (s .exit)) × Kept (row + p .shares * 512) to (now (s .entry)) (now (s .exit)) ⌝ }
+    ensures { λ r. ⌜ (r .ok ≡ true → Summed (p .shares) row to (noisedRow (p .shares) (p .l) g (p .rep) (seedNoise (p .shares) (p .rep) u (p .kappa / 8) (now (seeds .entry)) i) (rowEntry (now (seed .entry)) i) (sub (now (s .entry)) at (p .l * (p .shares * 512)))) (now (s .entry)) (now (s .exit)) × (r .next ≡ skip masks (p .shares) (p .rep) g)) ⌝ }
 {
+    let l = p.l;
+    let d = p.shares;
     if !row_at(s, row, at, seed, i, l, d) {
         return Imaged { ok: false, next: g };
     }
-    let x = add_rep_noise_at(s, row, d, rep, u, i, seeds, n, g);
-    decode_at(s, row, to, d);
+    let x = add_rep_noise_at(s, row, p, u, i, seeds, g);
+    decode_at(s, row, to, p);
     Imaged { ok: true, next: x }
 }
 
-// All k rows with their noise (Algorithm 1 lines 5 to 7, Algorithm 2 lines 6 to 8), the sums one behind the other from `to` on. False, and no
-// sums, where the matrix does not fill.
+// All k rows with their noise (Algorithm 1 lines 5 to 7, Algorithm 2 lines 6 to 8), one after the other in the region `row`, the sums one behind
+// the other from `to` on. False, and no sums, where the matrix does not fill.
 pub(crate) fn image_seeds(
     s: &mut [u64],
     row: usize,
     at: usize,
     to: usize,
-    seed: &[u8],
-    k: usize,
-    l: usize,
-    d: usize,
-    rep: usize,
+    p: Params,
     u: usize,
+    seed: &[u8],
     seeds: &[u8],
-    n: usize,
     g: MaskGen,
 ) -> Imaged
-    requires { ⌜ d ≡ 2 ^ orderIndex d ⌝ }
-    requires { ⌜ (d * 512 ≤ row) × (row + d * 512 ≤ at) × (at + l * (d * 512) ≤ to) × (to + k * 512 ≤ length (now s)) × Below q (now s) × (k ≤ 256) × (l < 256) ⌝ }
-    requires { ⌜ (k * rep * d * n ≤ length (now seeds)) × (rep < 256) × (d < 256) × (1 ≤ u) × (u ≤ 48) ⌝ }
-    ensures { λ r. ⌜ (r .ok ≡ filled (matrixOf k l (now (seed .entry)))) × (length (now (s .exit)) ≡ length (now (s .entry))) × Below q (now (s .exit)) ⌝ }
-    ensures { λ r. ⌜ ((A : List ℕ) → matrixOf k l (now (seed .entry)) ≡ some A → Wrote (row + d * 512) to (k * 512) (totals k d (addNoise masks d g k rep (seedNoise d rep u n (now (seeds .entry))) (rowsOf d k l A (sub (now (s .entry)) at (l * (d * 512)))))) (now (s .entry)) (now (s .exit)) × (r .next ≡ skip masks d (k * rep) g)) ⌝ }
+    requires { ⌜ Small p × (1 ≤ u) × (u ≤ 48) × (p .k * p .rep * p .shares * (p .kappa / 8) ≤ length (now seeds)) ⌝ }
+    requires { ⌜ (p .shares * 512 ≤ row) × (row + p .shares * 512 ≤ at) × (at + p .l * (p .shares * 512) ≤ to) × (to + p .k * 512 ≤ length (now s)) × Below q (now s) ⌝ }
+    ensures { λ r. ⌜ (r .ok ≡ filled (matrix p (now (seed .entry)))) × (length (now (s .exit)) ≡ length (now (s .entry))) × Below q (now (s .exit)) × Kept (row + p .shares * 512) to (now (s .entry)) (now (s .exit)) ⌝ }
+    ensures { λ r. ⌜ ((A : List ℕ) → matrix p (now (seed .entry)) ≡ some A → SummedAll (p .shares) (p .k) row to (addNoise masks (p .shares) g (p .k) (p .rep) (seedNoise (p .shares) (p .rep) u (p .kappa / 8) (now (seeds .entry))) (rowsOf (p .shares) (p .k) (p .l) A (sub (now (s .entry)) at (p .l * (p .shares * 512))))) (now (s .entry)) (now (s .exit)) × (r .next ≡ skip masks (p .shares) (p .k * p .rep) g)) ⌝ }
 {
+    let k = p.k;
     let mut x = g;
     for i in 0..k {
         let b = to + i * 512;
-        let y = image_row_seeds(s, row, at, b, seed, i, l, d, rep, u, seeds, n, x);
+        let y = image_row_seeds(s, row, at, b, p, u, seed, i, seeds, x);
         if !y.ok {
             return y;
         }
@@ -167,24 +163,24 @@ fn image_row_explicit(
     row: usize,
     at: usize,
     to: usize,
+    p: Params,
     seed: &[u8],
     i: usize,
-    l: usize,
-    d: usize,
     words: &[u64],
     g: MaskGen,
 ) -> Imaged
-    requires { ⌜ d ≡ 2 ^ orderIndex d ⌝ }
-    requires { ⌜ (d * 512 ≤ row) × (row + d * 512 ≤ at) × (at + l * (d * 512) ≤ to) × (to + 512 ≤ length (now s)) × Below q (now s) × (i < 256) × (l < 256) ⌝ }
-    requires { ⌜ (i * (d * 512) + d * 512 ≤ length (now words)) × Below q (now words) ⌝ }
-    ensures { λ r. ⌜ (r .ok ≡ rowFills (now (seed .entry)) i l) × (length (now (s .exit)) ≡ length (now (s .entry))) × Below q (now (s .exit)) ⌝ }
-    ensures { λ r. ⌜ (r .ok ≡ true → Wrote (row + d * 512) to 512 (rowImage d l g 1 (explicitNoise d (now (words .entry)) i) (rowEntry (now (seed .entry)) i) (sub (now (s .entry)) at (l * (d * 512)))) (now (s .entry)) (now (s .exit)) × (r .next ≡ skip masks d 1 g)) ⌝ }
+    requires { ⌜ Small p × (i < 256) × (i * (p .shares * 512) + p .shares * 512 ≤ length (now words)) × Below q (now words) ⌝ }
+    requires { ⌜ (p .shares * 512 ≤ row) × (row + p .shares * 512 ≤ at) × (at + p .l * (p .shares * 512) ≤ to) × (to + 512 ≤ length (now s)) × Below q (now s) ⌝ }
+    ensures { λ r. ⌜ (r .ok ≡ rowFills (now (seed .entry)) i (p .l)) × (length (now (s .exit)) ≡ length (now (s .entry))) × Below q (now (s .exit)) × Kept (row + p .shares * 512) to (now (s .entry)) (now (s .exit)) ⌝ }
+    ensures { λ r. ⌜ (r .ok ≡ true → Summed (p .shares) row to (noisedRow (p .shares) (p .l) g 1 (explicitNoise (p .shares) (now (words .entry)) i) (rowEntry (now (seed .entry)) i) (sub (now (s .entry)) at (p .l * (p .shares * 512)))) (now (s .entry)) (now (s .exit)) × (r .next ≡ skip masks (p .shares) 1 g)) ⌝ }
 {
+    let l = p.l;
+    let d = p.shares;
     if !row_at(s, row, at, seed, i, l, d) {
         return Imaged { ok: false, next: g };
     }
-    let x = add_explicit_noise_at(s, row, d, i, words, g);
-    decode_at(s, row, to, d);
+    let x = add_explicit_noise_at(s, row, p, i, words, g);
+    decode_at(s, row, to, p);
     Imaged { ok: true, next: x }
 }
 
@@ -194,23 +190,21 @@ pub(crate) fn image_explicit(
     row: usize,
     at: usize,
     to: usize,
+    p: Params,
     seed: &[u8],
-    k: usize,
-    l: usize,
-    d: usize,
     words: &[u64],
     g: MaskGen,
 ) -> Imaged
-    requires { ⌜ d ≡ 2 ^ orderIndex d ⌝ }
-    requires { ⌜ (d * 512 ≤ row) × (row + d * 512 ≤ at) × (at + l * (d * 512) ≤ to) × (to + k * 512 ≤ length (now s)) × Below q (now s) × (k ≤ 256) × (l < 256) ⌝ }
-    requires { ⌜ (k * (d * 512) ≤ length (now words)) × Below q (now words) ⌝ }
-    ensures { λ r. ⌜ (r .ok ≡ filled (matrixOf k l (now (seed .entry)))) × (length (now (s .exit)) ≡ length (now (s .entry))) × Below q (now (s .exit)) ⌝ }
-    ensures { λ r. ⌜ ((A : List ℕ) → matrixOf k l (now (seed .entry)) ≡ some A → Wrote (row + d * 512) to (k * 512) (totals k d (addNoise masks d g k 1 (explicitNoise d (now (words .entry))) (rowsOf d k l A (sub (now (s .entry)) at (l * (d * 512)))))) (now (s .entry)) (now (s .exit)) × (r .next ≡ skip masks d k g)) ⌝ }
+    requires { ⌜ Small p × (p .k * (p .shares * 512) ≤ length (now words)) × Below q (now words) ⌝ }
+    requires { ⌜ (p .shares * 512 ≤ row) × (row + p .shares * 512 ≤ at) × (at + p .l * (p .shares * 512) ≤ to) × (to + p .k * 512 ≤ length (now s)) × Below q (now s) ⌝ }
+    ensures { λ r. ⌜ (r .ok ≡ filled (matrix p (now (seed .entry)))) × (length (now (s .exit)) ≡ length (now (s .entry))) × Below q (now (s .exit)) × Kept (row + p .shares * 512) to (now (s .entry)) (now (s .exit)) ⌝ }
+    ensures { λ r. ⌜ ((A : List ℕ) → matrix p (now (seed .entry)) ≡ some A → SummedAll (p .shares) (p .k) row to (addNoise masks (p .shares) g (p .k) 1 (explicitNoise (p .shares) (now (words .entry))) (rowsOf (p .shares) (p .k) (p .l) A (sub (now (s .entry)) at (p .l * (p .shares * 512))))) (now (s .entry)) (now (s .exit)) × (r .next ≡ skip masks (p .shares) (p .k) g)) ⌝ }
 {
+    let k = p.k;
     let mut x = g;
     for i in 0..k {
         let b = to + i * 512;
-        let y = image_row_explicit(s, row, at, b, seed, i, l, d, words, x);
+        let y = image_row_explicit(s, row, at, b, p, seed, i, words, x);
         if !y.ok {
             return y;
         }

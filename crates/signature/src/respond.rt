@@ -1,8 +1,8 @@
 // The response of one attempt (000, Algorithm 2, lines 12 to 16) on the work buffer, laid out as specs/Attempt.antt says.
 ghost use mathlib.Core.Path.{_≡_};
-ghost use Prim.Native.Nat.{_+_, _*_, _^_, _≤_};
+ghost use Prim.Native.Nat.{_+_, _*_, _≤_};
 ghost use lib.ListN.{length};
-ghost use Rattle.hash.specs.Params.{orderIndex};
+ghost use Rattle.hash.specs.Params.{ShareCount};
 ghost use Rattle.ring.specs.Words.{q, addW, Below, Words};
 ghost use Rattle.ring.specs.Transform.{intt, pointwise};
 ghost use Rattle.sharing.specs.Blocks.{build, totals};
@@ -13,6 +13,7 @@ ghost use Rattle.signature.specs.Attempt.{answered, Renewed, Responded};
 ghost use Rattle.signature.specs.Keygen.{atX};
 ghost use Rattle.signature.specs.Sign.{maskedResponse};
 use crate::vector::intt_vector;
+use hash::params::Params;
 use ring::poly::add;
 use ring::poly::intt;
 use ring::poly::ntt;
@@ -61,39 +62,44 @@ fn respond_vector(s: &mut [u64], a: usize, b: usize, c: [u64; 512], l: usize, d:
 }
 
 // Line 16: the sums of the l sharings at `at`, one behind the other from `to` on.
-fn decode_vector(s: &mut [u64], at: usize, to: usize, l: usize, d: usize)
-    requires { ⌜ (at + l * (d * 512) ≤ to) × (to + l * 512 ≤ length (now s)) × Below q (now s) ⌝ }
-    ensures { λ _. ⌜ Wrote 0 to (l * 512) (totals l d (sub (now (s .entry)) at (l * (d * 512)))) (now (s .entry)) (now (s .exit)) ⌝ }
+fn decode_vector(s: &mut [u64], at: usize, to: usize, p: Params)
+    requires { ⌜ (at + p .l * (p .shares * 512) ≤ to) × (to + p .l * 512 ≤ length (now s)) × Below q (now s) ⌝ }
+    ensures { λ _. ⌜ Wrote 0 to (p .l * 512) (totals (p .l) (p .shares) (sub (now (s .entry)) at (p .l * (p .shares * 512)))) (now (s .entry)) (now (s .exit)) ⌝ }
 {
+    let l = p.l;
+    let d = p.shares;
     for i in 0..l {
         let a = at + i * (d * 512);
         let b = to + i * 512;
-        decode_at(s, a, b, d);
+        decode_at(s, a, b, p);
     }
 }
 
 // Lines 12 and 13: s at a, in the transform domain; r at b, turned back from it.
-fn renew(s: &mut [u64], a: usize, b: usize, l: usize, d: usize, g: MaskGen) -> MaskGen
-    requires { ⌜ d ≡ 2 ^ orderIndex d ⌝ }
-    requires { ⌜ (d * 512 ≤ a) × (a + l * (d * 512) ≤ b) × (b + l * (d * 512) ≤ length (now s)) × Below q (now s) ⌝ }
-    ensures { λ r. ⌜ Renewed l d a b g (now (s .entry)) (now (s .exit)) × (r ≡ skip masks d (l + l) g) ⌝ }
+fn renew(s: &mut [u64], a: usize, b: usize, p: Params, g: MaskGen) -> MaskGen
+    requires { ⌜ ShareCount (p .shares) × (p .shares * 512 ≤ a) × (a + p .l * (p .shares * 512) ≤ b) × (b + p .l * (p .shares * 512) ≤ length (now s)) × Below q (now s) ⌝ }
+    ensures { λ r. ⌜ Renewed (p .l) (p .shares) a b g (now (s .entry)) (now (s .exit)) × (r ≡ skip masks (p .shares) (p .l + p .l) g) ⌝ }
 {
-    let x = refresh_vector(s, a, l, d, g);
+    let l = p.l;
+    let d = p.shares;
+    let x = refresh_vector(s, a, l, p, g);
     intt_vector(s, b, l * d);
-    refresh_vector(s, b, l, d, x)
+    refresh_vector(s, b, l, p, x)
 }
 
 // Lines 12 to 16 of the challenge polynomial c; g is the generator behind line 7.
-pub(crate) fn respond(work: &mut [u64], k: usize, l: usize, d: usize, c: [u64; 512], g: MaskGen)
-    requires { ⌜ d ≡ 2 ^ orderIndex d ⌝ }
-    requires { ⌜ (atX k l d + l * 512 ≤ length (now work)) × Below q (now work) × Words 512 c ⌝ }
-    ensures { λ _. ⌜ Responded k l d c g (now (work .entry)) (now (work .exit)) ⌝ }
+pub(crate) fn respond(work: &mut [u64], p: Params, c: [u64; 512], g: MaskGen)
+    requires { ⌜ ShareCount (p .shares) × (atX (p .k) (p .l) (p .shares) + p .l * 512 ≤ length (now work)) × Below q (now work) × Words 512 c ⌝ }
+    ensures { λ _. ⌜ Responded (p .k) (p .l) (p .shares) c g (now (work .entry)) (now (work .exit)) ⌝ }
 {
+    let k = p.k;
+    let l = p.l;
+    let d = p.shares;
     let a = 4 * (d * 512) + 4096;
     let b = a + l * (d * 512);
     let e = b + l * (d * 512) + k * 512;
-    let x = renew(work, a, b, l, d, g);
+    let x = renew(work, a, b, p, g);
     respond_vector(work, a, b, c, l, d);
-    refresh_vector(work, b, l, d, x);
-    decode_vector(work, b, e, l, d);
+    refresh_vector(work, b, l, p, x);
+    decode_vector(work, b, e, p);
 }

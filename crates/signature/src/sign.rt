@@ -17,7 +17,7 @@ ghost use Rattle.signature.specs.Expanding.{Listed};
 ghost use Rattle.signature.specs.Recover.{muOf};
 ghost use Rattle.signature.specs.Sign.{answer};
 ghost use Rattle.signature.specs.SignCalls.{packed, expanded, publicOf, sharesOf, coinsGood, signNo, signMade, signGo, signing, leftBy, signCall};
-ghost use Rattle.signature.specs.SignSteps.{EndedAt, kept};
+ghost use Rattle.signature.specs.SignSteps.{EndedAt, HeldAt, kept};
 ghost use Rattle.signature.specs.Table.{Tabled};
 use crate::attempt::answer;
 use crate::commit::commit;
@@ -31,7 +31,8 @@ use hash::params::Selected;
 use hash::params::lookup;
 use sharing::region::clear;
 
-// The end of an attempt (01: try): a signature; over the bounds or too long; a challenge (check 11), the matrix (check 10) that does not fill.
+// The end of an attempt (01: try): a signature; over the bounds or too long; a challenge, the matrix that does not fill. `endNo`
+// (specs/SignSteps.antt) gives the status of each.
 pub(crate) enum AttemptEnd {
     Made,
     Over,
@@ -64,6 +65,7 @@ fn attempt(
     requires { ⌜ Within p (coinsOf explicit (now seeds) (now noise) (now «mask_seeds»)) a ⌝ }
     ensures { λ r. ⌜ (length (now (work .exit)) ≡ length (now (work .entry))) × Below q (now (work .exit)) ⌝ }
     ensures { λ r. ⌜ EndedAt p (now (vk .entry)) (now (mu .entry)) (coinsOf explicit (now (seeds .entry)) (now (noise .entry)) (now («mask_seeds» .entry))) a (sub (now (work .entry)) (atS (p .shares)) (p .l * (p .shares * 512))) r (sub (now (work .exit)) (atS (p .shares)) (p .l * (p .shares * 512))) (now (out .entry)) (now (out .exit)) ⌝ }
+    ensures { λ r. ⌜ HeldAt p (now (vk .entry)) (now (mu .entry)) (coinsOf explicit (now (seeds .entry)) (now (noise .entry)) (now («mask_seeds» .entry))) a (sub (now (work .entry)) (atS (p .shares)) (p .l * (p .shares * 512))) r (now (work .exit)) ⌝ }
 {
     let n = p.kappa / 8;
     let b = p.kappa / 4;
@@ -298,7 +300,7 @@ pub fn sign(
 ) -> Signed
     ensures { λ r. ⌜ signing (r .status) (r .attempts) (now («signature_out» .exit)) (now (work .exit)) ≡ signCall edition set shares (packed (now (key .entry))) attempts (now (message .entry)) (record { explicit = false; noise = now («noise_seeds» .entry); masks = now («mask_seeds» .entry) }) (now («signature_out» .entry)) (now (work .entry)) ⌝ }
 {
-    let none = [0u64; 1];
+    let none = [0u64; 0];
     sign_any(
         set,
         shares,
@@ -332,7 +334,8 @@ pub fn sign_explicit(
 ) -> Signed
     ensures { λ r. ⌜ signing (r .status) (r .attempts) (now («signature_out» .exit)) (now (work .exit)) ≡ signCall edition set shares (packed (now (key .entry))) attempts (now (message .entry)) (record { explicit = true; noise = now («noise_words» .entry); masks = now («mask_seeds» .entry) }) (now («signature_out» .entry)) (now (work .entry)) ⌝ }
 {
-    let none = [0u64; 1];
+    let none = [0u64; 0];
+    let unused = [0u8; 0];
     sign_any(
         set,
         shares,
@@ -343,7 +346,7 @@ pub fn sign_explicit(
         &none,
         message,
         true,
-        mask_seeds,
+        &unused,
         noise_words,
         mask_seeds,
         signature_out,
@@ -367,6 +370,7 @@ pub fn sign_expanded(
 ) -> Signed
     ensures { λ r. ⌜ signing (r .status) (r .attempts) (now («signature_out» .exit)) (now (work .exit)) ≡ signCall edition set shares (expanded (now (bytes .entry)) (now (words .entry))) attempts (now (message .entry)) (record { explicit = false; noise = now («noise_seeds» .entry); masks = now («mask_seeds» .entry) }) (now («signature_out» .entry)) (now (work .entry)) ⌝ }
 {
+    let none = [0u64; 0];
     sign_any(
         set,
         shares,
@@ -378,7 +382,7 @@ pub fn sign_expanded(
         message,
         false,
         noise_seeds,
-        words,
+        &none,
         mask_seeds,
         signature_out,
         work,
@@ -401,6 +405,7 @@ pub fn sign_expanded_explicit(
 ) -> Signed
     ensures { λ r. ⌜ signing (r .status) (r .attempts) (now («signature_out» .exit)) (now (work .exit)) ≡ signCall edition set shares (expanded (now (bytes .entry)) (now (words .entry))) attempts (now (message .entry)) (record { explicit = true; noise = now («noise_words» .entry); masks = now («mask_seeds» .entry) }) (now («signature_out» .entry)) (now (work .entry)) ⌝ }
 {
+    let unused = [0u8; 0];
     sign_any(
         set,
         shares,
@@ -411,7 +416,7 @@ pub fn sign_expanded_explicit(
         words,
         message,
         true,
-        mask_seeds,
+        &unused,
         noise_words,
         mask_seeds,
         signature_out,

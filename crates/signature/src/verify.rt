@@ -213,7 +213,7 @@ pub fn verify(
 {
     match lookup(set, 1, edition) {
         Selected::NoSet => 1,
-        Selected::NoShares => 1,
+        Selected::NoShares => 2,
         Selected::Found(p) => verify_with(p, public_key, message, signature),
     }
 }

@@ -13,9 +13,12 @@ use lib.ListN.{length}
 use Rattle.hash.specs.Lists.{pick}
 use Rattle.hash.specs.declared.params.Params.{Params}
 use Rattle.hash.proofs.Output.{output-length, output-bytes}
+use Rattle.hash.proofs.Sets.{setOf}
 use Rattle.ring.specs.Words.{q, subq, Words}
 use Rattle.ring.specs.Transform.{mul}
-use Rattle.ring.specs.Round.{roundW, scaledT, residues}
+use Rattle.ring.specs.Round.{rounded, roundW, scaledT, residues}
+use Rattle.ring.proofs.Checks.{asked}
+use Rattle.ring.proofs.Mapped.{length-map}
 use Rattle.ring.proofs.Sums.{length-zip}
 use Rattle.sharing.specs.Blocks.{block, totals}
 use Rattle.sharing.specs.declared.masks.MaskGen.{MaskGen}
@@ -34,10 +37,11 @@ use Rattle.signature.specs.Sign.Attempted.{made, over, stuck}
 use Rattle.signature.specs.SignCalls.{publicFor}
 use Rattle.signature.specs.Verify.{recomputed, verifyChallenge, verifyFields, verifyOf}
 use Rattle.signature.proofs.Canonical.{Sized, write-read, write-length}
+use Rattle.signature.proofs.Centred.{length-centred}
+use Rattle.signature.proofs.SameBytes.{same-refl}
 use Rattle.theorems.specs.Plain.{plainNo}
-use Rattle.theorems.proofs.Checks.{passed, same-bytes}
-use Rattle.theorems.proofs.ShareCount.{setOf, k-same, l-same, concluded-same, public-same}
-use Rattle.theorems.proofs.Hint.{residues-centred, length-rounded, length-centred, length-hint, hint-back}
+use Rattle.theorems.proofs.ShareCount.{k-same, l-same, concluded-same, public-same}
+use Rattle.theorems.proofs.Hint.{residues-centred, length-hint, hint-back}
 
 -- k rows of 512 words
 recovered-long : (p : Params) (A z c t : List ℕ) → length (recovered p A z c t) ≡ p .k * 512
@@ -70,7 +74,7 @@ module _ (p : Params) (vk msg A : List ℕ) (eA : matrix p (vkSeed p vk) ≡ som
         record {
           hash-long = output-length _ (p .kappa / 4);
           hash-bytes = output-bytes _ (p .kappa / 4);
-          hint-long = length-hint (roundW w) y ∙ length-rounded w ∙ lw;
+          hint-long = length-hint (roundW w) y ∙ length-map (rounded 44 31) w ∙ lw;
           response-long = length-centred q z ∙ wz .long;
         }
 
@@ -81,7 +85,7 @@ module _ (p : Params) (vk msg A : List ℕ) (eA : matrix p (vkSeed p vk) ≡ som
         ∙ ap (λ (x : List ℕ). chalHash p x (P .mu)) (hint-back w y (lw ∙ sym (recovered-long p A z (residues q c) (P .vector))))
 
     challenge-good : verifyChallenge p A (P .vector) (P .mu) fields (some c) ≡ 0
-    challenge-good = rw (hash-back, same-bytes (fields .hash)) refl
+    challenge-good = rw (hash-back, same-refl (fields .hash)) refl
 
     hash-is : (x : List ℤ) → chalPoly p hash ≡ some x → chalPoly p (fields .hash) ≡ some x
     unfolding signedFields
@@ -93,7 +97,7 @@ module _ (p : Params) (vk msg A : List ℕ) (eA : matrix p (vkSeed p vk) ≡ som
     fields-good b ec eb ew =
         let r : read p b ≡ some fields = write-read p fields b sized ew in
         let ch : chalPoly p (fields .hash) ≡ some c = hash-is c ec in
-        (rw (r, ew) (same-bytes b), rw (r, eb, eA, ch) challenge-good)
+        (rw (r, ew) (same-refl b), rw (r, eb, eA, ch) challenge-good)
 
   -- ---- what a signature is to be
 
@@ -134,10 +138,10 @@ module _ (p : Params) (vk msg A : List ℕ) (eA : matrix p (vkSeed p vk) ≡ som
       let q9 : ℕ = ask 9 (messageSized msg) 0 in
       let q6 : ℕ = ask 6 (attemptsAllowed n) q9 in
       let q4 : ℕ = ask 4 (publicKeyGood p vk) q6 in
-      let a3 : (publicKeySized p vk ≡ true) × (q4 ≡ 0) = passed (publicKeySized p vk) q4 2 h in
-      let a4 : (publicKeyGood p vk ≡ true) × (q6 ≡ 0) = passed (publicKeyGood p vk) q6 3 (a3 .1) in
-      let a6 : (attemptsAllowed n ≡ true) × (q9 ≡ 0) = passed (attemptsAllowed n) q9 5 (a4 .1) in
-      let a9 : (messageSized msg ≡ true) × (_≡_ {A = ℕ} 0 0) = passed (messageSized msg) 0 8 (a6 .1) in
+      let a3 : (publicKeySized p vk ≡ true) × (q4 ≡ 0) = asked 2 (publicKeySized p vk) q4 h in
+      let a4 : (publicKeyGood p vk ≡ true) × (q6 ≡ 0) = asked 3 (publicKeyGood p vk) q6 (a3 .1) in
+      let a6 : (attemptsAllowed n ≡ true) × (q9 ≡ 0) = asked 5 (attemptsAllowed n) q9 (a4 .1) in
+      let a9 : (messageSized msg ≡ true) × (_≡_ {A = ℕ} 0 0) = asked 8 (messageSized msg) 0 (a6 .1) in
       let a13 : eqb (length sig) (p .«sig_bytes») ≡ true = eq-eqb (length sig) (p .«sig_bytes») (g .long) in
       let a14 : properForm p sig ≡ true = g .form in
       rw (a3 .0, a4 .0, a9 .0, a13, a14) (g .fields)

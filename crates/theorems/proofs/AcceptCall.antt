@@ -12,8 +12,10 @@ use Rattle.hash.specs.Params.{lookupOf}
 use Rattle.hash.specs.declared.params.Edition.{Edition}
 use Rattle.hash.specs.declared.params.Params.{Params}
 use Rattle.hash.specs.declared.params.Selected.{Selected}
-use Rattle.hash.proofs.Rows.{Rule, found}
+use Rattle.hash.proofs.Rows.{order-count, Rule, found}
+use Rattle.hash.proofs.Sets.{Beside, beside}
 use Rattle.ring.specs.Words.{allBelow}
+use Rattle.ring.proofs.Checks.{both-true}
 use Rattle.signature.specs.Bits.{repack}
 use Rattle.signature.specs.Checks.{publicKeySized, publicKeyGood}
 use Rattle.signature.specs.Keys.{seedBytes, vkSeed, vkVector}
@@ -22,9 +24,9 @@ use Rattle.signature.specs.Sign.{Answer, Coins, signFrom}
 use Rattle.signature.specs.SignCalls.{Key, keySized, keyGood, publicOf, sharesOf, signNo, publicFor, signMade, signGo, signFor, signOf}
 use Rattle.signature.specs.SignCalls.Key.{packed, expanded}
 use Rattle.signature.specs.Verify.{verifyOf, verifyCall}
+use Rattle.signature.proofs.SignChecks.{AllPassed, all-passed}
 use Rattle.theorems.specs.Plain.{plainNo}
-use Rattle.theorems.proofs.Checks.{both-true, AllPassed, all-passed}
-use Rattle.theorems.proofs.ShareCount.{Single, single, matrix-same, no-same}
+use Rattle.theorems.proofs.ShareCount.{matrix-same, no-same}
 use Rattle.theorems.proofs.Accept.{verify-good, from-good}
 
 -- ---- the public key of a key that passed checks 3 and 4 passes them
@@ -66,18 +68,18 @@ unfolding verifyCall
 call-is e set r vk msg sig is = rw is refl
 
 module _ (e : Edition) (set d : ℕ) (p : Params) (is : lookupOf set d e ≡ Selected.Found p) where
-  one : Single set e p
-  one = single set d e p is
+  one : Beside set 1 e p
+  one = beside set d 1 e p is (order-count 1 (omega arith))
 
   made-accepted : (vk msg : List ℕ) (T : Coins) (n : ℕ) (o s : Option (List ℕ)) → plainNo p vk n msg ≡ 0 → matrix p (vkSeed p vk) ≡ o
       → signMade p vk msg T n o s .status ≡ 0 → verifyCall e set vk msg (signMade p vk msg T n o s .signature) ≡ 0
   made-accepted vk msg T n none s z eA h = absurd (omega arith)
   made-accepted vk msg T n (some A) none z eA h = absurd (omega arith)
   made-accepted vk msg T n (some A) (some s) z eA h =
-      let m : matrix (one .one) (vkSeed (one .one) vk) ≡ some A = sym (matrix-same p (one .one) (one .same) vk) ∙ eA in
-      call-is e set (one .one) vk msg (signFrom p (publicFor p vk msg A) T n 0 s .signature) (one .is)
-      ∙ verify-good (one .one) vk msg A m n (signFrom p (publicFor p vk msg A) T n 0 s .signature) (sym (no-same p (one .one) (one .same) vk n msg) ∙ z)
-      (from-good p (one .one) (one .same) vk msg A m T n 0 s h)
+      let m : matrix (one .other) (vkSeed (one .other) vk) ≡ some A = sym (matrix-same p (one .other) (one .same) vk) ∙ eA in
+      call-is e set (one .other) vk msg (signFrom p (publicFor p vk msg A) T n 0 s .signature) (one .is)
+      ∙ verify-good (one .other) vk msg A m n (signFrom p (publicFor p vk msg A) T n 0 s .signature) (sym (no-same p (one .other) (one .same) vk n msg) ∙ z)
+      (from-good p (one .other) (one .same) vk msg A m T n 0 s h)
 
   go-accepted : (key : Key) (n : ℕ) (msg : List ℕ) (T : Coins) (out work : List ℕ) (m : ℕ) → signNo p key n msg T out work ≡ m
       → signGo m p key n msg T .status ≡ 0 → verifyCall e set (publicOf p key) msg (signGo m p key n msg T .signature) ≡ 0

@@ -11,9 +11,11 @@ use Rattle.hash.specs.Lists.{pick}
 use Rattle.hash.specs.Params.{setIndex, orderIndex, rowAt, paramsOf}
 use Rattle.hash.specs.declared.params.Params.{Params}
 use Rattle.hash.specs.declared.params.Selected.{Selected}
+use Rattle.hash.proofs.Sets.{setOf, found-set, look-up}
 use Rattle.ring.specs.Words.{q, Words}
 use Rattle.ring.proofs.Sums.{same-residues}
-use Rattle.sharing.specs.Blocks.{block, build, sumN, total, totals}
+use Rattle.sharing.specs.Blocks.{block, build, sumN, total}
+use Rattle.sharing.proofs.Built.{totals-are}
 use Rattle.sharing.proofs.Decode.{words-sum, total-words, total-at, sumN-ext}
 use Rattle.sharing.proofs.Lists.{block-words, block-at, build-ext}
 use Rattle.signature.specs.Keys.{vkSeed}
@@ -22,8 +24,8 @@ use Rattle.signature.specs.Sign.{Public}
 use Rattle.signature.specs.SignCalls.{publicFor}
 use Rattle.theorems.specs.Plain.{Totals, noiseTotal, totalsOf, plainFrom, plainNo, plainMade, plainGo, signPlain}
 use Rattle.theorems.specs.Unit.{UnitCall, signUnit, recordOf, wordAt, secretAt, noiseTotalAt, Fits, Sound, Alike, SameSecret, EqualTotals}
-use Rattle.theorems.proofs.ShareCount.{setOf, found-set, look-up, k-same, l-same, plain-same}
-use Rattle.theorems.proofs.Collapse.{secretOf, noiseOf, noiseTotals, shares-are, sign-plain, sign-unknown}
+use Rattle.theorems.proofs.ShareCount.{k-same, l-same, plain-same}
+use Rattle.theorems.proofs.Collapse.{unitSecret, noiseOf, noiseTotals, shares-are, sign-plain, sign-unknown}
 use Rattle.theorems.proofs.NoiseTotals.{first-at, second-at}
 
 -- ---- the secret, place by place
@@ -75,23 +77,28 @@ build-same n m f g e wf wg h =
     build-ext n f g (λ (i : ℕ) (l : i < n). same-residues (f i) (g i) (wf i) (wg i) (λ (x : ℕ) (lx : x < 512). h i x l lx))
     ∙ ap (λ (k : ℕ). build k g) e
 
+-- their records are of one set
+pub of-one-set : (u v : UnitCall) (p r : Params) → recordOf u ≡ Selected.Found p → recordOf v ≡ Selected.Found r → Alike u v → setOf p ≡ setOf r
+of-one-set u v p r iu iv al =
+    found-set (u .set) (u .shares) (u .edition) p iu .first-row
+    ∙ cc (al .sets, al .editions)
+    ∙ sym (found-set (v .set) (v .shares) (v .edition) r iv .first-row)
+
 module _ (u v : UnitCall) (p r : Params) (iu : recordOf u ≡ Selected.Found p) (iv : recordOf v ≡ Selected.Found r)
     (hu : Fits p u) (hv : Fits r v) (al : Alike u v) where
   one-set : setOf p ≡ setOf r
-  one-set =
-      found-set (u .set) (u .shares) (u .edition) p iu .first-row
-      ∙ cc (al .sets, al .editions)
-      ∙ sym (found-set (v .set) (v .shares) (v .edition) r iv .first-row)
+  one-set = of-one-set u v p r iu iv al
 
-  secret-same : SameSecret u v → secretOf p u ≡ secretOf r v
-  unfolding totals
+  secret-same : SameSecret u v → unitSecret p u ≡ unitSecret r v
   secret-same s =
-      build-same (p .l) (r .l) (λ (i : ℕ). total (p .shares) (block (p .shares * 512) i (u .words))) (λ (i : ℕ). total (r .shares) (block (r .shares * 512) i (v .words)))
+      totals-are (p .l) (p .shares) (u .words)
+      ∙ build-same (p .l) (r .l) (λ (i : ℕ). total (p .shares) (block (p .shares * 512) i (u .words))) (λ (i : ℕ). total (r .shares) (block (r .shares * 512) i (v .words)))
       (l-same p r one-set)
       (λ (i : ℕ). total-words (p .shares) (block (p .shares * 512) i (u .words))) (λ (i : ℕ). total-words (r .shares) (block (r .shares * 512) i (v .words)))
       (λ (i x : ℕ) (l : i < p .l) (lx : x < 512).
       let m : i < r .l = omega (arith, l-same p r one-set) in
       secret-at u p iu hu i x l lx ∙ s .equal p iu i x l lx ∙ sym (secret-at v r iv hv i x m lx))
+      ∙ sym (totals-are (r .l) (r .shares) (v .words))
 
   noise-same : EqualTotals u v → (a : ℕ) → a < u .attempts → noiseTotals p u a ≡ noiseTotals r v a
   unfolding totalsOf
@@ -119,13 +126,13 @@ module _ (u v : UnitCall) (p r : Params) (iu : recordOf u ≡ Selected.Found p) 
   -- of a known set
   known-agree : SameSecret u v → EqualTotals u v → signUnit u ≡ signUnit v
   known-agree s t =
-      let e1 : signUnit u ≡ signPlain p (u .vk) (u .attempts) (u .message) (secretOf p u) (noiseTotals p u) = sign-plain u p iu hu in
-      let e2 : signUnit v ≡ signPlain r (v .vk) (v .attempts) (v .message) (secretOf r v) (noiseTotals r v) = sign-plain v r iv hv in
-      let e3 : signPlain p (u .vk) (u .attempts) (u .message) (secretOf p u) (noiseTotals p u) ≡ signPlain p (u .vk) (u .attempts) (u .message) (secretOf p u) (noiseTotals r v) =
-      sign-ext p (u .vk) (u .attempts) (u .message) (secretOf p u) (noiseTotals p u) (noiseTotals r v) (noise-same t) in
-      let e4 : signPlain p (u .vk) (u .attempts) (u .message) (secretOf p u) (noiseTotals r v) ≡ signPlain r (u .vk) (u .attempts) (u .message) (secretOf p u) (noiseTotals r v) =
-      plain-same p r one-set (u .vk) (u .attempts) (u .message) (secretOf p u) (noiseTotals r v) in
-      let e5 : signPlain r (u .vk) (u .attempts) (u .message) (secretOf p u) (noiseTotals r v) ≡ signPlain r (v .vk) (v .attempts) (v .message) (secretOf r v) (noiseTotals r v) =
+      let e1 : signUnit u ≡ signPlain p (u .vk) (u .attempts) (u .message) (unitSecret p u) (noiseTotals p u) = sign-plain u p iu hu in
+      let e2 : signUnit v ≡ signPlain r (v .vk) (v .attempts) (v .message) (unitSecret r v) (noiseTotals r v) = sign-plain v r iv hv in
+      let e3 : signPlain p (u .vk) (u .attempts) (u .message) (unitSecret p u) (noiseTotals p u) ≡ signPlain p (u .vk) (u .attempts) (u .message) (unitSecret p u) (noiseTotals r v) =
+      sign-ext p (u .vk) (u .attempts) (u .message) (unitSecret p u) (noiseTotals p u) (noiseTotals r v) (noise-same t) in
+      let e4 : signPlain p (u .vk) (u .attempts) (u .message) (unitSecret p u) (noiseTotals r v) ≡ signPlain r (u .vk) (u .attempts) (u .message) (unitSecret p u) (noiseTotals r v) =
+      plain-same p r one-set (u .vk) (u .attempts) (u .message) (unitSecret p u) (noiseTotals r v) in
+      let e5 : signPlain r (u .vk) (u .attempts) (u .message) (unitSecret p u) (noiseTotals r v) ≡ signPlain r (v .vk) (v .attempts) (v .message) (unitSecret r v) (noiseTotals r v) =
       cc (secret-same s, al .keys, al .messages, al .attempts) in
       e1 ∙ e3 ∙ e4 ∙ e5 ∙ sym e2
 

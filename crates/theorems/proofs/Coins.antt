@@ -1,32 +1,17 @@
 -- The noise that an attempt has (Masked: seeded, explicit) at its places in the unit's noise: word by word and seed by seed.
-use mathlib.Core.Path.{_≡_, sym, ap, _∙_}
+use mathlib.Core.Path.{_≡_, ap, _∙_}
 use mathlib.Core.List.{List}
 use Prim.Native.Nat.{ℕ, _+_, _*_, _/_, _≤_, _<_}
 use native.Mathlib.Omega.{arith}
-use lib.ListN.{getD, take, drop}
-use lib.Seq.{drop-drop}
+use lib.ListN.{getD, drop}
+use lib.Seq.{getD-drop}
 use Rattle.hash.specs.declared.params.Params.{Params}
-use Rattle.sharing.specs.Blocks.{block, build}
-use Rattle.sharing.specs.Noise.{sampleU, noiseHeader, seedNoise, explicitNoise, noiseBytes}
-use Rattle.sharing.specs.Region.{sub}
-use Rattle.sharing.proofs.Lists.{inside, block-at, block-build}
-use Rattle.sharing.proofs.Regions.{block-sub}
-use Rattle.sharing.proofs.Samples.{sampleU-words}
+use Rattle.sharing.specs.Blocks.{block}
+use Rattle.sharing.specs.Noise.{sampleU, noiseHeader, noiseBytes}
+use Rattle.sharing.proofs.Built.{block-of, block-behind}
+use Rattle.sharing.proofs.Lists.{inside, block-at}
+use Rattle.sharing.proofs.NoisePlaces.{noise-bytes, lent-at, sample-at}
 use Rattle.signature.specs.Masked.{seeded, explicit}
-
--- block i of the m that block a is
-block-block : (w m a i : ℕ) (xs : List ℕ) → i < m → block w i (block (m * w) a xs) ≡ block w (a * m + i) xs
-unfolding block
-block-block w m a i xs h =
-    let e : a * (m * w) + i * w ≡ (a * m + i) * w = omega arith in
-    block-sub w m i xs (a * (m * w)) h ∙ ap (λ (n : ℕ). sub xs n w) e
-
--- block i behind the first m
-block-behind : (w m i : ℕ) (xs : List ℕ) → block w i (drop (m * w) xs) ≡ block w (m + i) xs
-unfolding block
-block-behind w m i xs =
-    let e : m * w + i * w ≡ (m + i) * w = omega arith in
-    ap (take w) (drop-drop (i * w) (m * w) xs ∙ ap (λ (n : ℕ). drop n xs) e)
 
 module _ (p : Params) (noise : List ℕ) (a : ℕ) where
   abbrev d : ℕ
@@ -49,15 +34,17 @@ module _ (p : Params) (noise : List ℕ) (a : ℕ) where
 
   pub explicit-first : (i t j x : ℕ) → i < p .l → j < d → x < 512
       → getD (explicit p words .first i t) (j * 512 + x) 0 ≡ getD noise (((a * m + i) * d + j) * 512 + x) 0
-  unfolding explicit explicitNoise
-  explicit-first i t j x hi hj hx = block-at (d * 512) i words (j * 512 + x) (omega arith) ∙ word-at i j x (omega arith) hj hx
+  unfolding explicit
+  explicit-first i t j x hi hj hx = lent-at d words i t j x hj hx ∙ word-at i j x (omega arith) hj hx
 
   pub explicit-second : (i t j x : ℕ) → i < p .k → j < d → x < 512
       → getD (explicit p words .second i t) (j * 512 + x) 0 ≡ getD noise (((a * m + (p .l + i)) * d + j) * 512 + x) 0
-  unfolding explicit explicitNoise
+  unfolding explicit
   explicit-second i t j x hi hj hx =
-      ap (λ (xs : List ℕ). getD xs (j * 512 + x) 0) (block-behind (d * 512) (p .l) i words)
-      ∙ block-at (d * 512) (p .l + i) words (j * 512 + x) (omega arith) ∙ word-at (p .l + i) j x (omega arith) hj hx
+      let e : p .l * (d * 512) + (i * (d * 512) + (j * 512 + x)) ≡ (p .l + i) * (d * 512) + (j * 512 + x) = omega arith in
+      lent-at d (drop (p .l * (d * 512)) words) i t j x hj hx
+      ∙ getD-drop (p .l * (d * 512)) words (i * (d * 512) + (j * 512 + x)) 0
+      ∙ ap (λ (n : ℕ). getD words n 0) e ∙ word-at (p .l + i) j x (omega arith) hj hx
 
   -- ---- seeds
 
@@ -69,33 +56,22 @@ module _ (p : Params) (noise : List ℕ) (a : ℕ) where
 
   -- seed number (i rep + t) d + j of the attempt
   seed-at : (i t j : ℕ) → i < m → t < p .rep → j < d → block n ((i * p .rep + t) * d + j) seeds ≡ block n (((a * m + i) * p .rep + t) * d + j) noise
-  unfolding noiseBytes
   seed-at i t j hi ht hj =
       let b : i * p .rep + p .rep ≤ m * p .rep = inside i m (p .rep) hi in
       let c : (i * p .rep + t) * d + d ≤ m * p .rep * d = inside (i * p .rep + t) (m * p .rep) d (omega arith) in
       let l : (i * p .rep + t) * d + j < m * p .rep * d = omega arith in
-      let s : (p .l + p .k) * p .shares * p .rep * (p .kappa / 8) ≡ m * p .rep * d * n = omega arith in
+      let s : noiseBytes p ≡ m * p .rep * d * n = noise-bytes p ∙ omega arith in
       let e : a * (m * p .rep * d) + ((i * p .rep + t) * d + j) ≡ ((a * m + i) * p .rep + t) * d + j = omega arith in
       ap (λ (k : ℕ). block n ((i * p .rep + t) * d + j) (block k a noise)) s
-      ∙ block-block n (m * p .rep * d) a ((i * p .rep + t) * d + j) noise l ∙ ap (λ (k : ℕ). block n k noise) e
+      ∙ block-of n (m * p .rep * d) a ((i * p .rep + t) * d + j) noise l ∙ ap (λ (k : ℕ). block n k noise) e
 
   module _ (low : p .uw ≤ 49) where
-    sample-at : (part : List ℕ) (i t j x : ℕ) → j < d → x < 512
-        → getD (seedNoise d (p .rep) (p .uw) n part i t) (j * 512 + x) 0
-        ≡ getD (sampleU (noiseHeader t i j) (block n ((i * p .rep + t) * d + j) part) (p .uw)) x 0
-    unfolding seedNoise
-    sample-at part i t j x hj hx =
-        let f : ℕ → List ℕ = λ (j : ℕ). sampleU (noiseHeader t i j) (block n ((i * p .rep + t) * d + j) part) (p .uw) in
-        sym (block-at 512 j (build d f) x hx)
-        ∙ ap (λ (xs : List ℕ). getD xs x 0)
-        (block-build 512 d j f (λ (k : ℕ) h. sampleU-words (noiseHeader t i k) (block n ((i * p .rep + t) * d + k) part) (p .uw) low .long) hj)
-
     pub seeded-first : (i t j x : ℕ) → i < p .l → t < p .rep → j < d → x < 512
         → getD (seeded p (p .uw) seeds .first i t) (j * 512 + x) 0
         ≡ getD (sampleU (noiseHeader t i j) (block n (((a * m + i) * p .rep + t) * d + j) noise) (p .uw)) x 0
     unfolding seeded
     seeded-first i t j x hi ht hj hx =
-        sample-at seeds i t j x hj hx
+        sample-at d (p .rep) (p .uw) n low seeds i t j x hj hx
         ∙ ap (λ (s : List ℕ). getD (sampleU (noiseHeader t i j) s (p .uw)) x 0) (seed-at i t j (omega arith) ht hj)
 
     pub seeded-second : (i t j x : ℕ) → i < p .k → t < p .rep → j < d → x < 512
@@ -104,6 +80,6 @@ module _ (p : Params) (noise : List ℕ) (a : ℕ) where
     unfolding seeded
     seeded-second i t j x hi ht hj hx =
         let e : p .l * p .rep * d + ((i * p .rep + t) * d + j) ≡ ((p .l + i) * p .rep + t) * d + j = omega arith in
-        sample-at (drop (p .l * p .rep * d * n) seeds) i t j x hj hx
+        sample-at d (p .rep) (p .uw) n low (drop (p .l * p .rep * d * n) seeds) i t j x hj hx
         ∙ ap (λ (s : List ℕ). getD (sampleU (noiseHeader t i j) s (p .uw)) x 0)
         (block-behind n (p .l * p .rep * d) ((i * p .rep + t) * d + j) seeds ∙ ap (λ (k : ℕ). block n k seeds) e ∙ seed-at (p .l + i) t j (omega arith) ht hj)

@@ -15,6 +15,7 @@ use Rattle.hash.specs.declared.params.Params.{Params}
 use Rattle.hash.specs.declared.params.Selected.{Selected}
 use Rattle.hash.proofs.Rows.{Row, found}
 use Rattle.ring.specs.Words.{q, allBelow, Words}
+use Rattle.ring.proofs.Checks.{both-true, both-last, below-yes}
 use Rattle.ring.proofs.Sums.{all-below, residues-drop}
 use Rattle.sharing.specs.Blocks.{block, totals}
 use Rattle.sharing.proofs.Lists.{block-words}
@@ -27,7 +28,6 @@ use Rattle.signature.specs.Sign.{answer, noiseSize, noiseFrom, noiseAt}
 use Rattle.signature.specs.SignCalls.{coinsGood, signNo, publicFor, signMade, signGo, signFor, signOf}
 use Rattle.theorems.specs.Plain.{Totals, totalsOf, plainNo, plainMade, plainGo, signPlain}
 use Rattle.theorems.specs.Unit.{UnitCall, keyOf, coinsOf, signUnit, recordOf, Fits}
-use Rattle.theorems.proofs.Checks.{both-true, both-yes, below-all}
 use Rattle.theorems.proofs.Steps.{GoodNoise, collapse}
 
 -- ---- noise that check 7 passed is words below q
@@ -69,8 +69,8 @@ module _ (p : Params) where
 -- ---- the answer
 
 -- the unit's secret; its noise in attempt a + 1, and the totals of it
-abbrev pub secretOf : Params → UnitCall → List ℕ
-secretOf p u = totals (p .l) (p .shares) (u .words)
+abbrev pub unitSecret : Params → UnitCall → List ℕ
+unitSecret p u = totals (p .l) (p .shares) (u .words)
 
 abbrev pub noiseOf : Params → UnitCall → ℕ → Noise
 noiseOf p u a = noiseAt p (coinsOf u) a
@@ -98,30 +98,30 @@ module _ (u : UnitCall) (p : Params) (is : recordOf u ≡ Selected.Found p) (h :
   unfolding signNo plainNo
   no-plain =
       let e3 : eqb (length (u .words)) (p .l * (p .shares * 512)) ≡ true = eq-eqb _ _ (h .share-words .long) in
-      let e5 : allBelow q (u .words) ≡ true = below-all q (u .words) (h .share-words .low) in
+      let e5 : allBelow q (u .words) ≡ true = below-yes q (u .words) (h .share-words .low) in
       let e7 : coinsGood p (u .attempts) (coinsOf u) ≡ true = h .coins in
       let e8 : signBuffersSized p (u .result) (u .work) ≡ true = h .buffers in
-      rw (e3, e5, e7, e8, both-yes) refl
+      rw (e3, e5, e7, e8, both-last) refl
 
   made-plain : (o : Option (List ℕ)) → signMade p (u .vk) (u .message) (coinsOf u) (u .attempts) o (some (u .words))
-      ≡ plainMade p (u .vk) (u .attempts) (u .message) (secretOf p u) (noiseTotals p u) o
+      ≡ plainMade p (u .vk) (u .attempts) (u .message) (unitSecret p u) (noiseTotals p u) o
   made-plain none = refl
   made-plain (some A) =
       collapse p (subst (λ (x : ℕ). x ≡ 2 ^ orderIndex x) (sym shares-are) (row .power)) (publicFor p (u .vk) (u .message) A) (coinsOf u) (u .attempts) 0
       (λ (b : ℕ) (l : b < 0 + u .attempts). good b (omega arith)) (u .words) (h .share-words)
 
   go-plain : (m : ℕ) → signGo m p (keyOf u) (u .attempts) (u .message) (coinsOf u)
-      ≡ plainGo m p (u .vk) (u .attempts) (u .message) (secretOf p u) (noiseTotals p u)
+      ≡ plainGo m p (u .vk) (u .attempts) (u .message) (unitSecret p u) (noiseTotals p u)
   go-plain zero = made-plain (matrix p (vkSeed p (u .vk)))
   go-plain (suc m) = refl
 
   -- COLLAPSE
-  pub sign-plain : signUnit u ≡ signPlain p (u .vk) (u .attempts) (u .message) (secretOf p u) (noiseTotals p u)
+  pub sign-plain : signUnit u ≡ signPlain p (u .vk) (u .attempts) (u .message) (unitSecret p u) (noiseTotals p u)
   unfolding signUnit signOf signPlain
   sign-plain =
       ap (λ (s : Selected). signFor s (keyOf u) (u .attempts) (u .message) (coinsOf u) (u .result) (u .work)) is
       ∙ go-plain (signNo p (keyOf u) (u .attempts) (u .message) (coinsOf u) (u .result) (u .work))
-      ∙ ap (λ (m : ℕ). plainGo m p (u .vk) (u .attempts) (u .message) (secretOf p u) (noiseTotals p u)) no-plain
+      ∙ ap (λ (m : ℕ). plainGo m p (u .vk) (u .attempts) (u .message) (unitSecret p u) (noiseTotals p u)) no-plain
 
 -- of an unknown set there is one answer
 pub sign-unknown : (u : UnitCall) → recordOf u ≡ Selected.NoSet → signUnit u ≡ answer 1 0 []

@@ -1,11 +1,12 @@
 -- Demand 3 of paper 01, over the definitions that the contracts of the calls cite.
 use mathlib.Core.Path.{_≡_, refl, sym, ap, _∙_}
+use mathlib.Core.Bool.{true}
 use mathlib.Core.List.{List}
 use Prim.Native.Nat.{ℕ}
 use borrow.Author.Tests.{eq-eqb}
 use lib.ListN.{take}
 use Rattle.hash.specs.Lists.{pick}
-use Rattle.hash.specs.Params.{lookupOf}
+use Rattle.hash.specs.Params.{ShareCount, lookupOf}
 use Rattle.hash.specs.declared.params.Edition.{Edition}
 use Rattle.hash.specs.declared.params.Params.{Params}
 use Rattle.hash.specs.declared.params.Selected.{Selected}
@@ -13,8 +14,10 @@ use Rattle.signature.specs.Sign.{Answer, Coins}
 use Rattle.signature.specs.SignCalls.{Key, Signing, leftBy, signOf, signCall}
 use Rattle.signature.specs.Verify.{verifyCall}
 use Rattle.theorems.specs.Unit.{UnitCall, coinsOf, signUnit, callUnit, Sound, Alike, SameSecret, EqualTotals}
+use Rattle.theorems.specs.Witness.{Wanted, Has, laidFor, laid, hadBy}
 use Rattle.theorems.proofs.Agree.{answers-agree}
 use Rattle.theorems.proofs.AcceptCall.{known-accepted, found-with}
+use Rattle.theorems.proofs.Witness.{laid-sound, laid-has, had, has-alike, has-secret, has-totals}
 
 -- The verifier accepts what is signed with an expanded key: whatever the set, share count, key, message, noise and masks, if signing returns 0,
 -- verifying that signature with that public key and message returns 0.
@@ -44,7 +47,41 @@ pub agreement : (u v : UnitCall) → Sound u → Sound v → Alike u v → SameS
     → (signUnit u ≡ signUnit v) × (signUnit u .status ≡ 0 → verifyCall (u .edition) (u .set) (u .vk) (u .message) (signUnit u .signature) ≡ 0)
 agreement u v hu hv al s t = (answers-agree u v hu hv al s t, accepted-unit u)
 
--- ---- the same, of what the calls give and leave
+-- ---- what agreement supposes can be met
+
+-- For every unit, and for each of the six share counts, there is a sound unit of that count, with explicit noise, that is alike, has the same
+-- secret and has equal noise totals.
+pub met : (u : UnitCall) (d : ℕ) → ShareCount d
+    → (v : UnitCall) × (v .shares ≡ d) × (v .explicit ≡ true) × Sound v × Alike u v × SameSecret u v × EqualTotals u v
+unfolding laid laidFor
+met u d c =
+    let w : Wanted = hadBy u in
+    let h : Has w (laid d w) = laid-has w d c in
+    (laid d w, refl, refl, laid-sound w d c, has-alike w u (laid d w) (had u) h, has-secret w u (laid d w) (had u) h c, has-totals w u (laid d w) (had u) h)
+
+-- Whatever the secret and the noise totals are to be, for each two of the six share counts there are two sound units of these counts that have
+-- them, and so meet all that agreement supposes (01: equal totals can be laid out for two share counts).
+pub met-across : (w : Wanted) (c d : ℕ) → ShareCount c → ShareCount d
+    → (u : UnitCall) × (v : UnitCall) × (u .shares ≡ c) × (v .shares ≡ d) × Has w u × Has w v
+    × Sound u × Sound v × Alike u v × SameSecret u v × EqualTotals u v
+unfolding laid laidFor
+met-across w c d hc hd =
+    let h : Has w (laid c w) = laid-has w c hc in
+    let k : Has w (laid d w) = laid-has w d hd in (
+      laid c w,
+      laid d w,
+      refl,
+      refl,
+      h,
+      k,
+      laid-sound w c hc,
+      laid-sound w d hd,
+      has-alike w (laid c w) (laid d w) h k,
+      has-secret w (laid c w) (laid d w) h k hd,
+      has-totals w (laid c w) (laid d w) h k,
+    )
+
+-- ---- agreement, of what the calls give and leave
 
 -- equal status and attempts; with 0 the result buffers hold the same signature, which the verifier accepts
 pub record Agreed (u v : UnitCall) : Type 0 where

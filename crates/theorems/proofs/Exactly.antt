@@ -1,10 +1,10 @@
 -- The verdict, both ways: verifying gives 0 exactly for the byte string that the writer makes of some fields which pass the bounds and whose
 -- challenge hash is the one recomputed from them (000, Algorithm 3, in the one byte form of 2.5.1).
 use mathlib.Core.Path.{_≡_, refl, sym, ap, subst, _∙_}
-use mathlib.Core.Bool.{Bool, true, false}
+use mathlib.Core.Bool.{true}
 use mathlib.Core.List.{List}
 use mathlib.Core.Option.{Option, some, none}
-use Prim.Native.Nat.{ℕ, zero, suc}
+use Prim.Native.Nat.{ℕ}
 use native.Mathlib.Omega.{arith}
 use lib.IntN.{ℤ}
 use lib.ListN.{length}
@@ -16,14 +16,14 @@ use Rattle.hash.specs.declared.params.Params.{Params}
 use Rattle.hash.specs.declared.params.Selected.{Selected}
 use Rattle.signature.specs.Bounds.{checkBounds}
 use Rattle.signature.specs.Challenge.{chalPoly}
-use Rattle.signature.specs.Checks.{ask, publicKeySized, publicKeyGood, messageSized, signatureSized, properForm, hashEqual}
-use Rattle.signature.specs.Form.{Fields, hashBytes, write, read}
+use Rattle.signature.specs.Checks.{publicKeySized, publicKeyGood, messageSized, signatureSized, properForm, hashEqual}
+use Rattle.signature.specs.Form.{Fields, write, read}
 use Rattle.signature.specs.Keys.{vkSeed, vkVector}
 use Rattle.signature.specs.Matrix.{matrix}
 use Rattle.signature.specs.Recover.{muOf}
 use Rattle.signature.specs.Verify.{recomputed, verifyChallenge, verifyMatrix, verifyFields, verifyOf, verifyFor, verifyCall}
 use Rattle.signature.proofs.Canonical.{Sized, write-read, write-length, read-sized}
-use Rattle.signature.proofs.Checks.{asked}
+use Rattle.ring.proofs.Checks.{asked}
 use Rattle.signature.proofs.Proper.{proper-some, proper-is}
 use Rattle.signature.proofs.SameBytes.{same-refl, same-eq}
 use Rattle.signature.proofs.Verified.{tabled}

@@ -15,7 +15,7 @@ use Rattle.sharing.proofs.Worked.{p10-total, p12-1, p12-2, p12-32}
 use Rattle.signature.specs.Checks.{ask}
 use Rattle.signature.specs.Keys.{vkVector, fullShare}
 use Rattle.theorems.specs.Instances.{Instances, Limits}
-use Rattle.theorems.proofs.Checks.{all-low, not-below}
+use Rattle.ring.proofs.Checks.{entries-yes, entry-no}
 
 pub instances : Instances
 instances =
@@ -39,10 +39,10 @@ instances =
 
 -- check n of a list of numbers below m
 low : (n m : ℕ) (xs : List ℕ) (rest : ℕ) → 0 < m → ((i : ℕ) → getD xs i 0 ≤ m - 1) → ask n (allBelow m xs) rest ≡ rest
-low n m xs rest z h = ap (λ (b : Bool). ask n b rest) (all-low m xs (λ (i : ℕ). omega (arith, h i)))
+low n m xs rest z h = ap (λ (b : Bool). ask n b rest) (entries-yes m xs (λ (i : ℕ). omega (arith, h i)))
 
 not-low : (n m : ℕ) (xs : List ℕ) (i rest : ℕ) → 0 < m → getD xs i 0 ≡ m → ask n (allBelow m xs) rest ≡ n
-not-low n m xs i rest z e = ap (λ (b : Bool). ask n b rest) (not-below m xs i z e)
+not-low n m xs i rest z e = ap (λ (b : Bool). ask n b rest) (entry-no m xs i z e)
 
 pub limits : Limits
 limits =

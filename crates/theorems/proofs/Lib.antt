@@ -1,7 +1,6 @@
 pub mod Accept
 pub mod AcceptCall
 pub mod Agree
-pub mod Checks
 pub mod Collapse
 pub mod Demand3
 pub mod Exactly
@@ -11,4 +10,5 @@ pub mod NoiseTotals
 pub mod ShareCount
 pub mod Sound
 pub mod Steps
+pub mod Witness
 pub mod Coins

@@ -3,7 +3,6 @@ use mathlib.Core.Path.{_≡_, refl, sym, ap, _∙_}
 use mathlib.Core.Bool.{Bool, true, false}
 use mathlib.Core.List.{List}
 use Prim.Native.Nat.{ℕ, _+_, _-_, _*_, _/_, _%_, _≤_, _<_}
-use native.Mathlib.Nat.{zero-add}
 use native.Mathlib.Omega.{arith}
 use borrow.Author.Tests.{lt-ltb, le-ltb}
 use lib.Dec.{ltb}
@@ -14,6 +13,7 @@ use Rattle.hash.specs.declared.params.Selected.{Selected}
 use Rattle.ring.specs.Words.{q, Words}
 use Rattle.sharing.specs.Blocks.{block, sumN}
 use Rattle.sharing.specs.Noise.{sampleU, noiseHeader}
+use Rattle.sharing.proofs.Built.{sumN-one}
 use Rattle.sharing.proofs.Decode.{sumN-ext, reps-at}
 use Rattle.sharing.proofs.Lists.{block-at}
 use Rattle.signature.specs.Masked.{Noise, seeded, explicit}
@@ -35,11 +35,6 @@ total-is d r f i w x hx =
     sumN-ext d (λ (j : ℕ). getD (block 512 j (f i t)) x 0) (λ (j : ℕ). getD (f i t) (j * 512 + x) 0)
     (λ (j : ℕ) (hj : j < d). block-at 512 j (f i t) x hx)))
 
--- one repetition
-sum-one : (f : ℕ → ℕ) → sumN 1 f ≡ f 0
-unfolding sumN
-sum-one f = zero-add (f 0)
-
 module _ (u : UnitCall) (p : Params) (is : recordOf u ≡ Selected.Found p) (h : Fits p u) (a : ℕ) (x : ℕ) (hx : x < 512) where
   abbrev m : ℕ
   m = p .l + p .k
@@ -53,7 +48,7 @@ module _ (u : UnitCall) (p : Params) (is : recordOf u ≡ Selected.Found p) (h :
     lent-total w e =
         total-is (p .shares) 1 f k w x hx
         ∙ ap (λ (n : ℕ). n % q)
-        (sum-one (λ (t : ℕ). sumN (p .shares) (λ (j : ℕ). getD (f k t) (j * 512 + x) 0))
+        (sumN-one (λ (t : ℕ). sumN (p .shares) (λ (j : ℕ). getD (f k t) (j * 512 + x) 0))
         ∙ sumN-ext (p .shares) (λ (j : ℕ). getD (f k 0) (j * 512 + x) 0) (λ (j : ℕ). getD (u .noise) (((a * m + i) * p .shares + j) * 512 + x) 0) e)
         ∙ ap (λ (d : ℕ). sumN d (λ (j : ℕ). getD (u .noise) (((a * m + i) * d + j) * 512 + x) 0) % q) (shares-are u p is h)
 

@@ -7,13 +7,14 @@ use lib.Dec.{eqb}
 use lib.ListN.{length}
 use Rattle.hash.specs.declared.params.Params.{Params}
 use Rattle.hash.specs.declared.params.Selected.{Selected}
+use Rattle.hash.proofs.Sets.{found-set}
 use Rattle.ring.specs.Words.{q}
+use Rattle.ring.proofs.Checks.{both-true}
 use Rattle.ring.proofs.Sums.{all-below}
 use Rattle.signature.specs.Checks.{publicKeySized}
 use Rattle.signature.specs.SignCalls.{signNo, signGo, signFor, signOf}
+use Rattle.signature.proofs.SignChecks.{AllPassed, all-passed}
 use Rattle.theorems.specs.Unit.{UnitCall, keyOf, coinsOf, signUnit, recordOf, Fits, Sound}
-use Rattle.theorems.proofs.Checks.{both-true, AllPassed, all-passed}
-use Rattle.theorems.proofs.ShareCount.{found-set}
 use Rattle.theorems.proofs.AcceptCall.{found-with}
 
 module _ (u : UnitCall) (h : signUnit u .status ≡ 0) where
@@ -42,4 +43,4 @@ module _ (u : UnitCall) (h : signUnit u .status ≡ 0) where
   unfolding signUnit
   signed-sound =
       let f = found-with (u .edition) (u .set) (u .shares) (keyOf u) (u .attempts) (u .message) (coinsOf u) (u .result) (u .work) h in
-      record { count = found-set (u .set) (u .shares) (u .edition) (f .0) (f .1) .six; fits = fitting }
+      record { count = found-set (u .set) (u .shares) (u .edition) (f .0) (f .1) .count; fits = fitting }

@@ -1,3 +1,4 @@
 pub mod Instances
 pub mod Plain
 pub mod Unit
+pub mod Witness

@@ -6,7 +6,7 @@ use Prim.Native.Nat.{ℕ, _+_, _-_, _*_, _/_, _%_, _<_}
 use lib.Dec.{ltb}
 use lib.ListN.{getD}
 use Rattle.hash.specs.Lists.{pick}
-use Rattle.hash.specs.Params.{orderIndex, lookupOf}
+use Rattle.hash.specs.Params.{ShareCount, lookupOf}
 use Rattle.hash.specs.declared.params.Edition.{Edition}
 use Rattle.hash.specs.declared.params.Params.{Params}
 use Rattle.hash.specs.declared.params.Selected.{Selected}
@@ -90,9 +90,9 @@ pub record Fits (p : Params) (u : UnitCall) : Type 0 where
   pub coins : coinsGood p (u .attempts) (coinsOf u) ≡ true
   pub buffers : signBuffersSized p (u .result) (u .work) ≡ true
 
--- the share count is one of the six; of an unknown set nothing more is asked
+-- the share count is 1, 2, 4, 8, 16 or 32; of an unknown set nothing more is asked
 pub record Sound (u : UnitCall) : Type 0 where
-  pub count : orderIndex (u .shares) < 6
+  pub count : ShareCount (u .shares)
   pub fits : (p : Params) → recordOf u ≡ Selected.Found p → Fits p u
 
 -- alike in set, public key, message and allowed attempts, and in the edition

@@ -1,5 +1,6 @@
 //! The documents name what is there: each file, each must-fail edit and each name in backquotes of docs/TRACE.md stands in the sources,
-//! the theorems that docs/STATEMENT.md quotes are the theorems' own text, and links lead somewhere.
+//! docs/MUST_FAIL.md lists each must-fail edit, the theorems that docs/STATEMENT.md quotes are the theorems' own text, and links lead
+//! somewhere.
 
 use std::collections::BTreeSet;
 use std::fs;
@@ -101,6 +102,26 @@ fn functions_and_axioms() {
     }
 }
 
+/// docs/MUST_FAIL.md has a row for each must-fail edit, and no other.
+#[test]
+fn must_fail_edits_are_listed() {
+    let mut sources = Vec::new();
+    files("crates", &mut sources);
+    let edits: BTreeSet<String> = sources
+        .iter()
+        .filter_map(|path| path.strip_prefix("crates/")?.strip_suffix(".edit")?.split_once("/must-fail/"))
+        .map(|(name, edit)| format!("{name} {edit}"))
+        .collect();
+    let list = text("docs/MUST_FAIL.md");
+    let rows: Vec<String> = list
+        .lines()
+        .filter_map(|line| line.strip_prefix("| ")?.split_once(" | `"))
+        .map(|(name, rest)| format!("{name} {}", rest.split('`').next().unwrap()))
+        .collect();
+    assert_eq!(rows.len(), edits.len());
+    assert_eq!(rows.into_iter().collect::<BTreeSet<_>>(), edits);
+}
+
 /// The heading that a link names behind `#`: in small letters, with hyphens for spaces.
 fn has_heading(text: &str, anchor: &str) -> bool {
     let name = |line: &str| line.trim_start_matches('#').trim().to_lowercase().replace(' ', "-");
@@ -110,9 +131,16 @@ fn has_heading(text: &str, anchor: &str) -> bool {
 #[test]
 fn links_lead_somewhere() {
     let mut links = 0;
-    for document in
-        ["README.md", "docs/DECISIONS.md", "docs/GUIDE.md", "docs/PERFORMANCE.md", "docs/STATEMENT.md", "docs/TRACE.md"]
-    {
+    for document in [
+        "README.md",
+        "docs/CHANGES.md",
+        "docs/DECISIONS.md",
+        "docs/GUIDE.md",
+        "docs/MUST_FAIL.md",
+        "docs/PERFORMANCE.md",
+        "docs/STATEMENT.md",
+        "docs/TRACE.md",
+    ] {
         let text = text(document);
         for link in text.split("](").skip(1).filter_map(|rest| rest.split(')').next()) {
             links += 1;

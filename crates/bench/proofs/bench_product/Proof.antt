@@ -1,6 +1,5 @@
 use mathlib.Core.Path.{_≡_, sym, _∙_}
 use mathlib.Core.Bool.{true, false}
-use lib.ListN.{length}
 use borrow.Author.Needs.{needs}
 use borrow.Author.Tests.{not-true, not-false}
 use Rattle.ring.specs.Words.{q, allBelow, Words}
@@ -23,20 +22,6 @@ returns-2 c =
     let h : allBelow q (a .g .now) ≡ false = sym (c .before .all-below2 .ensures) ∙ not-true _ (c .if2 .taken) in
     (rw (e, h), search needs)
 
-ntt-requires : tie.Need-ntt-requires
-ntt-requires c κs =
-    let b = c .before .before .before .before in
-    let a = b .before .before .before .before .args in
-    let e : allBelow q (a .f .now) ≡ true = sym (b .before .all-below .ensures) ∙ not-false _ (b .if1 .left) in
-    record { long = search needs; low = all-below q (a .f .now) e }
-
-ntt-requires-2 : tie.Need-ntt-requires-2
-ntt-requires-2 c κs =
-    let b = c .before .before .before in
-    let a = b .before .before .before .before .before .before .before .args in
-    let h : allBelow q (a .g .now) ≡ true = sym (b .before .all-below2 .ensures) ∙ not-false _ (b .if2 .left) in
-    record { long = search needs; low = all-below q (a .g .now) h }
-
 returns-3 : tie.Need-returns-3
 returns-3 c =
     let n = c .before .before in
@@ -55,5 +40,5 @@ returns-3 c =
 pub bench-product-spec : {M : Type 1} → statement M
 bench-product-spec =
     tie.close
-    (tie.spec (λ c κs. search needs) returns (λ c κs. search needs) returns-2 ntt-requires ntt-requires-2 (λ c κs. search needs)
+    (tie.spec (λ c κs. search needs) returns (λ c κs. search needs) returns-2 (λ c κs. search needs) (λ c κs. search needs) (λ c κs. search needs)
     (λ c κs. search needs) returns-3)

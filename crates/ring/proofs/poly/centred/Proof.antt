@@ -1,4 +1,4 @@
-use Prim.Native.Nat.{_-_}
+use Prim.Native.Nat.{_-_, _/_}
 use native.Mathlib.Omega.{arith}
 use mir.Syntax.{w64}
 use mir.Facts.{toZ-pos}
@@ -14,11 +14,11 @@ sub-result-2 c = minus-fits (c .before .args .m - c .before .args .x) (omega ari
 
 returns : tie.Need-returns
 unfolding centred
-returns c = simp (le-leb _ _ (c .if1 .taken)) (toZ-pos w64 (omega arith))
+returns c = simp (le-leb (c .before .args .x) (c .before .args .m / 2) (omega arith)) (toZ-pos w64 (omega arith))
 
 returns-2 : tie.Need-returns-2
 unfolding centred
-returns-2 c = simp (lt-leb _ _ (c .if1 .left)) (minus-value (c .before .args .m - c .before .args .x) (omega arith))
+returns-2 c = simp (lt-leb (c .before .args .x) (c .before .args .m / 2) (omega arith)) (minus-value (c .before .args .m - c .before .args .x) (omega arith))
 
 pub centred-spec : {M : Type 1} → statement M
 centred-spec =

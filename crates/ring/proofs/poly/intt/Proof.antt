@@ -1,17 +1,20 @@
-use mathlib.Core.Path.{_∙_}
+use mathlib.Core.Path.{_≡_, ap, _∙_}
 use borrow.Author.Needs.{needs}
+use Rattle.ring.specs.Words.{Words}
 use Rattle.ring.specs.Residue.{crtOf}
-use Rattle.ring.specs.Transform.{intt}
+use Rattle.ring.specs.Transform.{ntt, intt}
 use Rattle.ring.proofs.Places.{maps}
+use Rattle.ring.proofs.Theorems.{ntt-intt}
 use Rattle.ring.proofs.poly.intt.Statement.{statement}
 use Rattle.ring.proofs.poly.intt.Tie as tie
 
 returns : tie.Need-returns
 unfolding intt
-returns c = (
-  c .before .combined .ensures .0 ∙ maps crtOf (c .before .before .before .before .before .before .before .before .backward .ensures .0) (c .before .before .before .before .before .backward2 .ensures .0),
-  c .before .combined .ensures .1,
-)
+returns c =
+    let x = c .before .before .before .before .before .before .before .before .before .before .args .x in
+    let e : _ ≡ intt x =
+    c .before .combined .ensures .0 ∙ maps crtOf (c .before .before .before .before .before .before .before .before .backward .ensures .0) (c .before .before .before .before .before .backward2 .ensures .0) in
+    (e, c .before .combined .ensures .1, λ (h : Words 512 x). ap ntt e ∙ ntt-intt x h)
 
 pub intt-spec : {M : Type 1} → statement M
 intt-spec =

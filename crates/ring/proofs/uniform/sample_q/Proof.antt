@@ -1,11 +1,12 @@
 use Prim.Native.Nat.{min, _*_, _≤_, _<_, _-_}
-use mathlib.Core.Path.{_≡_, refl, ap, _∙_}
+use mathlib.Core.Path.{_≡_, refl, sym, ap, _∙_}
 use mathlib.Core.List.{[]}
 use native.Mathlib.Omega.{arith}
 use lib.ListN.{length}
 use Rattle.hash.specs.Lists.{table}
 use Rattle.hash.specs.Shake.{after, stream}
 use Rattle.hash.proofs.Table.{length-table}
+use Rattle.hash.proofs.Output.{after-none}
 use Rattle.ring.specs.Uniform.{Gathered}
 use Rattle.ring.proofs.Draws.{gathered-none, gathered-room, refill-next, refilled, held-some, held-none}
 use borrow.Author.Needs.{needs}
@@ -20,8 +21,7 @@ abbrev μ-loop : tie.MeasureT-loop
 μ-loop header seed s₀ bytes₀ a₀ k₀ i₀ s bytes a k i = 6 - i
 
 loop-holds : tie.Need-loop-holds Inv-loop μ-loop
-unfolding after
-loop-holds c = (omega arith, refl, refl, omega arith, gathered-none _ _ refl)
+loop-holds c = (omega arith, refl, sym (after-none _), omega arith, gathered-none _ _ refl)
 
 returns : tie.Need-returns Inv-loop μ-loop
 returns c =

@@ -55,7 +55,7 @@ zero-encoding-zero-encoding-requires : (t : ℕ) → zero-encoding-lts.Need-zero
 zero-encoding-zero-encoding-requires t c κs =
     let a = c .before .before .before in
     let h = half (a .args .d) (a .pre .1 .1) (c .before .if1 .left) in
-    (omega (arith, h .less, a .pre .0), (len-left (a .args .d) h (a .args .s .now) (a .pre .1 .0), h .power))
+    (omega (arith, h .less, a .pre .0), (len-left (a .args .d) h (a .args .s .now) (a .pre .1 .0), h .count))
 
 zero-encoding-zero-encoding-requires-2 : (t : ℕ) → zero-encoding-lts.Need-zero-encoding-requires-2 (calls t) (zero-encoding-at t)
     zero-encoding.Post
@@ -66,7 +66,7 @@ zero-encoding-zero-encoding-requires-2 t c κs =
     let l = c .before .before .before .zero-encoding in
     let h = half d (a .pre .1 .1) (c .before .before .before .before .before .if1 .left) in
     let n = l .kept .0 ∙ len-left d h s (a .pre .1 .0) in
-    (omega (arith, h .less, a .pre .0), (len-right d h s (a .pre .1 .0) (l .last .0) n, h .power))
+    (omega (arith, h .less, a .pre .0), (len-right d h s (a .pre .1 .0) (l .last .0) n, h .count))
 
 -- a half that was made
 module _ (n : ℕ) (e : n ≡ 2 ^ orderIndex n) where

@@ -6,7 +6,7 @@ use Rattle.sharing.specs.Encoding.{later}
 use Rattle.sharing.specs.Masks.{masks, maskWords, maskMoved}
 use Rattle.sharing.proofs.Totals.{later-none, later-more}
 use Rattle.sharing.proofs.Carry.{mask-low}
-use Rattle.sharing.proofs.Pairs.{masked, masked-start, masked-words, masked-mid, masked-turn}
+use Rattle.sharing.proofs.Pairs.{masked, masked-start, pairs-words, masked-mid, masked-turn}
 use borrow.Author.Needs.{needs}
 use Rattle.sharing.proofs.encoding.mask_pairs.Statement.{statement}
 use Rattle.sharing.proofs.encoding.mask_pairs.Tie as tie
@@ -31,7 +31,7 @@ add-at-requires c κs =
     let l = c .before .before .before .before .before .before in
     let a = c .before .before .before .before .before .before .before .before in
     let e = l .loop .inv .2 in
-    let w = masked-words masks mask-low (a .args .s .now) (a .args .h) (a .args .g) (a .pre) (l .loop .j) in
+    let w = pairs-words masks mask-low (a .args .s .now) (a .args .h) (a .args .g) (a .pre) (l .loop .j) in
     let n = ap length e ∙ w .long in
     let p : c .before .before .before .fill .last .0 ≡ maskWords 512 (l .loop .x) = c .before .before .before .fill .ensures .0
     ∙ ap (λ k. maskWords k (l .loop .x)) (l .loop .inv .1) in
@@ -78,7 +78,7 @@ same-length : tie.Need-same-length Inv-loop μ-loop
 same-length c =
     let l = c .before in
     let a = c .before .before .before in
-    ap length (l .loop .inv .2) ∙ masked-words masks mask-low (a .args .s .now) (a .args .h) (a .args .g) (a .pre) (l .loop .j) .long
+    ap length (l .loop .inv .2) ∙ pairs-words masks mask-low (a .args .s .now) (a .args .h) (a .args .g) (a .pre) (l .loop .j) .long
     ∙ sym (a .pre .long)
 
 returns : tie.Need-returns Inv-loop μ-loop

@@ -1,12 +1,13 @@
-use mathlib.Core.Path.{refl}
-use Rattle.hash.specs.Lists.{table}
+use mathlib.Core.Path.{sym}
+use Rattle.hash.proofs.Flat.{flat-is}
 use borrow.Author.Needs.{needs}
 use Rattle.sharing.proofs.masks.hold.Statement.{statement}
 use Rattle.sharing.proofs.masks.hold.Tie as tie
 
 returns : tie.Need-returns
-unfolding table
-returns c = refl
+returns c =
+    let a = c .before .before .before .before .before .args in
+    λ i. record { lanes = sym (flat-is (a .t1)) i; at = a .at }
 
 pub hold-spec : {M : Type 1} → statement M
 hold-spec =

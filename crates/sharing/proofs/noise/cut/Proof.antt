@@ -4,8 +4,9 @@ use native.Mathlib.Omega.{arith}
 use lib.ListN.{length, take, length-set}
 use lib.Seq.{take-all}
 use Rattle.hash.specs.Lists.{table}
+use Rattle.hash.proofs.Table.{table-none}
 use Rattle.sharing.specs.Noise.{sampleAt}
-use Rattle.sharing.proofs.Small.{inside, sample-more}
+use Rattle.sharing.proofs.Small.{number-inside, sample-more}
 use borrow.Author.Needs.{needs}
 use Rattle.sharing.proofs.noise.cut.Statement.{statement}
 use Rattle.sharing.proofs.noise.cut.Tie as tie
@@ -17,21 +18,20 @@ abbrev μ-loop : tie.MeasureT-loop
 μ-loop b u w p₀ i₀ p i = 512 - i
 
 loop-holds : tie.Need-loop-holds Inv-loop μ-loop
-unfolding table
-loop-holds c = (search needs, refl, refl)
+loop-holds c = (search needs, refl, sym (table-none _))
 
 mul-load : tie.Need-mul-load Inv-loop μ-loop
 mul-load c =
     let b = c .before .before .before in
     let r = b .pre in
-    let i = inside (b .args .w) (c .before .loop .i) (b .args .w * 512) (c .loop-test .taken) (omega arith) in
+    let i = number-inside (b .args .w) (c .before .loop .i) (b .args .w * 512) (c .loop-test .taken) (omega arith) in
     omega (arith, r .1, r .2, i)
 
 load-requires : tie.Need-load-requires Inv-loop μ-loop
 load-requires c κs =
     let b = c .before .before .before in
     let r = b .pre in
-    (omega (arith, r .1, r .2), inside (b .args .w) (c .before .loop .i) (length (b .args .b .now)) (c .loop-test .taken) (r .3))
+    (omega (arith, r .1, r .2), number-inside (b .args .w) (c .before .loop .i) (length (b .args .b .now)) (c .loop-test .taken) (r .3))
 
 loop-again : tie.Need-loop-again Inv-loop μ-loop
 unfolding sampleAt

@@ -4,7 +4,7 @@ use native.Mathlib.Omega.{arith}
 use lib.ListN.{replicate}
 use Rattle.sharing.specs.Noise.{width, sampleU}
 use Rattle.sharing.proofs.Samples.{sampleU-words}
-use Rattle.sharing.proofs.Small.{front-in, front-is}
+use Rattle.sharing.proofs.Small.{stream-in, stream-is}
 use borrow.Author.Needs.{needs}
 use Rattle.sharing.proofs.noise.sample_u.Statement.{statement}
 use Rattle.sharing.proofs.noise.sample_u.Tie as tie
@@ -13,7 +13,7 @@ part-samples-end : tie.Need-part-samples-end
 part-samples-end c =
     let w = c .before .before in
     let n = width (w .before .before .before .before .args .u) * 512 in
-    front-in (replicate 3072 0) (w .squeeze .last .1 .0) n (w .before .before .begin .result) (omega arith) (w .squeeze .ensures .0)
+    stream-in (replicate 3072 0) (w .squeeze .last .1 .0) n (w .before .before .begin .result) (omega arith) (w .squeeze .ensures .0)
 
 returns : tie.Need-returns
 unfolding sampleU
@@ -24,7 +24,7 @@ returns c =
     let u = b .args .u in
     let n = width u * 512 in
     let h : n ≤ 3072 = omega arith in
-    let f = front-is (replicate 3072 0) (w .squeeze .last .1 .0) n (S .result) h (w .squeeze .ensures .0) in
+    let f = stream-is (replicate 3072 0) (w .squeeze .last .1 .0) n (S .result) h (w .squeeze .ensures .0) in
     let e : c .samples .result ≡ sampleU (b .args .header .now) (b .args .seed .now) u = c .samples .ensures ∙ rw (f, S .ensures) in
     (e, rw e (sampleU-words (b .args .header .now) (b .args .seed .now) u (omega arith)))
 

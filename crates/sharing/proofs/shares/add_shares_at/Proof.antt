@@ -12,10 +12,10 @@ use Rattle.sharing.proofs.shares.add_shares_at.Tie as tie
 add-into-requires : tie.Need-add-into-requires
 add-into-requires c κs =
     let a = c .before .before .before .before in
-    let k : a .args .at + a .args .d * 512 - a .args .at ≡ a .args .d * 512 = omega arith in
-    let k2 : a .args .from + a .args .d * 512 - a .args .from ≡ a .args .d * 512 = omega arith in
-    let ws = sub-words (a .args .s .now) (a .args .at) (a .args .d * 512) (a .pre .0) (a .pre .2) in
-    let wn = sub-words (a .args .noise .now) (a .args .from) (a .args .d * 512) (a .pre .1) (a .pre .3) in
+    let k : a .args .at + a .args .p .shares * 512 - a .args .at ≡ a .args .p .shares * 512 = omega arith in
+    let k2 : a .args .from + a .args .p .shares * 512 - a .args .from ≡ a .args .p .shares * 512 = omega arith in
+    let ws = sub-words (a .args .s .now) (a .args .at) (a .args .p .shares * 512) (a .pre .0) (a .pre .2) in
+    let wn = sub-words (a .args .words .now) (a .args .from) (a .args .p .shares * 512) (a .pre .1) (a .pre .3) in
     rw (k, k2) (ws .long ∙ sym (wn .long), ws .low, wn .low)
 
 returns : tie.Need-returns
@@ -23,8 +23,8 @@ returns c =
     let a = c .before .before .before .before .before .before .before in
     let s = a .args .s .now in
     let at = a .args .at in
-    let m = a .args .d * 512 in
-    let y = sub (a .args .noise .now) (a .args .from) m in
+    let m = a .args .p .shares * 512 in
+    let y = sub (a .args .words .now) (a .args .from) m in
     let k : at + m - at ≡ m = omega arith in
     let k2 : a .args .from + m - a .args .from ≡ m = omega arith in
     let w = words-add (sub s at m) y (sub-words s at m (a .pre .0) (a .pre .2)) in

@@ -35,7 +35,7 @@ loop-again c =
     let a = c .before .before .before .before .before .before .before .before .before in
     let s = a .args .s .now in
     let at = a .args .at in
-    let d = a .args .d in
+    let d = a .args .p .shares in
     let acc = l .loop .acc in
     let e = c .before .add-into .ensures .0 in
     let x = c .before .before .before .before .load .ensures .0 ∙ sym (block-sub 512 d (l .loop .j) s at (omega arith)) in (
@@ -50,8 +50,8 @@ unfolding total
 returns c =
     let l = c .before in
     let a = c .before .before .before .before in
-    let e : l .loop .j ≡ a .args .d = omega arith in
-    (l .loop .inv .1 ∙ ap (λ n. sumOf 512 n (λ i. block 512 i (sub (a .args .s .now) (a .args .at) (a .args .d * 512)))) e, l .loop .inv .2)
+    let e : l .loop .j ≡ a .args .p .shares = omega arith in
+    (l .loop .inv .1 ∙ ap (λ n. sumOf 512 n (λ i. block 512 i (sub (a .args .s .now) (a .args .at) (a .args .p .shares * 512)))) e, l .loop .inv .2)
 
 pub sum-shares-spec : {M : Type 1} → statement M
 sum-shares-spec =

@@ -3,7 +3,8 @@ use mathlib.Core.List.{_++_}
 use Prim.Native.Nat.{ℕ, _*_}
 use native.Mathlib.Omega.{arith}
 use lib.ListN.{length}
-use borrow.Author.Tests.{not-true}
+use borrow.Author.Tests.{not-true, not-false}
+use Rattle.hash.proofs.Rows.{count-power}
 use Rattle.hash.specs.Shake.{shake256}
 use Rattle.ring.specs.Round.{roundW}
 use Rattle.sharing.specs.Region.{sub}
@@ -33,7 +34,7 @@ respond-requires c κs =
     let r = room (b .p) h (length (b .work .now)) (a .pre .1) .2 in
     let u = c .before .before .before .before .before .before .before .before .before .challenge-at .ensures .0 in
     let n = u .long in
-    (h .power, (omega (arith, r, n), u .low, c .before .from-signed .ensures .1))
+    (h .count, omega (arith, r, n), u .low, c .before .from-signed .ensures .1)
 
 returns-2 : tie.Need-returns-2
 returns-2 c =
@@ -44,7 +45,7 @@ returns-2 c =
     let W = sub (b .work .now) (atT (p .l) (p .shares)) (p .k * 512) in
     let e = z .1 ∙ ap (λ (n : ℕ). shake256 (headed 104 (p .k) ++ ordered (p .edition) (roundW W) (b .mu .now)) n) (a .pre .3) in
     let v = c .before .before .respond .ensures in
-    ((v .long ∙ z .0 .long, v .low), λ N h A s u. answer-made p N h (b .g) A (b .mu .now) s (b .work .now) _ _ _ u (z .0) e (z .2) (a .pre .0 .power) _ _ (c .before .before .before .before .from-signed .ensures .0) v)
+    ((v .long ∙ z .0 .long, v .low), λ N h A s u. answer-made p N h (b .g) A (b .mu .now) s (b .work .now) _ _ _ u (z .0) e (z .2) (count-power (p .shares) (a .pre .0 .count)) _ _ (not-false _ (c .before .before .before .before .before .before .if1 .left)) (c .before .before .before .before .from-signed .ensures .0) v)
 
 pub answer-spec : {M : Type 1} → statement M
 answer-spec =

@@ -8,7 +8,7 @@ use Rattle.ring.specs.Words.{Below}
 use Rattle.sharing.specs.Region.{sub}
 use Rattle.sharing.proofs.Regions.{length-sub}
 use Rattle.signature.specs.Challenge.{headed, ordered}
-use Rattle.signature.proofs.Rounded.{rounded-residues}
+use Rattle.ring.proofs.Mapped.{rounded-residues}
 use borrow.Author.Needs.{needs}
 use Rattle.signature.proofs.attempt.challenge_at.Statement.{statement}
 use Rattle.signature.proofs.attempt.challenge_at.Tie as tie

@@ -2,7 +2,7 @@ use Prim.Native.Nat.{_+_, _*_, _-_, _≤_, _<_}
 use mathlib.Core.Path.{_≡_, refl, _∙_}
 use native.Mathlib.Omega.{arith}
 use lib.ListN.{length, getD}
-use Rattle.signature.proofs.Packer.{Packed, start, room, last-place, keep, store, finish, top-fits}
+use Rattle.signature.proofs.Packer.{Packed, pack-start, word-room, last-place, keep, store, finish, top-fits}
 use borrow.Author.Needs.{needs}
 use Rattle.signature.proofs.bits.pack.Statement.{statement}
 use Rattle.signature.proofs.bits.pack.Tie as tie
@@ -15,7 +15,7 @@ abbrev μ-loop : tie.MeasureT-loop
 μ-loop words w out₀ acc₀ have₀ j₀ i₀ out acc have j i = length words - i
 
 loop-holds : tie.Need-loop-holds Inv-loop μ-loop
-loop-holds c = let a = c .before .before .args in (omega arith, refl, omega arith, start (a .w) (a .words .now) (a .out .now))
+loop-holds c = let a = c .before .before .args in (omega arith, refl, omega arith, pack-start (a .w) (a .words .now) (a .out .now))
 
 add-acc : tie.Need-add-acc Inv-loop μ-loop
 add-acc c =
@@ -43,7 +43,7 @@ put-word-requires c κs =
     let l = c .before .before .before .before .before .before .loop in
     let s = c .before .before .before .before .before .before .before .before .before in
     let a = s .args in
-    let e = room (a .w) (a .words .now) (a .out .now) (l .out) (l .i) (l .j) (l .acc) (l .have) (l .inv .3) (length (a .out .now)) (c .before .before .before .before .before .loop-test .taken) (s .pre .0) (omega (arith, c .before .before .if1 .left)) in
+    let e = word-room (a .w) (a .words .now) (a .out .now) (l .out) (l .i) (l .j) (l .acc) (l .have) (l .inv .3) (length (a .out .now)) (c .before .before .before .before .before .loop-test .taken) (s .pre .0) (omega (arith, c .before .before .if1 .left)) in
     omega (arith, e, l .inv .1)
 
 add-j : tie.Need-add-j Inv-loop μ-loop
@@ -51,7 +51,7 @@ add-j c =
     let l = c .before .before .before .before .before .before .before .before .before .loop in
     let s = c .before .before .before .before .before .before .before .before .before .before .before .before in
     let a = s .args in
-    let e = room (a .w) (a .words .now) (a .out .now) (l .out) (l .i) (l .j) (l .acc) (l .have) (l .inv .3) (length (a .out .now)) (c .before .before .before .before .before .before .before .before .loop-test .taken) (s .pre .0) (omega (arith, c .before .before .before .before .before .if1 .left)) in
+    let e = word-room (a .w) (a .words .now) (a .out .now) (l .out) (l .i) (l .j) (l .acc) (l .have) (l .inv .3) (length (a .out .now)) (c .before .before .before .before .before .before .before .before .loop-test .taken) (s .pre .0) (omega (arith, c .before .before .before .before .before .if1 .left)) in
     omega (arith, e, s .pre .1 .0)
 
 loop-again-2 : tie.Need-loop-again-2 Inv-loop μ-loop
@@ -61,7 +61,7 @@ loop-again-2 c =
     let a = s .args in
     let k : 64 ≤ l .have + a .w = omega (arith, c .before .before .before .before .before .if1 .left) in
     let h = c .before .before .before .before .before .before .before .before .loop-test .taken in
-    let e = room (a .w) (a .words .now) (a .out .now) (l .out) (l .i) (l .j) (l .acc) (l .have) (l .inv .3) (length (a .out .now)) h (s .pre .0) k in (
+    let e = word-room (a .w) (a .words .now) (a .out .now) (l .out) (l .i) (l .j) (l .acc) (l .have) (l .inv .3) (length (a .out .now)) h (s .pre .0) k in (
       omega (arith, h),
       c .before .before .put-word .kept .0 ∙ l .inv .1,
       omega (arith, s .pre .1 .1),

@@ -7,7 +7,7 @@ use Rattle.hash.specs.Lists.{table}
 use Rattle.hash.proofs.Table.{filled-none}
 use mathlib.Core.Bool.{Bool}
 use Rattle.signature.specs.Challenge.{blockOf}
-use Rattle.signature.proofs.ChalBytes.{fill-more, fill-all}
+use Rattle.signature.proofs.ChalBytes.{byte-more, byte-all}
 use borrow.Author.Needs.{needs}
 use Rattle.signature.proofs.challenge.block_of.Statement.{statement}
 use Rattle.signature.proofs.challenge.block_of.Tie as tie
@@ -28,13 +28,13 @@ loop-holds : tie.Need-loop-holds Inv-loop μ-loop
 loop-holds c = (omega arith, refl, filled-none _ _)
 
 loop-again : tie.Need-loop-again Inv-loop μ-loop
-loop-again c = (omega arith, refl, fill-more _ _ _ _ _ (c .before .before .loop .inv .2) (omega arith) (c .byte-or-zero .ensures))
+loop-again c = (omega arith, refl, byte-more _ _ _ _ _ (c .before .before .loop .inv .2) (omega arith) (c .byte-or-zero .ensures))
 
 returns-2 : tie.Need-returns-2 Inv-loop μ-loop
 returns-2 c =
     let t = c .before .before in
     let a = t .before .before .args in
-    fill-all _ _ _ _ 136 (c .before .loop .inv .2) (omega arith) refl
+    byte-all _ _ _ _ 136 (c .before .loop .inv .2) (omega arith) refl
     ∙ ap (λ (b : Bool). blockOf b (a .s) (a .lent .now) (a .i)) (sym (t .if1 .left))
 
 pub block-of-spec : {M : Type 1} → statement M

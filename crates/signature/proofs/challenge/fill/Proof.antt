@@ -4,7 +4,7 @@ use mathlib.Core.Logic.{_⊎_, inl, inr, ⊎-elim}
 use native.Mathlib.Omega.{arith}
 use lib.ListN.{length, length-set}
 use Rattle.signature.specs.Challenge.{onesOf, draws, bytesOf, nextOf}
-use Rattle.signature.proofs.ChalRun.{Held, Carried, start, carried-none, carried-drop, carried-put, through, stored-sign, full, gone}
+use Rattle.signature.proofs.ChalRun.{Held, Carried, run-start, carried-none, carried-drop, carried-put, through, stored-sign, full, gone}
 use Rattle.signature.proofs.ChalBytes.{stateOf, state-first, state-next, draws-are, draws-low}
 use borrow.Author.Needs.{needs}
 use Rattle.signature.proofs.challenge.fill.Statement.{statement}
@@ -55,7 +55,7 @@ blocks2-holds c =
       omega arith,
       omega (arith, c .draws-of .ensures, draws-low (a .streamed) (length (a .lent .now))),
       state-first (a .streamed) (a .a),
-      start _ _ _ _ (omega arith),
+      run-start _ _ _ _ (omega arith),
     )
 
 loop-holds : tie.Need-loop-holds Inv-loop μ-loop Inv-blocks2 μ-blocks2

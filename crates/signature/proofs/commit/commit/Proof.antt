@@ -1,12 +1,13 @@
-use mathlib.Core.Path.{ap, _∙_}
+use mathlib.Core.Path.{sym, ap, _∙_}
 use Prim.Native.Nat.{_+_, _-_, _*_, _/_}
 use native.Mathlib.Omega.{arith}
 use Rattle.sharing.specs.Masks.{maskStart}
-use Rattle.sharing.specs.Noise.{noiseBytes}
+use Rattle.sharing.proofs.Built.{part-block}
+use Rattle.sharing.proofs.NoisePlaces.{noise-bytes}
 use Rattle.signature.specs.Masked.{seeded, explicit}
 use Rattle.signature.proofs.Commits.{below-part}
 use Rattle.signature.proofs.Sizes.{coins-low}
-use Rattle.signature.proofs.Coins.{part-block, part-long, fits-mid, words-size, seeds-size, explicit-long, explicit-low, explicit-at, seeds-long, seeds-at, mask-at, committed-at}
+use Rattle.signature.proofs.Coins.{part-long, fits-mid, words-size, seeds-size, explicit-long, explicit-low, explicit-at, seeds-long, seeds-at, mask-at, begun-at, committed-at}
 use borrow.Author.Needs.{needs}
 use Rattle.signature.proofs.commit.commit.Statement.{statement}
 use Rattle.signature.proofs.commit.commit.Tie as tie
@@ -66,7 +67,7 @@ returns c =
     let z = c .before .before .commit-explicit .ensures in
     let N = ap (explicit p) (part-block n (b .a) (b .words .now)) ∙ explicit-at p (b .seeds .now) (b .words .now) (b .mask-seeds .now) (b .a) (b .explicit) (c .before .before .before .before .before .if1 .taken) in
     let g = c .before .before .before .before .before .before .before .before .start .ensures ∙ ap maskStart (part-block 32 (b .a) (b .mask-seeds .now)) ∙ mask-at p (b .seeds .now) (b .words .now) (b .mask-seeds .now) (b .a) (b .explicit) in
-    (z .0, λ A m. committed-at p A N g (z .1 A m))
+    ((z .0 .0, z .0 .1, z .0 .2, begun-at p N g (z .0 .3)), λ A m. committed-at p A N g (z .1 A m))
 
 mul-n-2 : tie.Need-mul-n-2
 mul-n-2 c =
@@ -80,14 +81,14 @@ mul-n-3 c =
     let s = seeds-size (a .args .p) (a .pre .0 .0) (a .args .a) (a .pre .1 .few) in
     fits-mid _ (omega (arith, s .0, s .1))
 
-mul-b-2 : tie.Need-mul-b-2
-mul-b-2 c =
+mul-from : tie.Need-mul-from
+mul-from c =
     let a = c .before .before .before .before .before .before .before .before .before .before .before .before in
     let s = seeds-size (a .args .p) (a .pre .0 .0) (a .args .a) (a .pre .1 .few) in
     fits-mid _ (omega (arith, s .0, s .1))
 
-add-e-2 : tie.Need-add-e-2
-add-e-2 c =
+add-end : tie.Need-add-end
+add-end c =
     let a = c .before .before .before .before .before .before .before .before .before .before .before .before in
     let s = seeds-size (a .args .p) (a .pre .0 .0) (a .args .a) (a .pre .1 .few) in
     fits-mid _ (omega (arith, s .0, s .1))
@@ -99,13 +100,12 @@ part-commit-seeds-end c =
     seeds-long (b .p) (b .seeds .now) (b .words .now) (b .mask-seeds .now) (b .a) (b .explicit) (c .before .before .before .if1 .left) (a .pre .1)
 
 commit-seeds-requires : tie.Need-commit-seeds-requires
-unfolding noiseBytes
 commit-seeds-requires c κs =
     let a = c .before .before .before .before .before .before .before .before .before .before .before .before .before .before in
     let b = a .args in
     let p = b .p in
     let h = a .pre .0 in
-    (h .0, h .1, h .2, part-long ((p .l + p .k) * p .shares * p .rep * (p .kappa / 8)) (b .a) (b .seeds .now) (seeds-long p (b .seeds .now) (b .words .now) (b .mask-seeds .now) (b .a) (b .explicit) (c .before .before .before .before .if1 .left) (a .pre .1)))
+    (h .0, h .1, h .2, part-long ((p .l + p .k) * p .shares * p .rep * (p .kappa / 8)) (b .a) (b .seeds .now) (seeds-long p (b .seeds .now) (b .words .now) (b .mask-seeds .now) (b .a) (b .explicit) (c .before .before .before .before .if1 .left) (a .pre .1)) ∙ sym (noise-bytes p))
 
 returns-2 : tie.Need-returns-2
 returns-2 c =
@@ -115,12 +115,12 @@ returns-2 c =
     let z = c .before .before .commit-seeds .ensures in
     let N = ap (seeded p (p .uw)) (part-block ((p .l + p .k) * p .shares * p .rep * (p .kappa / 8)) (b .a) (b .seeds .now)) ∙ seeds-at p (b .seeds .now) (b .words .now) (b .mask-seeds .now) (b .a) (b .explicit) (c .before .before .before .before .before .before .before .if1 .left) in
     let g = c .before .before .before .before .before .before .before .before .before .before .start .ensures ∙ ap maskStart (part-block 32 (b .a) (b .mask-seeds .now)) ∙ mask-at p (b .seeds .now) (b .words .now) (b .mask-seeds .now) (b .a) (b .explicit) in
-    (z .0, λ A m. committed-at p A N g (z .1 A m))
+    ((z .0 .0, z .0 .1, z .0 .2, begun-at p N g (z .0 .3)), λ A m. committed-at p A N g (z .1 A m))
 
 pub commit-spec : {M : Type 1} → statement M
 commit-spec =
     tie.close (tie.spec (λ c. search needs) (λ c. search needs) (λ c. search needs) (λ c. search needs)
     (λ c. search needs) (λ c κs. search needs) (λ c. search needs) mul-c mul-n mul-b add-e mul-commit-explicit
     (λ c. search needs) (λ c. search needs) part-commit-explicit-end commit-explicit-requires (λ c. search needs)
-    returns mul-n-2 mul-n-3 mul-b-2 add-e-2 (λ c. search needs) (λ c. search needs) part-commit-seeds-end
+    returns mul-n-2 mul-n-3 mul-from add-end (λ c. search needs) (λ c. search needs) part-commit-seeds-end
     commit-seeds-requires (λ c. search needs) returns-2)

@@ -2,9 +2,10 @@ use mathlib.Core.Path.{ap, _∙_}
 use Prim.Native.Nat.{_-_, _*_}
 use native.Mathlib.Omega.{arith}
 use lib.ListN.{length}
+use Rattle.hash.proofs.Rows.{count-power}
 use Rattle.sharing.specs.Noise.{explicitNoise}
 use Rattle.signature.specs.Masked.{explicit, maskedNoise}
-use Rattle.signature.proofs.Commits.{commit-made, skip-once, words-first, words-second, below-part}
+use Rattle.signature.proofs.Commits.{commit-begun, commit-made, skip-once, words-first, words-second, below-part}
 use Rattle.signature.proofs.Sizes.{part-all, room}
 use borrow.Author.Needs.{needs}
 use Rattle.signature.proofs.commit.commit_explicit.Statement.{statement}
@@ -17,7 +18,7 @@ noise-explicit-requires c κs =
     let p = b .p in
     let h = a .pre .0 in
     let r = room p h (length (b .work .now)) (a .pre .1) .1 in
-    (h .power, (omega arith, omega (arith, r), a .pre .2, words-first (p .l) (p .k) (p .shares) (b .words .now) (a .pre .3), a .pre .4))
+    ((h, words-first (p .l) (p .k) (p .shares) (b .words .now) (a .pre .3), a .pre .4), (omega arith, omega (arith, r), a .pre .2))
 
 image-explicit-requires : tie.Need-image-explicit-requires
 image-explicit-requires c κs =
@@ -28,7 +29,7 @@ image-explicit-requires c κs =
     let r = room p h (length (b .work .now)) (a .pre .1) .1 in
     let u = c .before .before .before .before .noise-explicit .ensures .0 in
     let n = u .long in
-    (h .power, ((omega arith, omega arith, omega arith, omega (arith, r, n), u .low, omega (arith, h .rows-low), omega (arith, h .columns-low)), (words-second (p .l) (p .k) (p .shares) (b .words .now) (a .pre .3), below-part (length (b .words .now) - p .l * (p .shares * 512)) (p .l * (p .shares * 512)) (b .words .now) (a .pre .4))))
+    ((h, words-second (p .l) (p .k) (p .shares) (b .words .now) (a .pre .3), below-part (length (b .words .now) - p .l * (p .shares * 512)) (p .l * (p .shares * 512)) (b .words .now) (a .pre .4)), (omega arith, omega arith, omega arith, omega (arith, r, n), u .low))
 
 returns : tie.Need-returns
 unfolding maskedNoise explicit
@@ -40,7 +41,9 @@ returns c =
     let z = c .before .before .image-explicit .ensures in
     let N = explicit p (b .words .now) in
     let f = ap (explicitNoise (p .shares)) (part-all (p .l * (p .shares * 512)) (b .words .now)) in
-    ((z .0 .0, z .0 .1 ∙ u .0 .long, z .0 .2), λ A m. commit-made p N (b .g) _ (a .pre .0 .power) (u .1) _ f (b .seed .now) A (b .work .now) _ _ _ m (u .0) (z .1 A m .0) (skip-once (p .shares) (p .k) _ _ (z .1 A m .1)))
+    let w = b .work .now in
+    let d = count-power (p .shares) (a .pre .0 .count) in
+    ((z .0 .0, z .0 .1 ∙ u .0 .long, z .0 .2, commit-begun p N (b .g) (b .g) w _ _ (u .0) (z .0 .3)), λ A m. commit-made p N (b .g) _ w _ _ (u .0) d (u .1) _ f (b .seed .now) A _ m (z .1 A m .0) (skip-once (p .shares) (p .k) _ _ (z .1 A m .1)))
 
 pub commit-explicit-spec : {M : Type 1} → statement M
 commit-explicit-spec =

@@ -4,7 +4,8 @@ use native.Mathlib.Omega.{arith}
 use lib.ListN.{length}
 use Rattle.sharing.specs.Noise.{seedNoise}
 use Rattle.signature.specs.Masked.{seeded, maskedNoise}
-use Rattle.signature.proofs.Commits.{commit-made}
+use Rattle.hash.proofs.Rows.{count-power}
+use Rattle.signature.proofs.Commits.{commit-begun, commit-made}
 use Rattle.signature.proofs.Sizes.{fits-low, part-all, first-low, room, coins-first, coins-second}
 use borrow.Author.Needs.{needs}
 use Rattle.signature.proofs.commit.commit_seeds.Statement.{statement}
@@ -36,7 +37,7 @@ noise-seeds-requires c κs =
     let p = b .p in
     let h = a .pre .0 in
     let r = room p h (length (b .work .now)) (a .pre .1) .1 in
-    (h .power, ((omega arith, omega (arith, r), a .pre .2, coins-first p h (length (b .coins .now)) (a .pre .3)), (omega (arith, h .rep-low), omega (arith, h .columns-low), omega (arith, h .shares-low), h .uw-pos, omega (arith, h .uw-low))))
+    ((h, h .uw-pos, omega (arith, h .uw-low), coins-first p h (length (b .coins .now)) (a .pre .3)), (omega arith, omega (arith, r), a .pre .2))
 
 sub-image-seeds : tie.Need-sub-image-seeds
 sub-image-seeds c =
@@ -57,7 +58,7 @@ image-seeds-requires c κs =
     let r = room p h (length (b .work .now)) (a .pre .1) .1 in
     let u = c .before .before .before .before .noise-seeds .ensures .0 in
     let n = u .long in
-    (h .power, ((omega arith, omega arith, omega arith, omega (arith, r, n), u .low, omega (arith, h .rows-low), omega (arith, h .columns-low)), (coins-second p h (b .coins .now) (a .pre .3), omega (arith, h .rep-low), omega (arith, h .shares-low), h .uw-pos, omega (arith, h .uw-low))))
+    ((h, h .uw-pos, omega (arith, h .uw-low), coins-second p h (b .coins .now) (a .pre .3)), (omega arith, omega arith, omega arith, omega (arith, r, n), u .low))
 
 returns : tie.Need-returns
 unfolding maskedNoise seeded
@@ -69,7 +70,9 @@ returns c =
     let z = c .before .before .image-seeds .ensures in
     let N = seeded p (p .uw) (b .coins .now) in
     let f = ap (seedNoise (p .shares) (p .rep) (p .uw) (p .kappa / 8)) (part-all (p .l * p .rep * p .shares * (p .kappa / 8)) (b .coins .now)) in
-    ((z .0 .0, z .0 .1 ∙ u .0 .long, z .0 .2), λ A m. commit-made p N (b .g) _ (a .pre .0 .power) (u .1) _ f (b .seed .now) A (b .work .now) _ _ _ m (u .0) (z .1 A m .0) (z .1 A m .1))
+    let w = b .work .now in
+    let d = count-power (p .shares) (a .pre .0 .count) in
+    ((z .0 .0, z .0 .1 ∙ u .0 .long, z .0 .2, commit-begun p N (b .g) (b .g) w _ _ (u .0) (z .0 .3)), λ A m. commit-made p N (b .g) _ w _ _ (u .0) d (u .1) _ f (b .seed .now) A _ m (z .1 A m .0) (z .1 A m .1))
 
 pub commit-seeds-spec : {M : Type 1} → statement M
 commit-seeds-spec =

@@ -8,7 +8,7 @@ use Rattle.sharing.proofs.Regions.{wrote-start}
 use Rattle.signature.specs.Compress.{collectedAt, compressedOf}
 use Rattle.signature.proofs.Collected.{fullAt, full-ok, full-turn, full-end}
 use borrow.Author.Tests.{not-true, not-false}
-use Rattle.signature.proofs.Checks.{not-there}
+use Rattle.ring.proofs.Filled.{not-there}
 use Rattle.signature.proofs.Entries.{all-none, all-more, all-not}
 use Rattle.signature.specs.Matrix.{buildAll, filled}
 use Rattle.sharing.proofs.Lists.{inside}

@@ -21,7 +21,8 @@ use Rattle.signature.proofs.Finished.{hint-small, hint-length, response
 use Rattle.signature.proofs.Sizes.{room}
 use borrow.Author.Needs.{needs}
 use Rattle.signature.proofs.fields.finish_with.Statement.{statement}
-use Rattle.signature.proofs.Checks.{absurd-bool, filled-some}
+use Rattle.ring.proofs.Checks.{absurd-bool}
+use Rattle.ring.proofs.Filled.{filled-some}
 use Rattle.signature.proofs.fields.finish_with.Tie as tie
 
 centred-into-requires : tie.Need-centred-into-requires
@@ -64,8 +65,9 @@ returns-2 c = let a = c .before .before .before .before .before .before .before 
     let x = atX (p .k) (p .l) (p .shares) in
     let e : x + p .l * 512 - x ≡ p .l * 512 = omega arith in
     let f = c .before .before .before .before .before .before .before .before .before .before .before .before .before .before .centred-into .ensures ∙ ap (λ (j : ℕ). centredAll q (take j (drop x (b .work .now)))) e in
-    let m = c .before .before .before .before .before .before .before .before .before .before .make-hint .ensures in (
-      (m .0 .1, m .0 .2, m .1 .0 (not-false _ (c .before .before .before .before .before .before .if1 .left))),
+    let m = c .before .before .before .before .before .before .before .before .before .before .make-hint .ensures in
+    let k = m .1 .0 (not-false _ (c .before .before .before .before .before .before .if1 .left)) in (
+      (m .0 .1, m .0 .2, k .0, k .1),
       (λ (A mu : List ℕ) g.
           subst (λ (y : Fields). FinishedAs (finished p y) (c .before .before .write-fields .result) (b .out .now) (c .before .before .write-fields .last .1 .1 .1 .1 .0))
           (fields-are p (record { matrix = A; vector = vkVector p (b .vk .now); mu = mu }) (sub (b .work .now) (atT (p .l) (p .shares)) (p .k * 512)) (b .hash .now) (sub (b .work .now) x (p .l * 512)) (b .c) _ _ (m .1 .1 A g) f)

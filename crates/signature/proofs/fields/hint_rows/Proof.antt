@@ -1,16 +1,17 @@
 use mathlib.Core.Path.{_≡_, refl, sym, ap, subst, _∙_}
 use mathlib.Core.Bool.{true, false}
-use Prim.Native.Nat.{ℕ, _+_, _-_, _*_, _≤_, _<_}
+use Prim.Native.Nat.{_+_, _-_, _*_, _≤_, _<_}
 use native.Mathlib.Omega.{arith}
 use lib.ListN.{length, take}
 use lib.Seq.{take-all}
 use borrow.Author.Tests.{not-true, not-false}
 use Rattle.ring.proofs.Sums.{length-zip}
 use Rattle.ring.specs.Words.{q, Below, Residues}
-use Rattle.sharing.specs.Blocks.{block, build}
-use Rattle.sharing.specs.Region.{sub}
+use Rattle.sharing.specs.Blocks.{build}
+use Rattle.sharing.specs.Region.{sub, Kept}
 use Rattle.sharing.proofs.Lists.{inside}
-use Rattle.sharing.proofs.Regions.{block-sub, length-sub}
+use Rattle.sharing.proofs.Built.{block-is, build-none}
+use Rattle.sharing.proofs.Regions.{block-sub, length-sub, kept-all, kept-front, kept-behind, kept-then}
 use Rattle.signature.specs.Matrix.{buildAll, matrixAt, matrixOf, filled, rowEntry}
 use Rattle.signature.specs.Recover.{sub31, centredAll, recoveredBy, hintRow, hintRows}
 use Rattle.signature.proofs.Adjusted.{sub-residues, length-subZ}
@@ -20,21 +21,22 @@ use Rattle.signature.proofs.Hints.{part-below, hint-long, hint-turn}
 use Rattle.signature.proofs.Rounded.{below-up}
 use borrow.Author.Needs.{needs}
 use Rattle.signature.proofs.fields.hint_rows.Statement.{statement}
-use Rattle.signature.proofs.Checks.{absurd-bool}
+use Rattle.ring.proofs.Checks.{absurd-bool}
 use Rattle.signature.proofs.fields.hint_rows.Tie as tie
 
 abbrev Inv-loop : tie.InvT-loop
 Inv-loop work₀ row at wat seed k l c t hint₀ i₀ work hint i =
     (i ≤ k) × (filled (buildAll i (λ j. buildAll l (matrixAt seed j))) ≡ true) × (length work ≡ length work₀) × Below q work
-    × ((b j : ℕ) → row + 512 ≤ b → sub work b j ≡ sub work₀ b j) × (length hint ≡ k * 512)
+    × Kept (row + 512) (length work₀) work₀ work × (length hint ≡ k * 512)
     × (take (i * 512) hint ≡ centredAll 31 (build i (hintRow l seed (sub work₀ at (l * 512)) c t (sub work₀ wat (k * 512)))))
+    × Kept 0 row work₀ work
 
 abbrev μ-loop : tie.MeasureT-loop
 μ-loop work₀ row at wat seed k l c t hint₀ i₀ work hint i = k - i
 
 loop-holds : tie.Need-loop-holds Inv-loop μ-loop
-unfolding build centredAll
-loop-holds c = let a = c .before .before .before in (omega arith, all-none (λ j. buildAll (a .args .l) (matrixAt (a .args .seed .now) j)), refl, a .pre .0 .4, (λ (b j : ℕ) h. refl), a .pre .1 .6, refl)
+unfolding centredAll
+loop-holds c = let a = c .before .before .before in (omega arith, all-none (λ j. buildAll (a .args .l) (matrixAt (a .args .seed .now) j)), refl, a .pre .0 .4, kept-all _ _ _, a .pre .1 .6, sym (ap (centredAll 31) (build-none _)), kept-all _ _ _)
 
 load-requires : tie.Need-load-requires Inv-loop μ-loop
 load-requires c κs = let a = c .before .before .before .before .before .before in
@@ -68,11 +70,10 @@ hint-row-requires c κs = let a = c .before .before .before .before .before .bef
     let z = c .before .before .before .before .before .recover-row .ensures in
     let u = z .1 (not-false _ (c .before .before .if1 .left)) in
     let n : l .i * 512 + 512 - l .i * 512 ≡ 512 = omega arith in
-    let s = u .behind (b .wat + l .i * 512) 512 (omega arith) (omega (arith, a .pre .0 .1)) ∙ v .4 (b .wat + l .i * 512) 512 (omega (arith, a .pre .0 .1)) in
+    let s = u .behind (b .wat + l .i * 512) 512 (omega arith) (omega (arith, a .pre .0 .1)) ∙ v .4 .same (b .wat + l .i * 512) 512 (omega (arith, a .pre .0 .1)) (omega (arith, m, a .pre .0 .3)) in
     rw n (omega (arith, z .0 .1, v .2, a .pre .0 .1, a .pre .0 .3), omega (arith, m, z .0 .1, v .2, a .pre .0 .3), z .0 .2, subst (Below 31) (sym s) (part-below 31 (b .work .now) (b .wat) (b .k) (l .i) h (a .pre .1 .5)), length-subZ (l .hint) (l .i * 512) 512 (omega (arith, m, v .5)))
 
 loop-again : tie.Need-loop-again Inv-loop μ-loop
-unfolding block
 loop-again c = let a = c .before .before .before .before .before .before .before .before .before .before .before .before .before .before .before in
     let b = a .args in
     let l = c .before .before .before .before .before .before .before .before .before .before .before .loop in
@@ -87,17 +88,18 @@ loop-again c = let a = c .before .before .before .before .before .before .before
     let X = c .before .hint-row .last .1 .1 .1 .0 in
     let x = c .before .hint-row .ensures in
     let k : l .i * 512 + 512 ≤ length (l .hint) = omega (arith, m, v .5) in
-    let f = u .behind (b .wat + l .i * 512) 512 (omega arith) (omega (arith, a .pre .0 .1)) ∙ v .4 (b .wat + l .i * 512) 512 (omega (arith, a .pre .0 .1)) ∙ sym (block-sub 512 (b .k) (l .i) (b .work .now) (b .wat) h) in
-    let g = u .new ∙ ap (λ y. recoveredBy (b .l) (rowEntry (b .seed .now) (l .i)) y (b .c) (c .before .before .before .before .before .before .before .before .load .result)) (v .4 (b .at) (b .l * 512) (a .pre .0 .0))
-    ∙ ap (recoveredBy (b .l) (rowEntry (b .seed .now) (l .i)) Z (b .c)) (c .before .before .before .before .before .before .before .before .load .ensures .0) in
+    let f = u .behind (b .wat + l .i * 512) 512 (omega arith) (omega (arith, a .pre .0 .1)) ∙ v .4 .same (b .wat + l .i * 512) 512 (omega (arith, a .pre .0 .1)) (omega (arith, m, a .pre .0 .3)) ∙ sym (block-sub 512 (b .k) (l .i) (b .work .now) (b .wat) h) in
+    let g = u .new ∙ ap (λ y. recoveredBy (b .l) (rowEntry (b .seed .now) (l .i)) y (b .c) (c .before .before .before .before .before .before .before .before .load .result)) (v .4 .same (b .at) (b .l * 512) (a .pre .0 .0) (a .pre .0 .2))
+    ∙ ap (recoveredBy (b .l) (rowEntry (b .seed .now) (l .i)) Z (b .c)) (c .before .before .before .before .before .before .before .before .load .ensures .0 ∙ sym (block-is 512 (l .i) (b .t .now))) in
     let o : length X ≡ 512 = ap (λ y. length y) x ∙ length-centred 31 _ ∙ length-zip sub31 _ _ ∙ length-sub (c .before .before .before .before .before .before .before .recover-row .last .0) (b .wat + l .i * 512) 512 (omega (arith, m, z .0 .1, v .2, a .pre .0 .3)) in (
       omega (arith, h),
       all-more (l .i) (λ j. buildAll (b .l) (matrixAt (b .seed .now) j)) (v .1) (sym (z .0 .0) ∙ e),
       z .0 .1 ∙ v .2,
       z .0 .2,
-      (λ (y j : ℕ) (n : b .row + 512 ≤ y). u .behind y j (omega arith) n ∙ v .4 y j n),
+      kept-then (v .4) (kept-behind (length (b .work .now)) (omega arith) u),
       hint-long (l .i) (l .hint) X k o ∙ v .5,
       hint-turn (l .i) (l .hint) X k o (b .l) (b .seed .now) Z (b .c) (b .t .now) W _ _ (v .6) x f g,
+      kept-then (v .7) (kept-front u),
     )
 
 returns-2 : tie.Need-returns-2 Inv-loop μ-loop
@@ -108,7 +110,7 @@ returns-2 c = let b = c .before .before .before .before .before .args in
     let e : l .i ≡ b .k = omega (arith, v .0, c .loop-test .left) in (
       (sym (v .1) ∙ ap (λ n. filled (buildAll n (λ j. buildAll (b .l) (matrixAt (b .seed .now) j)))) e, v .2, v .3),
       (
-        (λ _. v .4),
+        (λ _. (v .7, v .4)),
         (λ _.
             sym (take-all (b .k * 512) (l .hint) (omega (arith, v .5))) ∙ ap (λ n. take (n * 512) (l .hint)) (sym e) ∙ v .6
             ∙ ap (λ n. centredAll 31 (build n (hintRow (b .l) (b .seed .now) (sub (b .work .now) (b .at) (b .l * 512)) (b .c) (b .t .now) (sub (b .work .now) (b .wat) (b .k * 512))))) e),

@@ -8,56 +8,60 @@ use Rattle.ring.specs.Words.{q, Below, Words}
 use Rattle.ring.specs.Transform.{ntt}
 use Rattle.ring.specs.Round.{residues}
 use Rattle.sharing.specs.Region.{sub}
-use Rattle.sharing.proofs.Regions.{length-sub, sub-words}
+use Rattle.sharing.proofs.Regions.{length-sub, sub-words, kept-front, kept-behind, kept-then, kept-less}
 use Rattle.signature.specs.Bits.{repack}
-use Rattle.signature.specs.Keygen.{atS, atT, atX}
+use Rattle.signature.specs.Keygen.{atT, atX}
 use Rattle.signature.specs.Keys.{vkSeed, vkVector}
 use Rattle.signature.specs.Matrix.{matrix, matrixOf, filled}
 use Rattle.signature.proofs.Fronts.{unpacked-in, unpacked-is}
 use Rattle.signature.proofs.Hints.{hint-all, hint-parts}
 use Rattle.signature.proofs.Packing.{length-repack}
-use Rattle.signature.proofs.Sizes.{room, share-room}
+use Rattle.signature.proofs.Sizes.{room}
 use borrow.Author.Needs.{needs}
 use Rattle.signature.proofs.fields.make_hint.Statement.{statement}
-use Rattle.signature.proofs.Checks.{some-filled}
+use Rattle.ring.proofs.Filled.{some-filled}
 use Rattle.signature.proofs.fields.make_hint.Tie as tie
 
 ntt-to-requires : tie.Need-ntt-to-requires
-ntt-to-requires c κs = let a = c .before .before .before .before .before .before .before .before in
+ntt-to-requires c κs =
+    let a = c .before .before .before .before .before .before .before .before in
     let R = room (a .args .p) (a .pre .0 .1) (length (a .args .work .now)) (a .pre .0 .2) .2 in
-    (omega (arith, share-room (a .args .p) (a .pre .0 .1)), R, a .pre .0 .3)
+    (omega (arith, a .pre .0 .1 .columns-low), R, a .pre .0 .3)
 
 part-hint-rows-end-2 : tie.Need-part-hint-rows-end-2
-part-hint-rows-end-2 c = let a = c .before .before .before .before .before .before .before .before .before .before .before .before .before .before .before .before in
+part-hint-rows-end-2 c =
+    let a = c .before .before .before .before .before .before .before .before .before .before .before .before .before .before .before .before in
     unpacked-in 7 (a .args .p .k * 512) (replicate 4608 0) (c .before .before .before .before .before .before .before .before .before .before .unpack .last .1 .1 .0) _ (omega (arith, a .pre .0 .0 .rows-low)) (c .before .before .before .before .before .before .before .before .before .before .unpack .ensures)
 
 hint-rows-requires : tie.Need-hint-rows-requires
 unfolding vkVector
-hint-rows-requires c κs = let a = c .before .before .before .before .before .before .before .before .before .before .before .before .before .before .before .before .before .before in
+hint-rows-requires c κs =
+    let a = c .before .before .before .before .before .before .before .before .before .before .before .before .before .before .before .before .before .before in
     let p = a .args .p in
     let T = a .pre .0 .0 in
     let S = a .pre .0 .1 in
     let R = room p S (length (a .args .work .now)) (a .pre .0 .2) in
-    let r = share-room p S in
+    let r = S .columns-low in
     let m : p .kappa / 8 + p .k * 448 - p .kappa / 8 ≡ p .k * 448 = omega arith in
     let t = unpacked-is 7 (p .k * 512) (replicate 4608 0) (c .before .before .before .before .before .before .before .before .before .before .before .before .unpack .last .1 .1 .0) _ (omega (arith, T .rows-low)) (c .before .before .before .before .before .before .before .before .before .before .before .before .unpack .ensures)
     ∙ ap (λ (j : ℕ). repack 8 7 (p .k * 512) (take j (drop (p .kappa / 8) (a .args .vk .now)))) m in
     let u = c .before .before .before .before .before .before .before .before .before .ntt-to .ensures in
     let n = u .long in
     let w = u .behind (atT (p .l) (p .shares)) (p .k * 512) (omega arith) (omega (arith, r)) in (
-      (omega arith, omega arith, omega (arith, n, r, R .1), omega (arith, n, R .1), u .low),
+      (omega arith, omega arith, omega (arith, n, r, R .0), omega (arith, n, R .1), u .low),
       (T .rows-low, T .columns-low, c .before .before .before .before .before .ntt .ensures .1, ap (λ (l : List ℕ). length l) t ∙ length-repack 8 7 (p .k * 512) _, subst (Below 125) (sym t) (a .pre .1 .1), subst (Below 31) (sym w) (a .pre .0 .4), a .pre .1 .2),
     )
 
 returns : tie.Need-returns
 unfolding vkVector vkSeed
-returns c = let a = c .before .before .before .before .before .before .before .before .before .before .before .before .before .before .before .before .before .before .before .before .before .before in
+returns c =
+    let a = c .before .before .before .before .before .before .before .before .before .before .before .before .before .before .before .before .before .before .before .before .before .before in
     let b = a .args in
     let p = b .p in
     let T = a .pre .0 .0 in
     let S = a .pre .0 .1 in
     let R = room p S (length (b .work .now)) (a .pre .0 .2) in
-    let o = share-room p S in
+    let o = S .columns-low in
     let k = p .k in
     let l = p .l in
     let d = p .shares in
@@ -76,7 +80,12 @@ returns c = let a = c .before .before .before .before .before .before .before .b
     let f = r .0 .0 ∙ ap (λ (v : List ℕ). filled (matrixOf k l v)) e in (
       (f, r .0 .1 ∙ u .long, r .0 .2),
       (
-        (λ g. r .1 .0 g (atS d) (l * (d * 512)) (omega arith) ∙ u .front (atS d) (l * (d * 512)) (omega arith) (omega arith)),
+        (λ g.
+            let K = r .1 .0 g in (
+              kept-then (kept-less (omega arith) (omega arith) (kept-front u)) (K .0),
+              kept-then (kept-less (omega (arith, o)) (omega arith) (kept-behind (length (b .work .now)) (omega arith) u))
+                  (kept-less (omega arith) (omega (arith, u .long)) (K .1)),
+            )),
         (λ (A : List ℕ) (g : matrix p seed ≡ some A).
             r .1 .1 (f ∙ some-filled (matrix p seed) A g)
             ∙ hint-parts k l e (u .new) y t (u .behind (atT l d) (k * 512) (omega arith) (omega (arith, o)))
@@ -90,7 +99,7 @@ make-hint-spec =
     tie.close (tie.spec (λ c. search needs) (λ c. search needs) (λ c. search needs) (λ c. search needs)
     (λ c. search needs) (λ c. search needs) (λ c. search needs) (λ c. search needs) (λ c. search needs)
     (λ c. search needs) (λ c. search needs) (λ c. search needs) (λ c. search needs) (λ c. search needs)
-    (λ c. search needs) (λ c. search needs) (λ c. search needs) (λ c. search needs) (λ c κs. search needs)
-    (λ c. search needs) ntt-to-requires (λ c κs. search needs) (λ c κs. search needs) (λ c. search needs)
+    (λ c. search needs) (λ c. search needs) (λ c. search needs) (λ c. search needs) (λ c. search needs)
+    (λ c κs. search needs) (λ c. search needs) ntt-to-requires (λ c κs. search needs) (λ c κs. search needs)
     (λ c. search needs) (λ c. search needs) (λ c. search needs) (λ c. search needs) (λ c. search needs)
     part-hint-rows-end-2 hint-rows-requires (λ c. search needs) (λ c. search needs) returns)

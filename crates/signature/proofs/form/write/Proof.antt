@@ -5,13 +5,13 @@ use lib.ListN.{length}
 use lib.Seq.{sets}
 use Rattle.signature.specs.Bits.{fields}
 use Rattle.signature.specs.Code.{codes}
-use Rattle.signature.proofs.Filled.{room, written}
+use Rattle.signature.proofs.Filled.{form-room, written}
 use borrow.Author.Needs.{needs}
 use Rattle.signature.proofs.form.write.Statement.{statement}
 use Rattle.signature.proofs.form.write.Tie as tie
 
 fits : (s : tie.Start) → 8 * length (s .args .hash .now) + (length (codes 0 (s .args .hint .now)) + length (codes 40 (s .args .response .now))) ≤ length (s .args .out .now) * 8
-fits s = room (s .args .hash .now) (s .args .hint .now) (s .args .response .now) (length (s .args .out .now)) (s .pre .0)
+fits s = form-room (s .args .hash .now) (s .args .hint .now) (s .args .response .now) (length (s .args .out .now)) (s .pre .0)
 
 begin-requires : tie.Need-begin-requires
 begin-requires c κs = omega (arith, fits (c .before .before .before))

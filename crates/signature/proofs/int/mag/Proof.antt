@@ -1,7 +1,7 @@
 use mathlib.Core.Path.{ap, _∙_}
 use native.Mathlib.Omega.{arith}
 use lib.IntN.{natAbs}
-use Rattle.signature.proofs.Signs.{same, fits, neg-fits, neg-held, neg-abs, neg-nonneg, nonneg, below, not-below}
+use Rattle.signature.proofs.Signs.{same, fits, neg-fits, neg-held, neg-abs, neg-nonneg, nonneg, neg-one, neg-zero}
 use borrow.Author.Needs.{needs}
 use Rattle.signature.proofs.int.mag.Statement.{statement}
 use Rattle.signature.proofs.int.mag.Tie as tie
@@ -13,12 +13,12 @@ cast-result : tie.Need-cast-result
 cast-result c =
     let z = c .before .args .z in
     let e = neg-held z (c .before .fits .z) (c .before .pre) in
-    (rw e (neg-nonneg z (below z (c .before .fits .z) (c .if1 .taken))), rw (e, neg-abs z) (record { fits = omega (arith, c .before .pre) }))
+    (rw e (neg-nonneg z (neg-one z (c .before .fits .z) (c .if1 .taken))), rw (e, neg-abs z) (record { fits = omega (arith, c .before .pre) }))
 
 cast-result-2 : tie.Need-cast-result-2
 cast-result-2 c =
     let z = c .before .args .z in
-    (rw (same z (c .before .fits .z)) (nonneg z (not-below z (c .before .fits .z) (c .if1 .left))), fits z (c .before .fits .z))
+    (rw (same z (c .before .fits .z)) (nonneg z (neg-zero z (c .before .fits .z) (c .if1 .left))), fits z (c .before .fits .z))
 
 returns : tie.Need-returns
 returns c = ap natAbs (neg-held (c .before .args .z) (c .before .fits .z) (c .before .pre)) ∙ neg-abs (c .before .args .z)

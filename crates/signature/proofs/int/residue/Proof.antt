@@ -1,11 +1,12 @@
-use mathlib.Core.Path.{_≡_, sym, ap, subst, _∙_}
-use Prim.Native.Nat.{ℕ, _-_, _<_, _≤_, _^_}
+use mathlib.Core.Path.{_≡_, sym, ap, _∙_}
+use Prim.Native.Nat.{ℕ, _-_}
 use native.Mathlib.Omega.{arith}
 use lib.IntN.{natAbs}
 use Rattle.signature.specs.Code.{negOf}
 use Rattle.signature.proofs.Signs.{same}
 use Rattle.ring.specs.Round.{residue}
-use Rattle.signature.proofs.Reduced.{residue-pos, residue-neg, residue-lt}
+use Rattle.ring.proofs.Reduced.{residue-lt}
+use Rattle.signature.proofs.Reduced.{residue-pos, residue-neg}
 use borrow.Author.Needs.{needs}
 use Rattle.signature.proofs.int.residue.Statement.{statement}
 use Rattle.signature.proofs.int.residue.Tie as tie

@@ -1,7 +1,7 @@
-use mathlib.Core.Path.{refl, ap, subst, sym, _∙_}
+use mathlib.Core.Path.{ap, _∙_}
 use borrow.Author.Tests.{not-true, not-false}
 use Rattle.signature.specs.KeyCalls.{outcome}
-use Rattle.signature.proofs.KeyDone.{unfilled, made}
+use Rattle.signature.proofs.KeyDone.{keygen-none, keygen-some}
 use borrow.Author.Needs.{needs}
 use Rattle.signature.proofs.keygen.generate.Statement.{statement}
 use Rattle.signature.proofs.keygen.generate.Tie as tie
@@ -26,10 +26,13 @@ returns c =
     let b = m .before .before .before .before .before .before .args in
     let e = m .make-key .ensures in
     ap (outcome 10 (b .out .now)) (c .before .before .clear .ensures)
-    ∙ unfilled (b .p) (b .seeds .now) (b .mask-seed .now) (b .out .now) (b .work .now) _ (e .0 .0) (m .make-key .last .0) (not-true _ (c .before .before .before .before .if1 .taken)) (e .0 .1)
+    ∙ keygen-none (b .p) (b .seeds .now) (b .mask-seed .now) (b .out .now) (b .work .now) _ (e .0 .0) (m .make-key .last .0) (not-true _ (c .before .before .before .before .if1 .taken)) (e .0 .1)
 
 write-made-requires : tie.Need-write-made-requires
-write-made-requires c κs = search needs
+write-made-requires c κs =
+    let a = c .before .before .before .before .before .before .before .before .before .before .before in
+    let e = c .before .before .before .before .before .make-key .ensures .0 .1 in
+    ((a .pre .0 .0, e ∙ a .pre .0 .1, a .pre .0 .2), a .pre .1)
 
 clear-requires-2 : tie.Need-clear-requires-2
 clear-requires-2 c κs = search needs
@@ -47,7 +50,7 @@ returns-2 c =
     let b = m .before .before .before .before .before .before .args in
     let e = m .make-key .ensures in
     ap (outcome 0 _) (c .before .before .clear2 .ensures)
-    ∙ made (b .p) (b .seeds .now) (b .mask-seed .now) (b .out .now) (b .work .now) _ (e .0 .0) _ (m .make-key .last .0) (not-false _ (w .before .before .before .if1 .left)) (e .1) (w .write-made .ensures) (e .0 .1)
+    ∙ keygen-some (b .p) (b .seeds .now) (b .mask-seed .now) (b .out .now) (b .work .now) _ (e .0 .0) _ (m .make-key .last .0) (not-false _ (w .before .before .before .if1 .left)) (e .1) (w .write-made .ensures) (e .0 .1)
 
 pub generate-spec : {M : Type 1} → statement M
 generate-spec =

@@ -1,6 +1,6 @@
 use mathlib.Core.Path.{sym, _∙_}
 use Rattle.signature.proofs.Asked.{listed}
-use Rattle.signature.proofs.KeyDone.{goes-on, key-long}
+use Rattle.signature.proofs.KeyDone.{keygen-on, key-long}
 use Rattle.signature.proofs.KeyEnds.{no-lengths, passed, keygen-no-set, keygen-no-shares, keygen-refused}
 use Rattle.signature.proofs.KeyRanges.{ranged}
 use Rattle.signature.proofs.Listing.{found-small}
@@ -56,7 +56,7 @@ returns c =
     let p = m .p .given .0 .0 in
     let n = no-lengths p (a .seeds .now) (a .mask-seed .now) (a .key-out .now) (a .work .now) in
     g .generate .ensures
-    ∙ goes-on (a .edition) (a .set) (a .shares) (a .seeds .now) (a .mask-seed .now) (a .key-out .now) (a .work .now) p
+    ∙ keygen-on (a .edition) (a .set) (a .shares) (a .seeds .now) (a .mask-seed .now) (a .key-out .now) (a .work .now) p
     (sym (m .before .before .lookup .ensures) ∙ m .p .given .1) (n ∙ sym (k .keygen-no .ensures) ∙ g .before .before .before .if1 .taken)
 
 returns-2 : tie.Need-returns-2

@@ -3,7 +3,8 @@ use mathlib.Core.Bool.{true, false}
 use Prim.Native.Nat.{_*_, _/_}
 use native.Mathlib.Omega.{arith}
 use borrow.Author.Tests.{not-true, not-false}
-use Rattle.signature.proofs.Checks.{not-there}
+use Rattle.hash.proofs.Rows.{count-power}
+use Rattle.ring.proofs.Filled.{not-there}
 use Rattle.signature.proofs.KeySteps.{both-no, made-parts}
 use Rattle.signature.proofs.Sizes.{same-le, cleared, fits-low, part-all, first-low, room, coins-first, coins-second}
 use Rattle.sharing.specs.Masks.{maskStart}
@@ -41,7 +42,7 @@ noise-seeds-requires c κs =
     let R = room p h (length (b .work .now)) (a .pre .1) in
     let n = w .long in
     let r0 = R .0 in
-    (h .power, ((omega arith, omega (arith, r0, n), w .low, coins-first p h (length (b .coins .now)) (a .pre .2)), (omega (arith, h .rep-low), omega (arith, h .columns-low), omega (arith, h .shares-low), h .ut-pos, omega (arith, h .ut-low))))
+    ((h, h .ut-pos, omega (arith, h .ut-low), coins-first p h (length (b .coins .now)) (a .pre .2)), (omega arith, omega (arith, r0, n), w .low))
 
 sub-public-vector : tie.Need-sub-public-vector
 sub-public-vector c =
@@ -70,7 +71,7 @@ public-vector-requires c κs =
     let u = c .before .before .before .before .noise-seeds .ensures .0 in
     let n = u .long ∙ w .long in
     let r1 = R .1 in
-    (h .power, ((omega arith, omega arith, omega (arith, r1, n), u .low, omega (arith, h .rows-low), omega (arith, h .columns-low)), (coins-second p h (b .coins .now) (a .pre .2), omega (arith, h .rep-low), omega (arith, h .shares-low), h .ut-pos, omega (arith, h .ut-low))))
+    ((h, coins-second p h (b .coins .now) (a .pre .2)), (omega arith, omega arith, omega (arith, r1, n), u .low))
 
 returns : tie.Need-returns
 returns c =
@@ -129,7 +130,7 @@ returns-2 c =
     let e : c .before .before .before .before .before .before .before .public-vector .result ≡ true = not-false _ (c .before .before .before .before .if1 .left) in
     let g = c .before .before .before .before .before .before .before .before .before .before .before .before .before .before .start .result in
     let G : g ≡ maskStart (b .mask-seed .now) = c .before .before .before .before .before .before .before .before .before .before .before .before .before .before .start .ensures in
-    let m = made-parts p (h .power) (b .coins .now) (b .shares .now) g (b .seed .now) _ _ _ _ _ _ _ (part-all (p .l * p .rep * p .shares * (p .kappa / 8)) (b .coins .now)) (s .0) (s .1) (z .0 .0) (z .1) _ e (t .0 .0) (t .1) (maskStart (b .mask-seed .now)) G in
+    let m = made-parts p (count-power (p .shares) (h .count)) (b .coins .now) (b .shares .now) g (b .seed .now) _ _ _ _ _ _ _ (part-all (p .l * p .rep * p .shares * (p .kappa / 8)) (b .coins .now)) (s .0) (s .1) (z .0 .0) (z .1) _ e (t .0 .0) (t .1) (maskStart (b .mask-seed .now)) G in
     ((m .0, t .0 .1 ∙ z .0 .1 ∙ s .0 .long ∙ w .long, t .0 .2), m .1)
 
 pub make-parts-spec : {M : Type 1} → statement M

@@ -1,5 +1,5 @@
 use borrow.Author.Tests.{not-true, not-false}
-use Rattle.signature.proofs.Expanded.{vk-in, part-long, part-low, key-unfilled, key-expanded}
+use Rattle.signature.proofs.Expanded.{vk-in, key-part-long, key-part-low, key-unfilled, key-expanded}
 use borrow.Author.Needs.{needs}
 use Rattle.signature.proofs.keys.expand_found.Statement.{statement}
 use Rattle.signature.proofs.keys.expand_found.Tie as tie
@@ -17,8 +17,8 @@ decompress-shares-requires : tie.Need-decompress-shares-requires
 decompress-shares-requires c κs =
     let a = c .before .before .before .before .before .before .before .before .before .before .before .before .before in
     let b = a .args in (
-      (a .pre .0 .0, part-long (b .p) (a .pre .0 .0) (b .key .now) (a .pre .0 .1)),
-      (a .pre .1 .1, part-low (b .p) (a .pre .0 .0) (b .key .now) (a .pre .0 .1) (a .pre .0 .2)),
+      (a .pre .0 .0, key-part-long (b .p) (a .pre .0 .0) (b .key .now) (a .pre .0 .1)),
+      (a .pre .1 .1, key-part-low (b .p) (a .pre .0 .0) (b .key .now) (a .pre .0 .1) (a .pre .0 .2)),
     )
 
 returns-2 : tie.Need-returns-2

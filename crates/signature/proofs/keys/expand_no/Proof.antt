@@ -6,8 +6,9 @@ use borrow.Author.Tests.{not-true, not-false, eq-eqb, ne-eqb}
 use Rattle.ring.specs.Words.{q, allBelow}
 use Rattle.signature.specs.Keys.{vkVector, fullShare}
 use Rattle.signature.specs.KeyCalls.{expandNo}
-use Rattle.signature.proofs.Checks.{no-here, yes-here}
-use Rattle.signature.proofs.Expanded.{tail-is, words-few}
+use Rattle.ring.proofs.Checks.{no-here, yes-here}
+use Rattle.signature.proofs.Expanded.{words-few}
+use Rattle.signature.proofs.Sizes.{part-all}
 use borrow.Author.Needs.{needs}
 use Rattle.signature.proofs.keys.expand_no.Statement.{statement}
 use Rattle.signature.proofs.keys.expand_no.Tie as tie
@@ -28,7 +29,7 @@ returns-3 c =
     let a = c .before .before .before .before .before .before .before .before .before .before .before .args in
     yes-here 3 (eq-eqb _ _ (c .before .before .before .before .before .before .if1 .left))
     (yes-here 4 (sym (c .before .before .before .before .public-key-good .ensures) ∙ not-false _ (c .before .before .before .if2 .left))
-    (no-here 5 _ (sym (c .before .full-share-good .ensures ∙ ap (λ (l : List ℕ). allBelow q (fullShare (a .p) l)) (tail-is (a .key .now) (a .p .«vk_bytes»))) ∙ not-true _ (c .if3 .taken))))
+    (no-here 5 _ (sym (c .before .full-share-good .ensures ∙ ap (λ (l : List ℕ). allBelow q (fullShare (a .p) l)) (part-all (a .p .«vk_bytes») (a .key .now))) ∙ not-true _ (c .if3 .taken))))
 
 mul-sized-2 : tie.Need-mul-sized-2
 mul-sized-2 c = omega (arith, words-few (c .before .before .before .before .before .before .before .before .before .before .before .before .before .args .p) (c .before .before .before .before .before .before .before .before .before .before .before .before .before .pre))
@@ -39,7 +40,7 @@ returns-4 c =
     let a = c .before .before .before .before .before .before .before .before .before .before .before .before .before .before .before .args in
     yes-here 3 (eq-eqb _ _ (c .before .before .before .before .before .before .before .before .before .before .if1 .left))
     (yes-here 4 (sym (c .before .before .before .before .before .before .before .before .public-key-good .ensures) ∙ not-false _ (c .before .before .before .before .before .before .before .if2 .left))
-    (yes-here 5 (sym (c .before .before .before .before .before .full-share-good .ensures ∙ ap (λ (l : List ℕ). allBelow q (fullShare (a .p) l)) (tail-is (a .key .now) (a .p .«vk_bytes»))) ∙ not-false _ (c .before .before .before .before .if3 .left))
+    (yes-here 5 (sym (c .before .before .before .before .before .full-share-good .ensures ∙ ap (λ (l : List ℕ). allBelow q (fullShare (a .p) l)) (part-all (a .p .«vk_bytes») (a .key .now))) ∙ not-false _ (c .before .before .before .before .if3 .left))
     (no-here 8 _ (sym (c .before .sized .ensures) ∙ not-true _ (c .if4 .taken)))))
 
 returns-5 : tie.Need-returns-5
@@ -48,7 +49,7 @@ returns-5 c =
     let a = c .before .before .before .before .before .before .before .before .before .before .before .before .before .before .before .args in
     yes-here 3 (eq-eqb _ _ (c .before .before .before .before .before .before .before .before .before .before .if1 .left))
     (yes-here 4 (sym (c .before .before .before .before .before .before .before .before .public-key-good .ensures) ∙ not-false _ (c .before .before .before .before .before .before .before .if2 .left))
-    (yes-here 5 (sym (c .before .before .before .before .before .full-share-good .ensures ∙ ap (λ (l : List ℕ). allBelow q (fullShare (a .p) l)) (tail-is (a .key .now) (a .p .«vk_bytes»))) ∙ not-false _ (c .before .before .before .before .if3 .left))
+    (yes-here 5 (sym (c .before .before .before .before .before .full-share-good .ensures ∙ ap (λ (l : List ℕ). allBelow q (fullShare (a .p) l)) (part-all (a .p .«vk_bytes») (a .key .now))) ∙ not-false _ (c .before .before .before .before .if3 .left))
     (yes-here 8 (sym (c .before .sized .ensures) ∙ not-false _ (c .if4 .left)) refl)))
 
 pub expand-no-spec : {M : Type 1} → statement M

@@ -20,8 +20,8 @@ renew-requires c κs =
     let t = listed (a .set) (a .shares) Edition.Printed p (sym (m .before .before .lookup .ensures) ∙ m .p .given .1) in
     let h = refreshable p (a .bytes .now) (a .words .now) (a .mask-seed .now) (a .bytes-out .now) (a .words-out .now)
     (sym (k .refresh-no .ensures) ∙ c .before .before .if1 .taken) in (
-      record { long = h .shares-long; low = h .shares-low },
-      ((h .bytes-long ∙ sym (h .key-long), h .words-long ∙ sym (h .shares-long)), (t .power, t .shares-low)),
+      (record { long = h .shares-long; low = h .shares-low }, t .count),
+      (h .bytes-long ∙ sym (h .key-long), h .words-long ∙ sym (h .shares-long)),
     )
 
 returns : tie.Need-returns
@@ -46,7 +46,7 @@ returns-3 c =
     let a = m .before .before .before .before .before .before .before .before .args in
     refresh-done (a .set) (a .shares) (a .bytes .now) (a .words .now) (a .mask-seed .now) (a .bytes-out .now) (a .words-out .now)
     (m .p .given .0 .0) (sym (m .p .given .1) ∙ m .before .before .lookup .ensures) (k .refresh-no .result) (k .refresh-no .ensures) (w .before .before .before .if1 .taken)
-    (w .renew .last .1 .1 .1 .1 .1 .0) (w .renew .last .1 .1 .1 .1 .1 .1 .0) (w .renew .ensures .0) (w .renew .ensures .1)
+    (w .renew .last .1 .1 .1 .1 .0) (w .renew .last .1 .1 .1 .1 .1 .0) (w .renew .ensures .0) (w .renew .ensures .1)
 
 returns-4 : tie.Need-returns-4
 returns-4 c =

@@ -7,7 +7,7 @@ use borrow.Author.Tests.{not-true, not-false, eq-eqb, ne-eqb}
 use Rattle.signature.specs.Keys.{vkVector}
 use Rattle.signature.specs.KeyCalls.{refreshNo}
 use Rattle.signature.proofs.Asked.{sizes}
-use Rattle.signature.proofs.Checks.{no-here, yes-here}
+use Rattle.ring.proofs.Checks.{no-here, yes-here}
 use borrow.Author.Needs.{needs}
 use Rattle.signature.proofs.keys.refresh_no.Statement.{statement}
 use Rattle.signature.proofs.keys.refresh_no.Tie as tie

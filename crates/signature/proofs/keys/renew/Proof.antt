@@ -12,14 +12,14 @@ use Rattle.signature.proofs.keys.renew.Tie as tie
 refresh-words-requires : tie.Need-refresh-words-requires
 refresh-words-requires c κs =
     let a = c .before .before .before .before .before .before .before .before .before .before .before .before .before .before .before in
-    (subst (λ (x : List ℕ). Words (a .args .l * (a .args .d * 512)) x) (sym (c .before .before .before .before .copy-into .ensures)) (a .pre .0), a .pre .1 .1)
+    (subst (λ (x : List ℕ). Words (a .args .p .l * (a .args .p .shares * 512)) x) (sym (c .before .before .before .before .copy-into .ensures)) (a .pre .0 .0), a .pre .0 .1)
 
 returns : tie.Need-returns
 returns c =
     let a = c .before .before .before .before .before .before .before .before .before .before .before .before .before .before .before .before .before .before .args in
-    let g = ap (λ (h : MaskGen). refreshed masks (a .d) h (a .l) (a .words .now)) (c .before .before .before .start .ensures) in (
+    let g = ap (λ (h : MaskGen). refreshed masks (a .p .shares) h (a .p .l) (a .words .now)) (c .before .before .before .start .ensures) in (
       c .before .before .before .before .before .before .before .before .before .before .before .copy-bytes .ensures,
-      c .before .before .refresh-words .ensures ∙ ap (refreshed masks (a .d) (c .before .before .before .start .result) (a .l)) (c .before .before .before .before .before .before .before .copy-into .ensures) ∙ g,
+      c .before .before .refresh-words .ensures ∙ ap (refreshed masks (a .p .shares) (c .before .before .before .start .result) (a .p .l)) (c .before .before .before .before .before .before .before .copy-into .ensures) ∙ g,
     )
 
 pub renew-spec : {M : Type 1} → statement M

@@ -8,7 +8,8 @@ use Rattle.sharing.proofs.Regions.{length-sub, wrote-value}
 use Rattle.signature.proofs.Loads.{part-loaded, part-value}
 use borrow.Author.Needs.{needs}
 use Rattle.signature.proofs.load.load_part.Statement.{statement}
-use Rattle.signature.proofs.Checks.{absurd-bool, some-filled}
+use Rattle.ring.proofs.Checks.{absurd-bool}
+use Rattle.ring.proofs.Filled.{some-filled}
 use Rattle.signature.proofs.load.load_part.Tie as tie
 
 returns : tie.Need-returns

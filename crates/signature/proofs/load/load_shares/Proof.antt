@@ -3,13 +3,12 @@ use Prim.Native.Nat.{_+_, _*_}
 use native.Mathlib.Omega.{arith}
 use Rattle.sharing.specs.Region.{sub}
 use Rattle.signature.specs.Matrix.{filled}
-use Rattle.signature.proofs.KeyMade.{some-same}
 use Rattle.signature.proofs.Loads.{packed-long, packed-low, packed-shares, expanded-long, expanded-low, expanded-shares}
-use Rattle.signature.proofs.Expanded.{vk-in, part-long, part-low}
+use Rattle.signature.proofs.Expanded.{vk-in, key-part-long, key-part-low}
 use Rattle.signature.proofs.Sizes.{cleared}
 use borrow.Author.Needs.{needs}
 use Rattle.signature.proofs.load.load_shares.Statement.{statement}
-use Rattle.signature.proofs.Checks.{some-filled}
+use Rattle.ring.proofs.Filled.{some-same, some-filled}
 use Rattle.signature.proofs.load.load_shares.Tie as tie
 
 sub-load-part : tie.Need-sub-load-part
@@ -33,7 +32,7 @@ load-part-requires c κs =
     let n = packed-long (b .p) (b .key .now) (b .words .now) (b .packed) y (a .pre .1 .0) in
     let w = cleared (b .work .now) _ (c .before .before .before .before .before .clear .ensures) in
     let m = w .long ∙ a .pre .0 .1 in
-    ((h, part-long (b .p) h (b .key .now) n, part-low (b .p) h (b .key .now) n (packed-low (b .p) (b .key .now) (b .words .now) (b .packed) y (a .pre .1 .1))), (omega (arith, m), w .low))
+    ((h, key-part-long (b .p) h (b .key .now) n, key-part-low (b .p) h (b .key .now) n (packed-low (b .p) (b .key .now) (b .words .now) (b .packed) y (a .pre .1 .1))), (omega (arith, m), w .low))
 
 returns : tie.Need-returns
 returns c =

@@ -33,7 +33,7 @@ load-requires-2 c κs =
     (omega arith, c .before .before .before .before .loop .inv .1 .low)
 
 mul-add-requires : tie.Need-mul-add-requires Inv-loop μ-loop
-mul-add-requires c κs = (c .load2 .ensures .1, c .before .before .before .before .before .before .before .pre .3, c .before .before .load .ensures .1)
+mul-add-requires c κs = c .load2 .ensures .1
 
 store-at-requires : tie.Need-store-at-requires Inv-loop μ-loop
 store-at-requires c κs =

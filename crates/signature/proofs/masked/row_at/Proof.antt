@@ -2,10 +2,12 @@ use mathlib.Core.Path.{_≡_, sym, _∙_}
 use mathlib.Core.Bool.{true}
 use Prim.Native.Nat.{_*_}
 use native.Mathlib.Omega.{arith}
+use lib.ListN.{length}
 use Rattle.sharing.specs.Region.{sub}
+use Rattle.sharing.proofs.Regions.{kept-behind}
 use Rattle.signature.specs.Matrix.{rowEntry}
 use borrow.Author.Tests.{not-true, not-false}
-use Rattle.signature.proofs.Checks.{absurd-bool}
+use Rattle.ring.proofs.Checks.{absurd-bool}
 use Rattle.signature.proofs.Rows.{row-back}
 use borrow.Author.Needs.{needs}
 use Rattle.signature.proofs.masked.row_at.Statement.{statement}
@@ -17,7 +19,7 @@ row-sums-requires c κs = c .before .before .before .pre
 returns : tie.Need-returns
 returns c =
     let z = c .before .before .before .row-sums .ensures .0 in
-    ((sym (not-true _ (c .if1 .taken)) ∙ z .0, z .1, z .2), λ e. absurd-bool (sym e))
+    ((sym (not-true _ (c .if1 .taken)) ∙ z .0, z .1, z .2, z .3), λ e. absurd-bool (sym e))
 
 intt-vector-requires : tie.Need-intt-vector-requires
 intt-vector-requires c κs =
@@ -32,7 +34,7 @@ returns-2 c =
     let z = c .before .before .before .before .before .before .before .row-sums .ensures in
     let e : c .before .before .before .before .before .before .before .row-sums .result ≡ true = not-false _ (c .before .before .before .before .if1 .left) in
     let w = row-back (b .d) (b .l) (b .to) (rowEntry (b .seed .now) (b .i)) (sub (b .s .now) (b .at) (b .l * (b .d * 512))) (b .s .now) _ _ (z .1 e) (c .before .before .intt-vector .ensures) in
-    ((sym e ∙ z .0 .0, w .long, w .low), λ _. w)
+    ((sym e ∙ z .0 .0, w .long, w .low, kept-behind (length (b .s .now)) (omega arith) w), λ _. w)
 
 pub row-at-spec : {M : Type 1} → statement M
 row-at-spec =

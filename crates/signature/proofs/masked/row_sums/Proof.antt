@@ -6,10 +6,13 @@ use native.Mathlib.Omega.{arith}
 use Rattle.ring.specs.Transform.{ntt}
 use Rattle.sharing.specs.Blocks.{build}
 use Rattle.sharing.specs.Region.{sub, Wrote}
+use lib.ListN.{length}
 use Rattle.sharing.proofs.Lists.{inside}
+use Rattle.sharing.proofs.Regions.{kept-behind, kept-then}
 use Rattle.signature.specs.Matrix.{buildAll, matrixAt, filled, rowEntry}
 use Rattle.signature.specs.Masked.{rowSum}
-use Rattle.signature.proofs.Checks.{absurd-bool, held-ok}
+use Rattle.ring.proofs.Checks.{absurd-bool}
+use Rattle.ring.proofs.Filled.{held-ok}
 use Rattle.signature.proofs.Entries.{all-none, all-more, all-not}
 use Rattle.signature.proofs.Rows.{row-first, row-turn, row-all}
 use borrow.Author.Needs.{needs}
@@ -43,10 +46,7 @@ returns c =
     let l = c .before .before .before .before .loop in
     let z = c .before .before .entry .ensures .0 in
     let f = matrixAt (b .seed .now) (b .i) in
-    ((sym (all-not (b .l) (l .m) f (c .before .before .before .loop-test .taken) (sym (held-ok (f (l .m))) ∙ ap (λ r. r .ok) (sym z) ∙ not-true _ (c .if1 .taken))), l .inv .2 .long ∙ c .before .before .before .before .before .before .before .clear-at .ensures .long, l .inv .2 .low), λ e. absurd-bool (sym e))
-
-ntt-requires : tie.Need-ntt-requires Inv-loop μ-loop
-ntt-requires c κs = c .before .before .before .entry .ensures .1
+    ((sym (all-not (b .l) (l .m) f (c .before .before .before .loop-test .taken) (sym (held-ok (f (l .m))) ∙ ap (λ r. r .ok) (sym z) ∙ not-true _ (c .if1 .taken))), l .inv .2 .long ∙ c .before .before .before .before .before .before .before .clear-at .ensures .long, l .inv .2 .low, kept-then (kept-behind (length (b .s .now)) (omega arith) (c .before .before .before .before .before .before .before .clear-at .ensures)) (kept-behind (length (b .s .now)) (omega arith) (l .inv .2))), λ e. absurd-bool (sym e))
 
 mul-add-products : tie.Need-mul-add-products Inv-loop μ-loop
 mul-add-products c =
@@ -92,10 +92,10 @@ returns-2 c =
     let e : l .m ≡ b .l = omega arith in
     let z = c .before .before .before .before .clear-at .ensures in
     let w = row-all (b .d) (b .l) (b .to) (b .at) (rowEntry (b .seed .now) (b .i)) (a .pre .0) (l .m) (b .s .now) _ (l .s) e z (l .inv .2) in
-    ((sym (l .inv .1) ∙ ap (λ n. filled (buildAll n (matrixAt (b .seed .now) (b .i)))) e, w .long, w .low), λ _. w)
+    ((sym (l .inv .1) ∙ ap (λ n. filled (buildAll n (matrixAt (b .seed .now) (b .i)))) e, w .long, w .low, kept-behind (length (b .s .now)) (omega arith) w), λ _. w)
 
 pub row-sums-spec : {M : Type 1} → statement M
 row-sums-spec =
     tie.close (tie.spec Inv-loop μ-loop clear-at-requires loop-holds entry-requires (λ c. search needs) returns
-    ntt-requires mul-add-products mul-add-products-2 add-add-products add-products-requires (λ c. search needs)
+    (λ c κs. search needs) mul-add-products mul-add-products-2 add-add-products add-products-requires (λ c. search needs)
     (λ c. search needs) loop-again (λ c. search needs) returns-2)

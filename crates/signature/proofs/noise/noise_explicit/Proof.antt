@@ -1,4 +1,4 @@
-use mathlib.Core.Path.{_≡_, _∙_, ap}
+use mathlib.Core.Path.{_≡_, ap, _∙_}
 use Prim.Native.Nat.{ℕ, _+_, _*_}
 use native.Mathlib.Omega.{arith}
 use Rattle.signature.proofs.Masking.{noise-made, skip-two}
@@ -12,21 +12,19 @@ use Rattle.signature.proofs.noise.noise_explicit.Tie as tie
 zero-vector-requires : tie.Need-zero-vector-requires
 zero-vector-requires c κs =
     let a = c .before .before .before in
-    let p = a .pre .1 in
-    (a .pre .0, (p .0, p .1, p .2))
+    (a .pre .0 .0 .count, a .pre .1 .1, a .pre .1 .2)
 
 explicit-vector-requires : tie.Need-explicit-vector-requires
 explicit-vector-requires c κs =
     let a = c .before .before .before .before .before .before .before in
+    let h = a .pre .0 in
     let p = a .pre .1 in
     let u = c .before .before .before .zero-vector .ensures .0 in
     let n = u .long in
-    (a .pre .0, (p .0, omega (arith, n, p .1), u .low, p .3, p .4))
+    ((h .0 .count, p .0, omega (arith, n, p .1), u .low), (h .1, h .2))
 
 mul-ntt-vector : tie.Need-mul-ntt-vector
-mul-ntt-vector c =
-    let p = c .before .before .before .before .before .before .before .before .before .before .before .pre .1 in
-    omega (arith, p .1)
+mul-ntt-vector c = omega (arith, c .before .before .before .before .before .before .before .before .before .before .before .pre .1 .1)
 
 ntt-vector-requires : tie.Need-ntt-vector-requires
 ntt-vector-requires c κs =
@@ -38,11 +36,12 @@ ntt-vector-requires c κs =
 returns : tie.Need-returns
 returns c =
     let b = c .before .before .before .before .before .before .before .before .before .before .before .before .before .before .args in
+    let p = b .p in
     let x = c .before .before .before .before .before .before .before .before .before .before .zero-vector .ensures in
     let y = c .before .before .before .before .before .before .explicit-vector .ensures in
-    let n = skip-two (b .d) (b .l) (b .l) (b .g) _ _ (x .1) (y .1) in
-    let m : b .l + b .l ≡ b .l + b .l * 1 = omega arith in
-    (noise-made (b .l) (b .d) 1 (b .at) (explicitNoise (b .d) (b .words .now)) (b .g) _ (b .s .now) _ _ _ (x .1) (x .0) (y .0) (c .before .before .ntt-vector .ensures), n ∙ ap (λ (k : ℕ). skip masks (b .d) k (b .g)) m)
+    let m : p .l + p .l ≡ p .l + p .l * 1 = omega arith in
+    let n = skip-two (p .shares) (p .l) (p .l) (b .g) _ _ (x .1) (y .1) ∙ ap (λ (k : ℕ). skip masks (p .shares) k (b .g)) m in
+    (noise-made (p .l) (p .shares) 1 (b .at) (explicitNoise (p .shares) (b .words .now)) (b .g) _ (b .s .now) _ _ _ (x .1) (x .0) (y .0) (c .before .before .ntt-vector .ensures), n)
 
 pub noise-explicit-spec : {M : Type 1} → statement M
 noise-explicit-spec =

@@ -12,7 +12,7 @@ use Rattle.signature.proofs.recover.recover_row.Reads as reads
 use Rattle.signature.proofs.recover.recover_row.Lts as lts
 use Rattle.sharing.proofs.region.sub_at.Reads as sub-at-reads
 use Rattle.signature.proofs.masked.row_at.Reads as row-at-reads
-use Rattle.signature.proofs.Checks.{absurd-bool}
+use Rattle.ring.proofs.Checks.{absurd-bool}
 use Rattle.signature.proofs.recover.scaled_product.Reads as scaled-product-reads
 
 row-at-requires : tie.Need-row-at-requires

@@ -4,16 +4,16 @@ use borrow.Author.Needs.{sfits-of}
 use Prim.Native.Nat.{ℕ}
 use lib.Dec.{lit<}
 use Rattle.ring.proofs.Sums.{length-zip, zip-at, below-at}
-use mathlib.Core.Path.{_≡_, refl, ap, sym, _∙_}
+use mathlib.Core.Path.{_≡_, ap, sym, _∙_}
 use Prim.Native.Nat.{_+_, _-_, _<_, _≤_, _%_}
 use native.Mathlib.Omega.{arith}
 use lib.IntN.{pos}
 use lib.ListN.{length, getD, take, length-set}
-use Rattle.ring.specs.Words.{Below, zipTo}
+use Rattle.ring.specs.Words.{zipTo}
 use Rattle.ring.specs.Round.{residue, residues}
 use Rattle.ring.proofs.Pairs.{take-turn, take-end}
 use Rattle.signature.specs.Recover.{add31}
-use Rattle.signature.proofs.Reduced.{length-residues, residues-at}
+use Rattle.ring.proofs.Reduced.{length-residues, residues-at}
 use borrow.Author.Needs.{needs}
 use Rattle.signature.proofs.residues.adjust.Statement.{statement}
 use Rattle.signature.proofs.residues.adjust.Tie as tie

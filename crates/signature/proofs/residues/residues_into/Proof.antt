@@ -1,16 +1,14 @@
 use mir.Syntax.{w64}
 use mir.ValLaws.{toZ-ofZ}
 use borrow.Author.Needs.{sfits-of}
-use lib.IntN.{natAbs}
-use mathlib.Core.Path.{_≡_, refl, ap, sym, _∙_}
-use Prim.Native.Nat.{_+_, _-_, _<_, _≤_}
+use mathlib.Core.Path.{_≡_, ap, sym, _∙_}
+use Prim.Native.Nat.{_-_, _<_, _≤_}
 use native.Mathlib.Omega.{arith}
 use lib.IntN.{pos}
 use lib.ListN.{length, getD, take, length-set}
-use Rattle.ring.specs.Words.{Below}
 use Rattle.ring.specs.Round.{residue, residues}
 use Rattle.ring.proofs.Pairs.{take-turn, take-end}
-use Rattle.signature.proofs.Reduced.{length-residues, residues-at}
+use Rattle.ring.proofs.Reduced.{length-residues, residues-at}
 use borrow.Author.Needs.{needs}
 use Rattle.signature.proofs.residues.residues_into.Statement.{statement}
 use Rattle.signature.proofs.residues.residues_into.Tie as tie

@@ -9,19 +9,20 @@ use Rattle.signature.proofs.respond.renew.Tie as tie
 refresh-vector-requires-2 : tie.Need-refresh-vector-requires-2
 refresh-vector-requires-2 c κs =
     let a = c .before .before .before .before .before .before .before .before .before .before in
-    let p = a .pre .1 in
+    let p = a .pre in
     let v = c .before .before .before .intt-vector .ensures in
     let n = v .long ∙ c .before .before .before .before .before .before .before .refresh-vector .ensures .0 .long in
-    (a .pre .0, (omega (arith, p .0, p .1), omega (arith, n, p .2), v .low))
+    (p .0, omega (arith, p .1, p .2), omega (arith, n, p .3), v .low)
 
 returns : tie.Need-returns
 returns c =
     let a = c .before .before .before .before .before .before .before .before .before .before .before .before .before in
     let b = a .args in
-    let p = a .pre .1 in
+    let p = a .pre in
+    let r = b .p in
     let x = c .before .before .before .before .before .before .before .before .before .before .refresh-vector .ensures in
     let z = c .before .before .refresh-vector2 .ensures in
-    (renew-made (b .l) (b .d) (b .a) (b .b) (b .g) _ (b .s .now) _ _ _ (p .0) (p .1) (x .1) (x .0) (c .before .before .before .before .before .before .intt-vector .ensures) (z .0), skip-two (b .d) (b .l) (b .l) (b .g) _ _ (x .1) (z .1))
+    (renew-made (r .l) (r .shares) (b .a) (b .b) (b .g) _ (b .s .now) _ _ _ (p .1) (p .2) (x .1) (x .0) (c .before .before .before .before .before .before .intt-vector .ensures) (z .0), skip-two (r .shares) (r .l) (r .l) (b .g) _ _ (x .1) (z .1))
 
 pub renew-spec : {M : Type 1} → statement M
 renew-spec =

@@ -8,31 +8,31 @@ use Rattle.signature.proofs.respond.respond.Tie as tie
 renew-requires : tie.Need-renew-requires
 renew-requires c κs =
     let a = c .before .before in
-    let p = a .pre .1 in
-    let h = p .0 in
-    (a .pre .0, (omega arith, omega arith, omega arith, p .1))
+    let p = a .pre in
+    let h = p .1 in
+    (p .0, omega arith, omega arith, omega arith, p .2)
 
 respond-vector-requires : tie.Need-respond-vector-requires
 respond-vector-requires c κs =
     let a = c .before .before .before .before .before .before in
-    let p = a .pre .1 in
-    let h = p .0 in
+    let p = a .pre in
+    let h = p .1 in
     let u = c .before .before .before .renew .ensures .0 in
     let n = u .long in
-    (omega arith, omega arith, u .low, p .2)
+    (omega arith, omega arith, u .low, p .3)
 
 refresh-vector-requires : tie.Need-refresh-vector-requires
 refresh-vector-requires c κs =
     let a = c .before .before .before .before .before .before .before .before .before .before in
-    let h = a .pre .1 .0 in
+    let h = a .pre .1 in
     let v = c .before .before .before .respond-vector .ensures in
     let n = v .long ∙ c .before .before .before .before .before .before .before .renew .ensures .0 .long in
-    (a .pre .0, (omega arith, omega (arith, n, h), v .low))
+    (a .pre .0, omega arith, omega (arith, n, h), v .low)
 
 decode-vector-requires : tie.Need-decode-vector-requires
 decode-vector-requires c κs =
     let a = c .before .before .before .before .before .before .before .before .before .before .before .before .before .before in
-    let h = a .pre .1 .0 in
+    let h = a .pre .1 in
     let w = c .before .before .before .refresh-vector .ensures .0 in
     let n = w .long ∙ c .before .before .before .before .before .before .before .respond-vector .ensures .long ∙ c .before .before .before .before .before .before .before .before .before .before .before .renew .ensures .0 .long in
     (omega arith, omega (arith, n, h), w .low)
@@ -41,7 +41,7 @@ returns : tie.Need-returns
 returns c =
     let b = c .before .before .before .before .before .before .before .before .before .before .before .before .before .before .before .before .before .args in
     let u = c .before .before .before .before .before .before .before .before .before .before .before .before .before .before .renew .ensures in
-    respond-made (b .k) (b .l) (b .d) (b .c) (b .g) _ (b .work .now) _ _ _ _ (u .1) (u .0) (c .before .before .before .before .before .before .before .before .before .before .respond-vector .ensures) (c .before .before .before .before .before .before .refresh-vector .ensures .0) (c .before .before .decode-vector .ensures)
+    respond-made (b .p .k) (b .p .l) (b .p .shares) (b .c) (b .g) _ (b .work .now) _ _ _ _ (u .1) (u .0) (c .before .before .before .before .before .before .before .before .before .before .respond-vector .ensures) (c .before .before .before .before .before .before .refresh-vector .ensures .0) (c .before .before .decode-vector .ensures)
 
 pub respond-spec : {M : Type 1} → statement M
 respond-spec =

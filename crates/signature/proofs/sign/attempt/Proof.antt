@@ -5,17 +5,15 @@ use native.Mathlib.Omega.{arith}
 use lib.ListN.{length, replicate}
 use borrow.Author.Tests.{not-true, not-false}
 use borrow.Rule.Slice.PartMut.{mid-len}
-use Rattle.ring.specs.Uniform.{heldOf}
 use Rattle.sharing.specs.Region.{sub}
 use Rattle.signature.specs.Attempt.{coinsOf}
 use Rattle.signature.specs.Keygen.{atS}
 use Rattle.signature.specs.Keys.{vkSeed}
 use Rattle.signature.specs.Matrix.{matrix, filled}
 use Rattle.signature.specs.Sign.{noiseAt, maskAt}
-use Rattle.signature.specs.SignSteps.{publicBy}
-use Rattle.signature.proofs.AttemptEnds.{seed-front, answered-all, hash-long, commitment-low, ended-stuck, ended-made, ended-over, over-same}
-use Rattle.signature.proofs.Attempts.{left-key}
-use Rattle.signature.proofs.Checks.{filled-some, not-filled}
+use Rattle.signature.proofs.AttemptEnds.{seed-front, answered-all, hash-long, commitment-low, shares-idle, ended-stuck, ended-made, ended-over, over-same, shares-spent, status-filled, status-unfilled}
+use Rattle.ring.proofs.Filled.{not-filled}
+use Rattle.signature.proofs.Sizes.{room}
 use Rattle.signature.proofs.Fronts.{front-in, front-is}
 use borrow.Author.Needs.{needs}
 use Rattle.signature.proofs.sign.attempt.Statement.{statement}
@@ -26,7 +24,8 @@ returns c =
     let b = c .before .before .before .before .before .before .before .before .before .before .before .before .before .before .before .before .args in
     let z = c .before .before .before .before .commit .ensures in
     let e = ap (λ (l : List ℕ). filled (matrix (b .p) l)) (sym (seed-front (b .p) (b .vk .now))) in
-    ((z .0 .1, z .0 .2), (not-filled (matrix (b .p) (vkSeed (b .p) (b .vk .now))) (e ∙ sym (z .0 .0) ∙ not-true _ (c .if1 .taken)), refl))
+    let no = not-filled (matrix (b .p) (vkSeed (b .p) (b .vk .now))) (e ∙ sym (z .0 .0) ∙ not-true _ (c .if1 .taken)) in
+    ((z .0 .1, z .0 .2), (record { status = status-unfilled _ _ no; values = (no, refl) }, z .0 .3))
 
 part-hash-end : tie.Need-part-hash-end
 part-hash-end c =
@@ -51,7 +50,10 @@ returns-2 c =
     let e = seed-front p (b .vk .now) in
     let fill = ap (λ (l : List ℕ). filled (matrix p l)) (sym e) ∙ sym (z .0 .0) ∙ not-false _ (c .before .before .before .before .before .before .before .before .if1 .left) in
     let u = answered-all p (b .vk .now) (b .mu .now) (noiseAt p T (b .a)) (maskAt T (b .a)) _ _ (b .work .now) _ _ _ _ e (z .1) (v .1) in
-    ((v .0 .0 ∙ z .0 .1, v .0 .1), (fill, ended-stuck p (b .vk .now) (b .mu .now) (noiseAt p T (b .a)) (maskAt T (b .a)) (sub (b .work .now) (atS (p .shares)) (p .l * (p .shares * 512))) _ _ _ fill u (not-true _ (c .if2 .taken)), refl))
+    let s = sub (b .work .now) (atS (p .shares)) (p .l * (p .shares * 512)) in
+    let no = not-true _ (c .if2 .taken) in
+    let m = ended-stuck p (b .vk .now) (b .mu .now) (noiseAt p T (b .a)) (maskAt T (b .a)) s _ _ _ fill u no in
+    ((v .0 .0 ∙ z .0 .1, v .0 .1), (record { status = status-filled _ _ _ fill m; values = (fill, m, refl) }, shares-idle p (b .vk .now) (b .mu .now) (noiseAt p T (b .a)) (maskAt T (b .a)) s _ _ _ fill u no))
 
 part-finish-end : tie.Need-part-finish-end
 part-finish-end c =
@@ -98,7 +100,11 @@ returns-3 c =
     let u = answered-all p (b .vk .now) (b .mu .now) (noiseAt p T (b .a)) (maskAt T (b .a)) _ _ (b .work .now) _ _ _ _ e (z .1) (v .1) in
     let n = hash-long p (b .vk .now) (b .mu .now) (noiseAt p T (b .a)) (maskAt T (b .a)) s _ _ _ fill u in
     let H = front-is (p .kappa / 4) (replicate 64 0) (c .before .before .before .before .before .before .before .before .before .before .before .before .before .before .before .before .answer .last .1 .1 .1 .0) (a .pre .0 .0 .hash-low) n in
-    ((f .0 .0 ∙ v .0 .0 ∙ z .0 .1, f .0 .1), (fill, ended-made p (b .vk .now) (b .mu .now) (noiseAt p T (b .a)) (maskAt T (b .a)) s _ _ _ fill u (not-false _ (c .before .before .before .before .before .before .before .before .before .before .before .if2 .left)) _ H _ _ _ (f .1) (c .if3 .taken)))
+    let ok = not-false _ (c .before .before .before .before .before .before .before .before .before .before .before .if2 .left) in
+    let m = ended-made p (b .vk .now) (b .mu .now) (noiseAt p T (b .a)) (maskAt T (b .a)) s _ _ _ fill u ok _ H _ _ _ (f .1) (c .if3 .taken) in
+    let l = room p (a .pre .0 .1) (length (b .work .now)) (a .pre .0 .2) .1 in
+    let h = shares-spent p (b .vk .now) (b .mu .now) (noiseAt p T (b .a)) (maskAt T (b .a)) s _ _ _ fill u ok _ H _ _ _ (f .1) _ _ (omega (arith, l, v .0 .0, z .0 .1)) (f .0 .2) (f .0 .3) in
+    ((f .0 .0 ∙ v .0 .0 ∙ z .0 .1, f .0 .1), (record { status = status-filled _ _ _ fill m; values = (fill, m) }, h))
 
 returns-4 : tie.Need-returns-4
 returns-4 c =
@@ -118,9 +124,11 @@ returns-4 c =
     let n = hash-long p (b .vk .now) (b .mu .now) N g s _ _ _ fill u in
     let H = front-is (p .kappa / 4) (replicate 64 0) (c .before .before .before .before .before .before .before .before .before .before .before .before .before .before .before .before .answer .last .1 .1 .1 .0) (a .pre .0 .0 .hash-low) n in
     let ok = not-false _ (c .before .before .before .before .before .before .before .before .before .before .before .if2 .left) in
-    let A = heldOf (matrix p (vkSeed p (b .vk .now))) .poly in
-    let k = left-key p (publicBy p (b .vk .now) (b .mu .now) A) N g s _ _ _ (u A (filled-some (matrix p (vkSeed p (b .vk .now))) fill)) ok in
-    ((f .0 .0 ∙ v .0 .0 ∙ z .0 .1, f .0 .1), (fill, ended-over p (b .vk .now) (b .mu .now) N g s _ _ _ fill u ok _ H _ _ _ (f .1) (c .if3 .left), f .0 .2 ∙ k, over-same p (b .vk .now) (b .mu .now) N g s _ _ _ fill u ok _ H _ _ _ (f .1) (c .if3 .left)))
+    let m = ended-over p (b .vk .now) (b .mu .now) N g s _ _ _ fill u ok _ H _ _ _ (f .1) (c .if3 .left) in
+    let l = room p (a .pre .0 .1) (length (b .work .now)) (a .pre .0 .2) .1 in
+    let h = shares-spent p (b .vk .now) (b .mu .now) N g s _ _ _ fill u ok _ H _ _ _ (f .1) _ _ (omega (arith, l, v .0 .0, z .0 .1)) (f .0 .2) (f .0 .3) in
+    let o = over-same p (b .vk .now) (b .mu .now) N g s _ _ _ fill u ok _ H _ _ _ (f .1) (c .if3 .left) in
+    ((f .0 .0 ∙ v .0 .0 ∙ z .0 .1, f .0 .1), (record { status = status-filled _ _ _ fill m; values = (fill, m, h .key, o) }, h))
 
 pub attempt-spec : {M : Type 1} → statement M
 attempt-spec =

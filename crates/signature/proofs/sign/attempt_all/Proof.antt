@@ -51,6 +51,10 @@ cast-t19 c =
     let b = c .before .before .before .before .before .before .before .before .before .before .before .before .before .before .before .before .before .before in
     omega (arith, c .before .before .before .before .before .before .before .before .before .loop-test .taken, b .pre .1 .1 .1)
 
+same-length-2 : tie.Need-same-length-2 Inv-loop μ-loop
+same-length-2 c =
+    c .before .before .before .before .before .before .attempt .kept .1 .1 .1 .1 .1 .1 .1 .1 .1 .0 ∙ ap (λ (l : List ℕ). length l) (c .before .before .before .before .before .before .before .before .before .before .loop .inv .3)
+
 returns : tie.Need-returns Inv-loop μ-loop
 returns c =
     let a = c .before .before .before .before .before .before .before .before .before .before .before .before .before .before .before .before .before .before in
@@ -58,7 +62,7 @@ returns c =
     let i = c .before .before .before .before .before .before .before .before .before .before .loop .inv in
     let v = c .before .before .before .before .before .before .attempt .ensures in
     let T = coinsOf (b .explicit) (b .seeds .now) (b .noise .now) (b .mask-seeds .now) in
-    (v .0 .0 ∙ i .1, λ (msg : List ℕ) e. all-pass (b .p) (b .vk .now) (b .mu .now) msg T (b .n) _ (b .out .now) e (c .before .before .before .before .before .before .before .before .before .before .loop .a) _ (i .5) (c .before .before .before .before .before .before .before .before .before .loop-test .taken) _ _ _ _ (i .3) (v .1) (c .enum-told .given .1))
+    (v .0 .0 ∙ i .1, λ (msg : List ℕ) e. all-pass (b .p) (b .vk .now) (b .mu .now) msg T (b .n) _ (b .out .now) e (c .before .before .before .before .before .before .before .before .before .before .loop .a) _ (i .5) (c .before .before .before .before .before .before .before .before .before .loop-test .taken) _ _ _ _ (i .3) (v .1 .0) (c .enum-told .given .1))
 
 loop-less : tie.Need-loop-less Inv-loop μ-loop
 loop-less c = omega (arith, c .before .before .before .before .before .before .before .before .before .loop-test .taken)
@@ -70,13 +74,17 @@ loop-again c =
     let i = c .before .before .before .before .before .before .before .before .before .before .loop .inv in
     let v = c .before .before .before .before .before .before .attempt .ensures in
     let T = coinsOf (b .explicit) (b .seeds .now) (b .noise .now) (b .mask-seeds .now) in
-    let n = all-next (b .p) (b .vk .now) (b .mu .now) T (b .n) (c .before .before .before .before .before .before .before .before .before .before .loop .a) _ _ (b .out .now) (i .5) (c .before .before .before .before .before .before .before .before .before .loop-test .taken) _ _ _ _ (i .3) (v .1) (c .enum-told2 .given .1) in
+    let n = all-next (b .p) (b .vk .now) (b .mu .now) T (b .n) (c .before .before .before .before .before .before .before .before .before .before .loop .a) _ _ (b .out .now) (i .5) (c .before .before .before .before .before .before .before .before .before .loop-test .taken) _ _ _ _ (i .3) (v .1 .0) (c .enum-told2 .given .1) in
     (omega (arith, c .before .before .before .before .before .before .before .before .before .loop-test .taken), v .0 .0 ∙ i .1, v .0 .1, n .0, λ o. n .1, n .2)
 
 cast-t21 : tie.Need-cast-t21 Inv-loop μ-loop
 cast-t21 c =
     let b = c .before .before .before .before .before .before .before .before .before .before .before .before .before .before .before .before .before .before in
     omega (arith, c .before .before .before .before .before .before .before .before .before .loop-test .taken, b .pre .1 .1 .1)
+
+same-length-4 : tie.Need-same-length-4 Inv-loop μ-loop
+same-length-4 c =
+    c .before .before .before .before .before .before .attempt .kept .1 .1 .1 .1 .1 .1 .1 .1 .1 .0 ∙ ap (λ (l : List ℕ). length l) (c .before .before .before .before .before .before .before .before .before .before .loop .inv .3)
 
 returns-2 : tie.Need-returns-2 Inv-loop μ-loop
 returns-2 c =
@@ -85,7 +93,11 @@ returns-2 c =
     let i = c .before .before .before .before .before .before .before .before .before .before .loop .inv in
     let v = c .before .before .before .before .before .before .attempt .ensures in
     let T = coinsOf (b .explicit) (b .seeds .now) (b .noise .now) (b .mask-seeds .now) in
-    (v .0 .0 ∙ i .1, λ (msg : List ℕ) e. all-stuck (b .p) (b .vk .now) (b .mu .now) msg T (b .n) _ (b .out .now) e (c .before .before .before .before .before .before .before .before .before .before .loop .a) _ (i .5) (c .before .before .before .before .before .before .before .before .before .loop-test .taken) _ _ _ _ (i .3) (v .1) (c .enum-told3 .given .1))
+    (v .0 .0 ∙ i .1, λ (msg : List ℕ) e. all-stuck (b .p) (b .vk .now) (b .mu .now) msg T (b .n) _ (b .out .now) e (c .before .before .before .before .before .before .before .before .before .before .loop .a) _ (i .5) (c .before .before .before .before .before .before .before .before .before .loop-test .taken) _ _ _ _ (i .3) (v .1 .0) (c .enum-told3 .given .1))
+
+same-length-6 : tie.Need-same-length-6 Inv-loop μ-loop
+same-length-6 c =
+    c .before .before .before .before .before .before .attempt .kept .1 .1 .1 .1 .1 .1 .1 .1 .1 .0 ∙ ap (λ (l : List ℕ). length l) (c .before .before .before .before .before .before .before .before .before .before .loop .inv .3)
 
 returns-3 : tie.Need-returns-3 Inv-loop μ-loop
 returns-3 c =
@@ -94,7 +106,7 @@ returns-3 c =
     let i = c .before .before .before .before .before .before .before .before .before .before .loop .inv in
     let v = c .before .before .before .before .before .before .attempt .ensures in
     let T = coinsOf (b .explicit) (b .seeds .now) (b .noise .now) (b .mask-seeds .now) in
-    (v .0 .0 ∙ i .1, λ (msg : List ℕ) e. all-unfilled (b .p) (b .vk .now) (b .mu .now) msg T (b .n) _ (b .out .now) e (c .before .before .before .before .before .before .before .before .before .before .loop .a) _ (i .5) (c .before .before .before .before .before .before .before .before .before .loop-test .taken) _ _ _ _ (i .3) (v .1) (c .enum-told4 .given .1))
+    (v .0 .0 ∙ i .1, λ (msg : List ℕ) e. all-unfilled (b .p) (b .vk .now) (b .mu .now) msg T (b .n) _ (b .out .now) e (c .before .before .before .before .before .before .before .before .before .before .loop .a) _ (i .5) (c .before .before .before .before .before .before .before .before .before .loop-test .taken) _ _ _ _ (i .3) (v .1 .0) (c .enum-told4 .given .1))
 
 cast-t22 : tie.Need-cast-t22 Inv-loop μ-loop
 cast-t22 c =
@@ -115,7 +127,6 @@ returns-4 c =
 pub attempt-all-spec : {M : Type 1} → statement M
 attempt-all-spec =
     tie.close (tie.spec Inv-loop μ-loop loop-holds attempt-requires (λ c. search needs) (λ c. search needs) cast-t19
-    (λ c. search needs) (λ c. search needs) returns (λ c. search needs) (λ c. search needs) loop-less loop-again
-    (λ c. search needs) (λ c. search needs) cast-t21 (λ c. search needs) (λ c. search needs) returns-2
-    (λ c. search needs) (λ c. search needs) (λ c. search needs) returns-3 cast-t22 (λ c. search needs)
-    (λ c. search needs) returns-4)
+    (λ c. search needs) same-length-2 returns (λ c. search needs) (λ c. search needs) loop-less loop-again
+    (λ c. search needs) (λ c. search needs) cast-t21 (λ c. search needs) same-length-4 returns-2 (λ c. search needs)
+    (λ c. search needs) same-length-6 returns-3 cast-t22 (λ c. search needs) (λ c. search needs) returns-4)

@@ -11,7 +11,7 @@ use Rattle.signature.specs.Attempt.{keyFrom, coinsOf}
 use Rattle.signature.specs.Keygen.{atS}
 use Rattle.signature.specs.Keys.{vkVector}
 use Rattle.signature.specs.SignCalls.{sharesOf, signing}
-use Rattle.signature.proofs.Checks.{filled-some}
+use Rattle.ring.proofs.Filled.{filled-some}
 use Rattle.signature.proofs.Fronts.{bound-in, bound-is}
 use Rattle.signature.proofs.SignChecks.{signable}
 use Rattle.signature.proofs.SignEnds.{public-front, public-in, public-long, public-good, end-unfilled, end-made}

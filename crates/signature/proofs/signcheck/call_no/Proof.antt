@@ -3,7 +3,7 @@ use lib.Dec.{eqb, leb}
 use lib.ListN.{length}
 use borrow.Author.Tests.{not-true, not-false, le-leb, lt-leb, eq-eqb, ne-eqb}
 use Rattle.signature.specs.SignSteps.{callNo}
-use Rattle.signature.proofs.Checks.{no-here, yes-here, left-no, right-no, both-yes}
+use Rattle.ring.proofs.Checks.{no-here, yes-here, left-no, right-no, both-yes}
 use borrow.Author.Needs.{needs}
 use Rattle.signature.proofs.signcheck.call_no.Statement.{statement}
 use Rattle.signature.proofs.signcheck.call_no.Tie as tie

@@ -6,7 +6,7 @@ use borrow.Author.Tests.{not-true, not-false}
 use Rattle.signature.specs.Keys.{vkVector}
 use Rattle.signature.specs.SignSteps.{keyNo}
 use Rattle.signature.proofs.Asked.{sizes}
-use Rattle.signature.proofs.Checks.{no-here, yes-here}
+use Rattle.ring.proofs.Checks.{no-here, yes-here}
 use Rattle.signature.proofs.Expanded.{words-few}
 use borrow.Author.Needs.{needs}
 use Rattle.signature.proofs.signcheck.expanded_no.Statement.{statement}

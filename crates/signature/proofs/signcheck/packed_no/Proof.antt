@@ -5,8 +5,8 @@ use borrow.Author.Tests.{not-true, not-false, eq-eqb, ne-eqb}
 use Rattle.ring.specs.Words.{q, allBelow}
 use Rattle.signature.specs.Keys.{vkVector, fullShare}
 use Rattle.signature.specs.SignSteps.{keyNo}
-use Rattle.signature.proofs.Checks.{no-here, yes-here}
-use Rattle.signature.proofs.Expanded.{tail-is}
+use Rattle.ring.proofs.Checks.{no-here, yes-here}
+use Rattle.signature.proofs.Sizes.{part-all}
 use borrow.Author.Needs.{needs}
 use Rattle.signature.proofs.signcheck.packed_no.Statement.{statement}
 use Rattle.signature.proofs.signcheck.packed_no.Tie as tie
@@ -25,7 +25,7 @@ returns-3 c =
     let a = c .before .before .before .before .before .before .before .before .before .args in
     yes-here 3 (eq-eqb _ _ (c .before .before .before .before .before .before .if1 .left))
     (yes-here 4 (sym (c .before .before .before .before .public-key-good .ensures) ∙ not-false _ (c .before .before .before .if2 .left))
-    (no-here 5 _ (sym (c .before .full-share-good .ensures ∙ ap (λ (l : List ℕ). allBelow q (fullShare (a .p) l)) (tail-is (a .key .now) (a .p .«vk_bytes»))) ∙ not-true _ (c .if3 .taken))))
+    (no-here 5 _ (sym (c .before .full-share-good .ensures ∙ ap (λ (l : List ℕ). allBelow q (fullShare (a .p) l)) (part-all (a .p .«vk_bytes») (a .key .now))) ∙ not-true _ (c .if3 .taken))))
 
 returns-4 : tie.Need-returns-4
 unfolding keyNo vkVector
@@ -33,7 +33,7 @@ returns-4 c =
     let a = c .before .before .before .before .before .before .before .before .before .args in
     yes-here 3 (eq-eqb _ _ (c .before .before .before .before .before .before .if1 .left))
     (yes-here 4 (sym (c .before .before .before .before .public-key-good .ensures) ∙ not-false _ (c .before .before .before .if2 .left))
-    (yes-here 5 (sym (c .before .full-share-good .ensures ∙ ap (λ (l : List ℕ). allBelow q (fullShare (a .p) l)) (tail-is (a .key .now) (a .p .«vk_bytes»))) ∙ not-false _ (c .if3 .left)) refl))
+    (yes-here 5 (sym (c .before .full-share-good .ensures ∙ ap (λ (l : List ℕ). allBelow q (fullShare (a .p) l)) (part-all (a .p .«vk_bytes») (a .key .now))) ∙ not-false _ (c .if3 .left)) refl))
 
 pub packed-no-spec : {M : Type 1} → statement M
 packed-no-spec =

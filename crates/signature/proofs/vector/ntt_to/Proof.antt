@@ -26,9 +26,6 @@ load-requires c κs = let w = c .before .before .loop .inv .1 in
     let n = w .long in
     (omega (arith, n, inside (c .before .before .loop .i) (c .before .before .before .before .args .n) 512 (c .before .loop-test .taken)), w .low)
 
-ntt-requires : tie.Need-ntt-requires Inv-loop μ-loop
-ntt-requires c κs = c .load .ensures .1
-
 store-at-requires : tie.Need-store-at-requires Inv-loop μ-loop
 store-at-requires c κs = let w = c .before .before .before .before .before .before .loop .inv .1 in
     let n = w .long in
@@ -50,6 +47,5 @@ returns c = let b = c .before .before .before .args in
 
 pub ntt-to-spec : {M : Type 1} → statement M
 ntt-to-spec =
-    tie.close (tie.spec Inv-loop μ-loop loop-holds (λ c. search needs) (λ c. search needs) load-requires ntt-requires
-    (λ c. search needs) (λ c. search needs) store-at-requires (λ c. search needs) (λ c. search needs) loop-again
+    tie.close (tie.spec Inv-loop μ-loop loop-holds (λ c. search needs) (λ c. search needs) load-requires (λ c κs. search needs) (λ c. search needs) (λ c. search needs) store-at-requires (λ c. search needs) (λ c. search needs) loop-again
     (λ c. search needs) returns)

@@ -27,9 +27,6 @@ load-requires c κs =
     let n = c .before .before .loop .inv .1 .long in
     (omega arith, c .before .before .loop .inv .1 .low)
 
-ntt-requires : tie.Need-ntt-requires Inv-loop μ-loop
-ntt-requires c κs = c .load .ensures .1
-
 store-at-requires : tie.Need-store-at-requires Inv-loop μ-loop
 store-at-requires c κs =
     let n = c .before .before .before .before .before .before .loop .inv .1 .long in
@@ -49,5 +46,4 @@ returns c =
 
 pub ntt-vector-spec : {M : Type 1} → statement M
 ntt-vector-spec =
-    tie.close (tie.spec Inv-loop μ-loop loop-holds (λ c. search needs) (λ c. search needs) load-requires ntt-requires
-    store-at-requires (λ c. search needs) (λ c. search needs) loop-again (λ c. search needs) returns)
+    tie.close (tie.spec Inv-loop μ-loop loop-holds (λ c. search needs) (λ c. search needs) load-requires (λ c κs. search needs) store-at-requires (λ c. search needs) (λ c. search needs) loop-again (λ c. search needs) returns)

@@ -9,8 +9,9 @@ use Rattle.ring.specs.Round.{residues}
 use Rattle.ring.proofs.Sums.{length-zip}
 use Rattle.ring.specs.Words.{q, Below, Residues, zipTo}
 use Rattle.sharing.specs.Blocks.{block, build}
-use Rattle.sharing.specs.Region.{sub, put}
+use Rattle.sharing.specs.Region.{sub}
 use Rattle.sharing.proofs.Lists.{inside}
+use Rattle.sharing.proofs.Built.{block-is, build-none}
 use Rattle.sharing.proofs.Regions.{put-back, length-put, length-sub}
 use Rattle.signature.specs.Matrix.{buildAll, matrixAt, matrixOf, filled, rowEntry}
 use Rattle.signature.specs.Recover.{add31, blockZ, recoveredBy, adjustedRows}
@@ -25,7 +26,7 @@ use Rattle.signature.proofs.verify.adjust_rows.Lts as lts
 use Rattle.ring.proofs.poly.round_w.Reads as round-w-reads
 use Rattle.sharing.proofs.region.load.Reads as load-reads
 use Rattle.signature.proofs.recover.recover_row.Reads as recover-row-reads
-use Rattle.signature.proofs.Checks.{absurd-bool}
+use Rattle.ring.proofs.Checks.{absurd-bool}
 use Rattle.signature.proofs.residues.adjust.Reads as adjust-reads
 
 abbrev Inv-loop : tie.InvT-loop
@@ -37,8 +38,7 @@ abbrev μ-loop : tie.MeasureT-loop
 μ-loop s₀ seed k l c t hint w₀ i₀ s w i = k - i
 
 loop-holds : tie.Need-loop-holds Inv-loop μ-loop
-unfolding build
-loop-holds c = let a = c .before .before .before .before in (omega arith, all-none (λ j. buildAll (a .args .l) (matrixAt (a .args .seed .now) j)), refl, a .pre .0 .1, refl, a .pre .1 .0 .3, refl)
+loop-holds c = let a = c .before .before .before .before in (omega arith, all-none (λ j. buildAll (a .args .l) (matrixAt (a .args .seed .now) j)), refl, a .pre .0 .1, refl, a .pre .1 .0 .3, sym (build-none _))
 
 mul-a : tie.Need-mul-a Inv-loop μ-loop
 mul-a c = search needs
@@ -124,7 +124,6 @@ loop-less : tie.Need-loop-less Inv-loop μ-loop
 loop-less c = search needs
 
 loop-again : tie.Need-loop-again Inv-loop μ-loop
-unfolding block
 loop-again c =
     let a = c .before .before .before .before .before .before .before .before .before .before .before .before .before .before .before .before .before .before .before .before in
     let b = a .args in
@@ -143,7 +142,7 @@ loop-again c =
     let Z = sub (b .s .now) 512 (b .l * 512) in
     let r : c .before .before .before .before .before .before .load2 .result ≡ recoveredBy (b .l) (rowEntry (b .seed .now) (l .i)) Z (b .c) (block 512 (l .i) (b .t .now)) =
     c .before .before .before .before .before .before .load2 .ensures .0 ∙ u .new ∙ ap (λ y. recoveredBy (b .l) (rowEntry (b .seed .now) (l .i)) y (b .c) (c .before .before .before .before .before .before .before .before .before .before .before .before .load .result)) (v .4)
-    ∙ ap (recoveredBy (b .l) (rowEntry (b .seed .now) (l .i)) Z (b .c)) (c .before .before .before .before .before .before .before .before .before .before .before .before .load .ensures .0) in (
+    ∙ ap (recoveredBy (b .l) (rowEntry (b .seed .now) (l .i)) Z (b .c)) (c .before .before .before .before .before .before .before .before .before .before .before .before .load .ensures .0 ∙ sym (block-is 512 (l .i) (b .t .now))) in (
       omega (arith, h),
       all-more (l .i) (λ j. buildAll (b .l) (matrixAt (b .seed .now) j)) (v .1) (sym (z .0 .0) ∙ e),
       z .0 .1 ∙ v .2,

@@ -1,5 +1,4 @@
 use mathlib.Core.Path.{_≡_, ap, _∙_}
-use mathlib.Core.List.{List}
 use Prim.Native.Nat.{_+_, _-_, _*_}
 use native.Mathlib.Omega.{arith}
 use Rattle.ring.specs.Words.{q}
@@ -8,7 +7,7 @@ use Rattle.ring.proofs.Signs.{below-residues}
 use Rattle.sharing.specs.Region.{Wrote}
 use Rattle.sharing.proofs.Regions.{put-back, wrote-put}
 use Rattle.signature.specs.Masked.{transformed}
-use Rattle.signature.proofs.Reduced.{length-residues}
+use Rattle.ring.proofs.Reduced.{length-residues}
 use borrow.Author.Needs.{needs}
 use Rattle.signature.proofs.verify.place.Statement.{statement}
 use Rattle.signature.proofs.verify.place.Tie as tie

@@ -1,10 +1,9 @@
 use mathlib.Core.Path.{_≡_, sym, ap, subst, _∙_}
 use mathlib.Core.List.{List}
 use mathlib.Core.Option.{some}
-use Prim.Native.Nat.{ℕ, _+_, _-_, _*_, _/_, _≤_}
+use Prim.Native.Nat.{ℕ, _+_, _-_, _*_, _/_}
 use native.Mathlib.Omega.{arith}
 use lib.ListN.{length, take, drop, replicate}
-use borrow.Rule.Slice.PartMut.{putMid}
 use Rattle.ring.specs.Words.{q, Below, Words}
 use Rattle.ring.specs.Transform.{ntt}
 use Rattle.ring.specs.Round.{residues}
@@ -12,14 +11,13 @@ use Rattle.ring.proofs.Sums.{words-zeros}
 use Rattle.ring.proofs.Signs.{below-residues}
 use Rattle.sharing.specs.Region.{sub}
 use Rattle.signature.specs.Bits.{repack}
-use Rattle.signature.specs.Keys.{seedBytes, vkSeed, vkVector}
+use Rattle.signature.specs.Keys.{vkSeed, vkVector}
 use Rattle.signature.specs.Masked.{transformed}
 use Rattle.signature.specs.Matrix.{matrix, matrixOf, filled}
-use Rattle.signature.specs.Recover.{adjustedRows}
 use Rattle.signature.proofs.Adjusted.{adjusted-all, adjusted-parts}
 use Rattle.signature.proofs.Fronts.{unpacked-in, unpacked-is}
 use Rattle.signature.proofs.Packing.{length-repack}
-use Rattle.signature.proofs.Reduced.{length-residues}
+use Rattle.ring.proofs.Reduced.{length-residues}
 use borrow.Author.Needs.{needs}
 use Rattle.signature.proofs.verify.recompute.Statement.{statement}
 use Rattle.signature.proofs.verify.recompute.Tie as tie
@@ -29,7 +27,7 @@ use Rattle.ring.proofs.poly.from_signed.Reads as from-signed-reads
 use Rattle.ring.proofs.poly.ntt.Reads as ntt-reads
 use Rattle.signature.proofs.bits.unpack.Reads as unpack-reads
 use Rattle.signature.proofs.verify.adjust_rows.Reads as adjust-rows-reads
-use Rattle.signature.proofs.Checks.{some-filled}
+use Rattle.ring.proofs.Filled.{some-filled}
 use Rattle.signature.proofs.verify.place.Reads as place-reads
 
 mul-m : tie.Need-mul-m

@@ -1,23 +1,22 @@
-use mathlib.Core.Path.{_≡_, sym, ap, subst, _∙_}
-use mathlib.Core.Bool.{Bool, true, false}
-use mathlib.Core.List.{List, _++_}
+use mathlib.Core.Path.{_≡_, sym, ap, _∙_}
+use mathlib.Core.Bool.{Bool}
+use mathlib.Core.List.{List}
 use mathlib.Core.Option.{some}
 use Prim.Native.Nat.{ℕ, _-_, _*_, _/_, _≤_}
 use native.Mathlib.Omega.{arith}
-use lib.ListN.{length, take, replicate}
+use lib.ListN.{length, replicate}
 use borrow.Author.Tests.{not-true, not-false}
-use borrow.Rule.Slice.PartMut.{midOf, mid-len}
+use borrow.Rule.Slice.PartMut.{mid-len}
 use Rattle.hash.specs.Lists.{pick}
-use Rattle.hash.specs.Shake.{shake256}
 use Rattle.ring.specs.Words.{q}
 use Rattle.ring.specs.Round.{residues}
 use Rattle.ring.specs.Uniform.{heldOf}
 use Rattle.signature.specs.Answers.{fieldsOf}
-use Rattle.signature.specs.Challenge.{chalPoly, chalHash, chalHeld, headed, ordered}
+use Rattle.signature.specs.Challenge.{chalPoly, chalHeld}
 use Rattle.signature.specs.Checks.{sameBytes}
 use Rattle.signature.specs.Keys.{vkSeed, vkVector}
-use Rattle.signature.specs.Matrix.{matrix, filled}
-use Rattle.signature.specs.Recover.{recovered, adjusted, boundTo}
+use Rattle.signature.specs.Matrix.{matrix}
+use Rattle.signature.specs.Recover.{boundTo}
 use Rattle.signature.specs.Verify.{recomputed, verifyMatrix}
 use Rattle.signature.proofs.Adjusted.{adjusted-long}
 use Rattle.signature.proofs.Fronts.{front-in, front-is, digest-in, digest-is, bound-in, bound-is}
@@ -31,7 +30,7 @@ use Rattle.signature.proofs.challenge.chal_hash.Reads as chal-hash-read
 use Rattle.signature.proofs.challenge.chal_poly.Reads as chal-poly-reads
 use Rattle.signature.proofs.verify.bind.Reads as bind-reads
 use Rattle.signature.proofs.verify.recompute.Reads as recompute-reads
-use Rattle.signature.proofs.Checks.{filled-some}
+use Rattle.ring.proofs.Filled.{filled-some}
 use Rattle.signature.proofs.verify.same_bytes.Reads as same-bytes-reads
 
 mul-n : tie.Need-mul-n
