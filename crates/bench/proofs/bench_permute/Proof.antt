@@ -1,10 +1,11 @@
-use mathlib.Core.Path.{_≡_, refl, ap, _∙_}
+use mathlib.Core.Path.{_≡_, sym, ap}
 use Prim.Native.Nat.{_-_, _≤_}
 use native.Mathlib.Numerals.{add-one}
 use native.Mathlib.Omega.{arith}
 use borrow.Author.Needs.{needs}
 use Rattle.hash.specs.Keccak.{keccakF, lane}
 use Rattle.hash.specs.Shake.{after}
+use Rattle.hash.proofs.Output.{after-none, after-next}
 use Rattle.bench.proofs.bench_permute.Statement.{statement}
 use Rattle.bench.proofs.bench_permute.Tie as tie
 
@@ -15,12 +16,10 @@ abbrev μ-loop : tie.MeasureT-loop
 μ-loop n s₀ i₀ s i = n - i
 
 loop-holds : tie.Need-loop-holds Inv-loop μ-loop
-unfolding after
-loop-holds c = (search needs, refl)
+loop-holds c = (search needs, sym (after-none _))
 
 loop-again : tie.Need-loop-again Inv-loop μ-loop
-unfolding after
-loop-again c = (search needs, rw (add-one, c .permute .ensures) (ap keccakF (c .before .before .loop .inv .1)))
+loop-again c = (search needs, rw (add-one, after-next, c .permute .ensures) (ap keccakF (c .before .before .loop .inv .1)))
 
 returns : tie.Need-returns Inv-loop μ-loop
 returns c =

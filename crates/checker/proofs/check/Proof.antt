@@ -1,5 +1,9 @@
-use mathlib.Core.Path.{_∙_}
+use mathlib.Core.Path.{ap, _∙_}
+use Prim.Native.Nat.{_-_}
 use native.Mathlib.Omega.{arith}
+use lib.ListN.{length, take, drop}
+use Rattle.hash.specs.declared.params.Edition.{Edition}
+use Rattle.signature.specs.Verify.{verifyCall}
 use Rattle.checker.specs.Input.{checkedOf}
 use Rattle.checker.proofs.Parts.{first, last-part, middle}
 use borrow.Author.Needs.{needs}
@@ -12,7 +16,12 @@ returns c =
     let s = c .before .before .before .before .before .before .before .args .input .now in
     let k = c .before .before .before .before .before .least in
     let m = c .before .before .before .before .least2 in
-    c .verify .ensures ∙ cc (first s (k .result) 2256 (k .ensures), last-part s (m .result) 13780 (m .ensures), middle s (k .result) (m .result) 2256 13780 (omega arith) (k .ensures) (m .ensures))
+    let a = k .result in
+    let b = m .result in
+    let v = verifyCall Edition.Printed 128 in
+    c .verify .ensures ∙ ap (λ x. v x (take (length s - b) (drop b s)) (take (b - a) (drop a s))) (first s a 2256 (k .ensures))
+    ∙ ap (λ x. v (take 2256 s) x (take (b - a) (drop a s))) (last-part s b 13780 (m .ensures))
+    ∙ ap (v (take 2256 s) (drop 13780 s)) (middle s a b 2256 13780 (omega arith) (k .ensures) (m .ensures))
 
 pub check-spec : {M : Type 1} → statement M
 check-spec =
