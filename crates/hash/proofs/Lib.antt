@@ -2,6 +2,7 @@ pub mod Computed
 pub mod Flat
 pub mod Laid
 pub mod Lanes
+pub mod Moves
 pub mod Open
 pub mod Output
 pub mod Paste

@@ -7,6 +7,7 @@ use lib.Dec.{ltb}
 use lib.Bits.{bitXor}
 use Rattle.hash.specs.Lists.{table}
 use Rattle.hash.specs.Keccak.{lane, offsets, constants}
+use Rattle.hash.specs.Moves.{ahead, moveNumbers}
 
 -- 3.2.5, algorithm 5: the register, bit 0 first, after t steps
 cut : Bool → ℕ → ℕ
@@ -29,11 +30,17 @@ constants-rule : constants ≡ table (sum 7) 24
 unfolding table sum rc register cut
 constants-rule = refl
 
--- 3.2.2, algorithm 2: from (1, 0) the walk (x, y) to (y, 2 x + 3 y), and (t + 1) (t + 2) / 2 at step t
-walk : ℕ → ℕ → ℕ → ℕ → List ℕ
-walk zero t x y = []
-walk (suc n) t x y = lane offsets x y ∷ walk n (suc t) y ((2 * x + 3 * y) % 5)
+-- 3.2.2, algorithm 2: a table read at n lanes of the walk from (x, y)
+walk : List (List ℕ) → ℕ → ℕ → ℕ → List ℕ
+walk T zero x y = []
+walk T (suc n) x y = lane T x y ∷ walk T n y (ahead x y)
 
-offsets-rule : walk 24 0 1 0 ≡ table (λ t. (t + 1) * (t + 2) / 2 % 64) 24
+-- the offset at step t of the walk from (1, 0) is (t + 1) (t + 2) / 2
+offsets-rule : walk offsets 24 1 0 ≡ table (λ t. (t + 1) * (t + 2) / 2 % 64) 24
 unfolding table walk
 offsets-rule = refl
+
+-- the moves are numbered along it: it comes to each lane but (0, 0) once, and then to (1, 0) again
+moves-rule : walk moveNumbers 25 1 0 ≡ table (λ t. t % 24) 25
+unfolding table walk
+moves-rule = refl

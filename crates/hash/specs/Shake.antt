@@ -3,10 +3,10 @@ use Prim.Native.Nat.{ℕ, zero, suc, _+_, _-_, _*_, _/_, _%_, _^_}
 use mathlib.Core.Bool.{Bool, true, false}
 use mathlib.Core.List.{List, [], _∷_, _++_}
 use lib.Dec.{eqb}
-use lib.ListN.{length, getD, set, take, drop, replicate}
+use lib.ListN.{length, take, drop, replicate}
 use lib.Bits.{bitXor}
 use Rattle.hash.specs.Lists.{table}
-use Rattle.hash.specs.Keccak.{State, lane, lanes, keccakF}
+use Rattle.hash.specs.Keccak.{State, lane, setLane, lanes, keccakF}
 
 -- byte k of a state: byte k % 8, from the low end, of lane k / 8, in the order of 3.1.2
 abbrev pub byteAt : State → ℕ → ℕ
@@ -14,11 +14,11 @@ byteAt A k = lane A (k / 8 % 5) (k / 8 / 5) / 2 ^ (8 * (k % 8)) % 256
 
 -- the state with b xored into byte k
 unfoldable pub xorByte : State → ℕ → ℕ → State
-xorByte A k b = set A (k / 8 / 5) (set (getD A (k / 8 / 5) []) (k / 8 % 5) (bitXor (lane A (k / 8 % 5) (k / 8 / 5)) (b * 2 ^ (8 * (k % 8)))))
+xorByte A k b = setLane A (k / 8 % 5) (k / 8 / 5) (bitXor (lane A (k / 8 % 5) (k / 8 / 5)) (b * 2 ^ (8 * (k % 8))))
 
 -- the state with x xored into lane k
 unfoldable pub xorLane : State → ℕ → ℕ → State
-xorLane A k x = set A (k / 5) (set (getD A (k / 5) []) (k % 5) (bitXor (lane A (k % 5) (k / 5)) x))
+xorLane A k x = setLane A (k % 5) (k / 5) (bitXor (lane A (k % 5) (k / 5)) x)
 
 -- .. with bs xored in from byte k on
 unfoldable pub xorBytes : State → ℕ → List ℕ → State

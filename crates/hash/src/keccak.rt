@@ -1,7 +1,8 @@
 // Keccak-f[1600], FIPS 202 section 3. A state is five planes of five lanes: a[y][x] is the lane (x, y).
 ghost use mathlib.Core.Path.{_≡_};
-ghost use Prim.Native.Nat.{_+_, _*_, _%_, _<_};
-ghost use Rattle.hash.specs.Keccak.{rotl, theta, chi, rho, pi, iota, round, keccakF, xorPlane, chiPlane, plane, effect, parity, rhoLane};
+ghost use Prim.Native.Nat.{ℕ, suc, _<_};
+ghost use Rattle.hash.specs.Keccak.{State, lane, rotl, theta, chi, rho, pi, iota, round, keccakF, xorPlane, chiPlane, effect, parity};
+ghost use Rattle.hash.specs.Moves.{ahead, moveNumbers, moveLane, Moving};
 
 // A lane rotated by n places toward the high end, n taken modulo 64.
 fn rotl(x: u64, n: u64) -> u64
@@ -96,41 +97,52 @@ const OFFSETS: [[u64; 5]; 5] = [
     [18, 2, 61, 56, 14],
 ];
 
-// The lane that rho and pi bring to (x, y).
-fn moved(a: [[u64; 5]; 5], x: usize, y: usize) -> u64
+// The move of the lane (x, y), held in spare: rotated by its offset (rho) it goes to its place (pi), and spare takes up what stood there.
+fn move_lane(mut s: [[u64; 5]; 5], spare: &mut u64, x: usize, y: usize) -> [[u64; 5]; 5]
     requires { ⌜ x < 5 ⌝ }
     requires { ⌜ y < 5 ⌝ }
-    ensures { λ r. ⌜ r ≡ rhoLane a ((x + 3 * y) % 5) x ⌝ }
+    ensures { λ r. ⌜ (r ≡ moveLane s x y (now (spare .entry))) × (now (spare .exit) ≡ lane s y (ahead x y)) ⌝ }
+    ensures { λ r. ⌜ ((A : State) (i : ℕ) → lane moveNumbers x y ≡ i → Moving A i x y s (now (spare .entry)) → Moving A (suc i) y (ahead x y) r (now (spare .exit))) ⌝ }
 {
-    let k = (x + 3 * y) % 5;
-    rotl(a[x][k], OFFSETS[x][k])
+    let to = (2 * x + 3 * y) % 5;
+    let offset = OFFSETS[y][x];
+    let moved = rotl(*spare, offset);
+    *spare = s[to][y];
+    s[to][y] = moved;
+    s
 }
 
-// The plane y that rho and pi make.
-fn moved_plane(a: [[u64; 5]; 5], y: usize) -> [u64; 5]
-    requires { ⌜ y < 5 ⌝ }
-    ensures { λ r. ⌜ r ≡ plane (λ x. rhoLane a ((x + 3 * y) % 5) x) ⌝ }
-{
-    [
-        moved(a, 0, y),
-        moved(a, 1, y),
-        moved(a, 2, y),
-        moved(a, 3, y),
-        moved(a, 4, y),
-    ]
-}
-
-// 3.2.2 and 3.2.3, rho and then pi.
+// 3.2.2 and 3.2.3, rho and then pi, inside the state: 24 moves along the walk of algorithm 2, which pi goes too, with one spare lane.
+// They stand in a straight line, since a loop over them would keep the lanes in memory.
 fn rho_pi(a: [[u64; 5]; 5]) -> [[u64; 5]; 5]
     ensures { λ r. ⌜ r ≡ pi (rho a) ⌝ }
 {
-    [
-        moved_plane(a, 0),
-        moved_plane(a, 1),
-        moved_plane(a, 2),
-        moved_plane(a, 3),
-        moved_plane(a, 4),
-    ]
+    let mut spare = a[0][1];
+    let s = move_lane(a, &mut spare, 1, 0);
+    let s = move_lane(s, &mut spare, 0, 2);
+    let s = move_lane(s, &mut spare, 2, 1);
+    let s = move_lane(s, &mut spare, 1, 2);
+    let s = move_lane(s, &mut spare, 2, 3);
+    let s = move_lane(s, &mut spare, 3, 3);
+    let s = move_lane(s, &mut spare, 3, 0);
+    let s = move_lane(s, &mut spare, 0, 1);
+    let s = move_lane(s, &mut spare, 1, 3);
+    let s = move_lane(s, &mut spare, 3, 1);
+    let s = move_lane(s, &mut spare, 1, 4);
+    let s = move_lane(s, &mut spare, 4, 4);
+    let s = move_lane(s, &mut spare, 4, 0);
+    let s = move_lane(s, &mut spare, 0, 3);
+    let s = move_lane(s, &mut spare, 3, 4);
+    let s = move_lane(s, &mut spare, 4, 3);
+    let s = move_lane(s, &mut spare, 3, 2);
+    let s = move_lane(s, &mut spare, 2, 2);
+    let s = move_lane(s, &mut spare, 2, 0);
+    let s = move_lane(s, &mut spare, 0, 4);
+    let s = move_lane(s, &mut spare, 4, 2);
+    let s = move_lane(s, &mut spare, 2, 4);
+    let s = move_lane(s, &mut spare, 4, 1);
+    let s = move_lane(s, &mut spare, 1, 1);
+    s
 }
 
 // 3.2.5, iota, with the round constant rc.
