@@ -36,21 +36,23 @@ pub none-moved : (A : State) → A ≡ lanes (lane A) → A ≡ moves 0 A
 unfolding moves
 none-moved A h = h
 
--- ---- each move, computed
+-- ---- each move, computed: the move of (x, y) leads from the state before it to the state after it, and to the next spare lane
 
-abbrev Next : State → ℕ → ℕ → Type 0
-Next A x y = Moving A (suc (lane moveNumbers x y)) y (ahead x y) (moveLane (moves (lane moveNumbers x y) A) x y (lane A x y)) (lane (moves (lane moveNumbers x y) A) y (ahead x y))
+abbrev Leads : State → ℕ → ℕ → Type 0
+Leads A x y =
+    let n = lane moveNumbers x y in
+    Moving A (suc n) y (ahead x y) (moveLane (moves n A) x y (lane A x y)) (lane (moves n A) y (ahead x y))
 
-next : (A : State) (y : ℕ) → y < 5 → (x : ℕ) → x < 5 → Next A x y
+leads : (A : State) (y : ℕ) → y < 5 → (x : ℕ) → x < 5 → Leads A x y
 unfolding moves rho pi rotl turned
-next A =
-    five (λ y. (x : ℕ) → x < 5 → Next A x y)
-    (five (λ x. Next A x 0) (refl, refl) (refl, refl) (refl, refl) (refl, refl) (refl, refl))
-    (five (λ x. Next A x 1) (refl, refl) (refl, refl) (refl, refl) (refl, refl) (refl, refl))
-    (five (λ x. Next A x 2) (refl, refl) (refl, refl) (refl, refl) (refl, refl) (refl, refl))
-    (five (λ x. Next A x 3) (refl, refl) (refl, refl) (refl, refl) (refl, refl) (refl, refl))
-    (five (λ x. Next A x 4) (refl, refl) (refl, refl) (refl, refl) (refl, refl) (refl, refl))
+leads A =
+    five (λ y. (x : ℕ) → x < 5 → Leads A x y)
+    (five (λ x. Leads A x 0) (refl, refl) (refl, refl) (refl, refl) (refl, refl) (refl, refl))
+    (five (λ x. Leads A x 1) (refl, refl) (refl, refl) (refl, refl) (refl, refl) (refl, refl))
+    (five (λ x. Leads A x 2) (refl, refl) (refl, refl) (refl, refl) (refl, refl) (refl, refl))
+    (five (λ x. Leads A x 3) (refl, refl) (refl, refl) (refl, refl) (refl, refl) (refl, refl))
+    (five (λ x. Leads A x 4) (refl, refl) (refl, refl) (refl, refl) (refl, refl) (refl, refl))
 
 pub one-move : (A S : State) (x y i v : ℕ) → x < 5 → y < 5 → lane moveNumbers x y ≡ i → Moving A i x y S v
     → Moving A (suc i) y (ahead x y) (moveLane S x y v) (lane S y (ahead x y))
-one-move A S x y i v h k e m = rw (m .0, m .1, ← e) (next A y k x h)
+one-move A S x y i v h k e m = rw (m .0, m .1, ← e) (leads A y k x h)

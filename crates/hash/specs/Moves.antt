@@ -1,4 +1,4 @@
--- rho and pi inside the state, lane by lane (02, #104): 24 moves along one walk, with one lane held outside of the state.
+-- rho and pi inside the state, lane by lane (02, #104): 24 moves along one walk, with one spare lane, held outside of the state.
 use Prim.Native.Nat.{ℕ, _+_, _*_, _%_}
 use mathlib.Core.Path.{_≡_}
 use mathlib.Core.Bool.{Bool}
@@ -34,6 +34,6 @@ moves i A = lanes (λ x y. pick (reached i x y) (lane (pi (rho A)) x y) (lane A 
 abbrev pub moveLane : State → ℕ → ℕ → ℕ → State
 moveLane S x y v = setLane S y (ahead x y) (rotl v (lane offsets x y))
 
--- S is the state after i moves of A, and v, held outside of it, the lane (x, y) of A
+-- S is the state after i moves of A, and v, the spare lane, is the lane (x, y) of A
 abbrev pub Moving : State → ℕ → ℕ → ℕ → State → ℕ → Type 0
 Moving A i x y S v = (S ≡ moves i A) × (v ≡ lane A x y)
