@@ -2,7 +2,7 @@ use mathlib.Core.Path.{refl, _∙_}
 use borrow.Author.Needs.{needs}
 use Rattle.hash.specs.Keccak.{lane}
 use Rattle.hash.specs.Moves.{Moving}
-use Rattle.hash.proofs.Shape.{of-lanes}
+use Rattle.hash.proofs.Shape.{by-lanes}
 use Rattle.hash.proofs.Moves.{none-moved, all-moved}
 use Rattle.hash.proofs.keccak.rho_pi.Statement.{statement}
 use Rattle.hash.proofs.keccak.rho_pi.Tie as tie
@@ -34,7 +34,7 @@ returns c =
     let c1 = c2 .before .before in
     let b = c1 .before .before .before in
     let a = b .args .t1 in
-    let m0 : Moving a 0 1 0 a (lane a 1 0) = (none-moved a (of-lanes a (b .good .0 .0) (b .good .0 .1 .1) (b .good .0 .1 .0 .1)), refl) in
+    let m0 : Moving a 0 1 0 a (lane a 1 0) = (none-moved a (by-lanes a (b .good .0 .0) (b .good .0 .1 .1) (b .good .0 .1 .0 .1)), refl) in
     let m1 = c1 .move-lane .ensures .1 a 0 refl m0 in
     let m2 = c2 .move-lane2 .ensures .1 a 1 refl m1 in
     let m3 = c3 .move-lane3 .ensures .1 a 2 refl m2 in
