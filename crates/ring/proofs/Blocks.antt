@@ -2,7 +2,7 @@
 use mathlib.Core.Path.{_≡_, refl, ap, sym, _∙_, subst}
 use mathlib.Core.Bool.{Bool}
 use mathlib.Core.List.{List, [], _∷_, _++_, append-nil}
-use Prim.Native.Nat.{ℕ, suc, _+_, _*_, _-_, _/_, _^_, _<_, _≤_}
+use Prim.Native.Nat.{ℕ, suc, _+_, _*_, _-_, _/_, _%_, _^_, _<_, _≤_}
 use native.Mathlib.Nat.{mul-le-mul-left}
 use native.Mathlib.Omega.{arith}
 use lib.Pow.{pow-pos}
@@ -13,12 +13,12 @@ use borrow.Rule.Slice.PartMut.{putMid, same-len-mid}
 use Rattle.ring.specs.Words.{Below, Residues}
 use Rattle.ring.specs.Poly.{map2}
 use Rattle.ring.specs.Residue.{prime, rootOf, over512, up, down, join, part, halves, fwd, bwd, scale, mods, backOne, Block}
-use Rattle.ring.proofs.Sums.{below-take, below-drop, below-append}
-use Rattle.ring.proofs.Places.{length-map2, below-map2, residues-mods}
-use Rattle.ring.proofs.Butterfly.{up-low, down-low}
-use Rattle.ring.proofs.Inverse.{residues-bwd, pow-two}
+use Rattle.ring.specs.Loose.{LooseList, CooleyTukey, GentlemanSande, Stepped, forthRange}
+use Rattle.ring.proofs.Sums.{below-at, below-take, below-drop, below-append}
+use Rattle.ring.proofs.Places.{length-map2, length-mods, residues-mods, mods-append, mods-mods, mods-take, mods-drop}
+use Rattle.ring.proofs.Inverse.{pow-two}
 use Rattle.ring.proofs.Tables.{prime-pos}
-use Rattle.ring.proofs.Rests.{forth-residues, back-residues}
+use Rattle.ring.proofs.LevelRanges.{wider}
 
 -- ---- `&mut a[..h]`, which leaves X ++ drop h S, and then `&mut a[h..]`
 
@@ -50,7 +50,7 @@ module _ (h : ℕ) (S X : List ℕ) (es : length S ≡ 2 * h) (ex : length X ≡
 
 -- ---- a block above the last
 
-module _ (p d k : ℕ) (A : List ℕ) (l : 2 < d) (b : Block p d k A) where
+module _ (m d k : ℕ) (A : List ℕ) (l : 2 < d) (b : Block m d k A) where
   below : d ≡ suc (d - 1)
   below = omega arith
 
@@ -75,80 +75,94 @@ module _ (p d k : ℕ) (A : List ℕ) (l : 2 < d) (b : Block p d k A) where
   hi : length (drop (length A / 2) A) ≡ length A / 2
   hi = length-drop (length A / 2) A ∙ omega (arith, long-half)
 
-  -- its halves made anew, S, of which the first becomes X
-  module _ (pos : 0 < p) (w : ℕ) (S : List ℕ) (es : S ≡ halves (up p w) (down p w) (length A / 2) A) where
-    abbrev ups : List ℕ
-    ups = map2 (up p w) (take (length A / 2) A) (drop (length A / 2) A)
-
-    abbrev downs : List ℕ
-    downs = map2 (down p w) (take (length A / 2) A) (drop (length A / 2) A)
-
-    l1 : length ups ≡ length A / 2
-    l1 = length-map2 (up p w) (take (length A / 2) A) (drop (length A / 2) A) (lo ∙ sym hi) ∙ lo
-
-    l2 : length downs ≡ length A / 2
-    l2 = length-map2 (down p w) (take (length A / 2) A) (drop (length A / 2) A) (lo ∙ sym hi) ∙ lo
-
-    first-is : take (length A / 2) S ≡ ups
-    first-is = ap (λ (t : List ℕ). take (length A / 2) t) es ∙ take-at ups downs (length A / 2) l1
-
-    last-is : drop (length A / 2) S ≡ downs
-    last-is = ap (λ (t : List ℕ). drop (length A / 2) t) es ∙ drop-at ups downs (length A / 2) l1
-
-    pub first-block : Block p (d - 1) (2 * k) (take (length A / 2) S)
-    first-block =
-        record {
-          long = ap length first-is ∙ l1 ∙ half-is;
-          inside = omega (arith, inside);
-          low = subst (Below p) (sym first-is) (below-map2 p (up p w) (up-low pos w) (take (length A / 2) A) (drop (length A / 2) A));
-        }
-
-    last-block : Block p (d - 1) (2 * k + 1) (drop (length A / 2) S)
-    last-block =
-        record {
-          long = ap length last-is ∙ l2 ∙ half-is;
-          inside = omega (arith, inside);
-          low = subst (Below p) (sym last-is) (below-map2 p (down p w) (down-low pos w) (take (length A / 2) A) (drop (length A / 2) A));
-        }
-
+  -- the transform: the halves made anew, S, of which the first becomes X
+  module _ (S : List ℕ) (ks : length S ≡ length A) where
     long-s : length S ≡ 2 * (length A / 2)
-    long-s = ap length es ∙ length-append ups downs ∙ omega (arith, l1, l2)
+    long-s = ks ∙ long-half
+
+    ls : length (take (length A / 2) S) ≡ length A / 2
+    ls = length-take-le (length A / 2) S (omega (arith, long-s))
+
+    lt : length (drop (length A / 2) S) ≡ length A / 2
+    lt = length-drop (length A / 2) S ∙ omega (arith, long-s)
+
+    pub first-block : (n : ℕ) → Below n S → Block n (d - 1) (2 * k) (take (length A / 2) S)
+    first-block n low =
+        record { long = ls ∙ half-is; inside = omega (arith, inside); low = below-take n (length A / 2) S low }
+
+    last-block : (n : ℕ) → Below n S → Block n (d - 1) (2 * k + 1) (drop (length A / 2) S)
+    last-block n low =
+        record { long = lt ∙ half-is; inside = omega (arith, inside); low = below-drop n (length A / 2) S low }
 
     module _ (X : List ℕ) (kept : length X ≡ length (take (length A / 2) S)) where
       lx : length X ≡ length A / 2
-      lx = kept ∙ ap length first-is ∙ l1
+      lx = kept ∙ ls
 
       pub after-first : length (X ++ drop (length A / 2) S) ≡ 2 * (length A / 2)
       after-first = both-long (length A / 2) S X long-s lx
 
-      pub second-block : Block p (d - 1) (2 * k + 1) (second (length A / 2) (X ++ drop (length A / 2) S))
-      second-block = subst (Block p (d - 1) (2 * k + 1)) (sym (second-is (length A / 2) S X long-s lx)) last-block
+      pub second-block : (n : ℕ) → Below n S → Block n (d - 1) (2 * k + 1) (second (length A / 2) (X ++ drop (length A / 2) S))
+      second-block n low =
+          subst (Block n (d - 1) (2 * k + 1)) (sym (second-is (length A / 2) S X long-s lx)) (last-block n low)
 
-      pub both-kept : (Y : List ℕ) → length Y ≡ length (second (length A / 2) (X ++ drop (length A / 2) S))
-          → length (laid (length A / 2) (X ++ drop (length A / 2) S) Y) ≡ length A
-      both-kept Y e =
-          same-len-mid (length A / 2) (length (X ++ drop (length A / 2) S) - length A / 2) (X ++ drop (length A / 2) S) Y e
-          ∙ after-first ∙ sym long-half
+      module _ (Y : List ℕ) where
+        pub both-kept : length Y ≡ length (second (length A / 2) (X ++ drop (length A / 2) S))
+            → length (laid (length A / 2) (X ++ drop (length A / 2) S) Y) ≡ length A
+        both-kept e =
+            same-len-mid (length A / 2) (length (X ++ drop (length A / 2) S) - length A / 2) (X ++ drop (length A / 2) S) Y e
+            ∙ after-first ∙ sym long-half
 
-      pub whole-fwd : (z : ℕ → ℕ) → w ≡ z k → X ≡ fwd p z (d - 1) (2 * k) (take (length A / 2) S)
-          → (Y : List ℕ) → Y ≡ fwd p z (d - 1) (2 * k + 1) (second (length A / 2) (X ++ drop (length A / 2) S))
-          → laid (length A / 2) (X ++ drop (length A / 2) S) Y ≡ fwd p z d k A
-      unfolding fwd
-      whole-fwd z ew eX Y eY =
-          laid-is (length A / 2) S X long-s lx Y
-          ∙ cc (below, ew, eX, eY, half-is, first-is, last-is, second-is (length A / 2) S X long-s lx)
+        -- told by rests: both halves are loose, and so is the whole
+        module _ (p w : ℕ) (g : ℕ → ℕ) (s : Stepped p (halves (up p w) (down p w) (length A / 2)) g A S) where
+          abbrev ups : List ℕ
+          ups = map2 (up p w) (take (length A / 2) (mods p A)) (drop (length A / 2) (mods p A))
+
+          abbrev downs : List ℕ
+          downs = map2 (down p w) (take (length A / 2) (mods p A)) (drop (length A / 2) (mods p A))
+
+          lo-rests : length (take (length A / 2) (mods p A)) ≡ length A / 2
+          lo-rests = length-take-le (length A / 2) (mods p A) (omega (arith, length-mods p A))
+
+          hi-rests : length (drop (length A / 2) (mods p A)) ≡ length A / 2
+          hi-rests = length-drop (length A / 2) (mods p A) ∙ omega (arith, long-half, length-mods p A)
+
+          l1 : length ups ≡ length A / 2
+          l1 =
+              length-map2 (up p w) (take (length A / 2) (mods p A)) (drop (length A / 2) (mods p A)) (lo-rests ∙ sym hi-rests)
+              ∙ lo-rests
+
+          first-is : mods p (take (length A / 2) S) ≡ ups
+          first-is =
+              mods-take p (length A / 2) S ∙ ap (λ (t : List ℕ). take (length A / 2) t) (s .same)
+              ∙ take-at ups downs (length A / 2) l1
+
+          last-is : mods p (drop (length A / 2) S) ≡ downs
+          last-is =
+              mods-drop p (length A / 2) S ∙ ap (λ (t : List ℕ). drop (length A / 2) t) (s .same)
+              ∙ drop-at ups downs (length A / 2) l1
+
+          pub whole-fwd : (n : ℕ) (z : ℕ → ℕ) → w ≡ z k
+              → LooseList p n (fwd p z (d - 1) (2 * k) (mods p (take (length A / 2) S))) X
+              → LooseList p n (fwd p z (d - 1) (2 * k + 1) (mods p (second (length A / 2) (X ++ drop (length A / 2) S)))) Y
+              → LooseList p n (fwd p z d k (mods p A)) (laid (length A / 2) (X ++ drop (length A / 2) S) Y)
+          unfolding fwd
+          whole-fwd n z ew hx hy =
+              let is = laid-is (length A / 2) S X long-s lx Y in
+              record {
+                low = subst (Below n) (sym is) (below-append n X Y (hx .low) (hy .low));
+                same =
+                    ap (mods p) is ∙ mods-append p X Y
+                    ∙ cc (below, ew, hx .same, hy .same, half-is, first-is, last-is, second-is (length A / 2) S X long-s lx);
+              }
 
   -- the inverse: the halves first, X and Y
-  pub first-part : Block p (d - 1) (2 * k + 1) (take (length A / 2) A)
+  pub first-part : Block m (d - 1) (2 * k + 1) (take (length A / 2) A)
   first-part =
-      record { long = lo ∙ half-is; inside = omega (arith, inside); low = below-take p (length A / 2) A (b .low) }
+      record { long = lo ∙ half-is; inside = omega (arith, inside); low = below-take m (length A / 2) A (b .low) }
 
-  last-part : Block p (d - 1) (2 * k) (drop (length A / 2) A)
+  last-part : Block m (d - 1) (2 * k) (drop (length A / 2) A)
   last-part =
-      record { long = hi ∙ half-is; inside = omega (arith, inside); low = below-drop p (length A / 2) A (b .low) }
-
-  low-bwd : (z : ℕ → ℕ) → 0 < p → (j m : ℕ) (f : List ℕ) → Block p (d - 1) m f → Below p (bwd p z (d - 1) j f)
-  low-bwd z pos j m f g = residues-bwd pos z (d - 1) j f (record { long = g .long; low = g .low }) .low
+      record { long = hi ∙ half-is; inside = omega (arith, inside); low = below-drop m (length A / 2) A (b .low) }
 
   module _ (X : List ℕ) (kept : length X ≡ length (take (length A / 2) A)) where
     lp : length X ≡ length A / 2
@@ -157,8 +171,8 @@ module _ (p d k : ℕ) (A : List ℕ) (l : 2 < d) (b : Block p d k A) where
     pub after-part : length (X ++ drop (length A / 2) A) ≡ 2 * (length A / 2)
     after-part = both-long (length A / 2) A X long-half lp
 
-    pub second-part : Block p (d - 1) (2 * k) (second (length A / 2) (X ++ drop (length A / 2) A))
-    second-part = subst (Block p (d - 1) (2 * k)) (sym (second-is (length A / 2) A X long-half lp)) last-part
+    pub second-part : Block m (d - 1) (2 * k) (second (length A / 2) (X ++ drop (length A / 2) A))
+    second-part = subst (Block m (d - 1) (2 * k)) (sym (second-is (length A / 2) A X long-half lp)) last-part
 
     module _ (Y : List ℕ) (kepty : length Y ≡ length (second (length A / 2) (X ++ drop (length A / 2) A))) where
       pub laid-long : length (laid (length A / 2) (X ++ drop (length A / 2) A) Y) ≡ 2 * (length A / 2)
@@ -166,24 +180,43 @@ module _ (p d k : ℕ) (A : List ℕ) (l : 2 < d) (b : Block p d k A) where
           same-len-mid (length A / 2) (length (X ++ drop (length A / 2) A) - length A / 2) (X ++ drop (length A / 2) A) Y kepty
           ∙ after-part
 
-      module _ (z : ℕ → ℕ) (pos : 0 < p) (eX : X ≡ bwd p z (d - 1) (2 * k + 1) (take (length A / 2) A))
-          (eY : Y ≡ bwd p z (d - 1) (2 * k) (second (length A / 2) (X ++ drop (length A / 2) A))) where
-        eY′ : Y ≡ bwd p z (d - 1) (2 * k) (drop (length A / 2) A)
-        eY′ = eY ∙ ap (bwd p z (d - 1) (2 * k)) (second-is (length A / 2) A X long-half lp)
-
-        pub laid-low : Below p (laid (length A / 2) (X ++ drop (length A / 2) A) Y)
+      module _ (p n : ℕ) (z : ℕ → ℕ) (hx : LooseList p n (bwd p z (d - 1) (2 * k + 1) (mods p (take (length A / 2) A))) X)
+          (hy : LooseList p n (bwd p z (d - 1) (2 * k) (mods p (second (length A / 2) (X ++ drop (length A / 2) A)))) Y) where
+        pub laid-low : Below n (laid (length A / 2) (X ++ drop (length A / 2) A) Y)
         laid-low =
-            subst (Below p) (sym (laid-is (length A / 2) A X long-half lp Y))
-            (below-append p X Y
-            (subst (Below p) (sym eX) (low-bwd z pos (2 * k + 1) (2 * k + 1) (take (length A / 2) A) first-part))
-            (subst (Below p) (sym eY′) (low-bwd z pos (2 * k) (2 * k) (drop (length A / 2) A) last-part)))
+            subst (Below n) (sym (laid-is (length A / 2) A X long-half lp Y)) (below-append n X Y (hx .low) (hy .low))
 
-        pub whole-bwd : (w : ℕ) → w ≡ z k → (S : List ℕ)
-            → S ≡ halves (join p) (part p w) (length A / 2) (laid (length A / 2) (X ++ drop (length A / 2) A) Y) → S ≡ bwd p z d k A
+        laid-rests : mods p (laid (length A / 2) (X ++ drop (length A / 2) A) Y) ≡ mods p X ++ mods p Y
+        laid-rests = ap (mods p) (laid-is (length A / 2) A X long-half lp Y) ∙ mods-append p X Y
+
+        first-rests : mods p X ≡ bwd p z (d - 1) (2 * k + 1) (take (length A / 2) (mods p A))
+        first-rests = hx .same ∙ ap (bwd p z (d - 1) (2 * k + 1)) (mods-take p (length A / 2) A)
+
+        second-rests : mods p Y ≡ bwd p z (d - 1) (2 * k) (drop (length A / 2) (mods p A))
+        second-rests =
+            hy .same ∙ ap (λ (t : List ℕ). bwd p z (d - 1) (2 * k) (mods p t)) (second-is (length A / 2) A X long-half lp)
+            ∙ ap (bwd p z (d - 1) (2 * k)) (mods-drop p (length A / 2) A)
+
+        pub whole-bwd : (m′ w : ℕ) → w ≡ z k → (S : List ℕ)
+            → LooseList p m′ (halves (join p) (part p w) (length A / 2) (mods p (laid (length A / 2) (X ++ drop (length A / 2) A) Y))) S
+            → LooseList p m′ (bwd p z d k (mods p A)) S
         unfolding bwd
-        whole-bwd w ew S eS =
-            eS ∙ ap (halves (join p) (part p w) (length A / 2)) (laid-is (length A / 2) A X long-half lp Y)
-            ∙ cc (below, ew, eX, eY′, half-is, take-at X Y (length A / 2) lp, drop-at X Y (length A / 2) lp)
+        whole-bwd m′ w ew S h =
+            let lx : length (mods p X) ≡ length A / 2 = length-mods p X ∙ lp in
+            record {
+              low = h .low;
+              same =
+                  h .same ∙ ap (halves (join p) (part p w) (length A / 2)) laid-rests
+                  ∙ cc (
+                    below,
+                    ew,
+                    first-rests,
+                    second-rests,
+                    half-is,
+                    take-at (mods p X) (mods p Y) (length A / 2) lx,
+                    drop-at (mods p X) (mods p Y) (length A / 2) lx,
+                  );
+            }
 
 -- ---- the last two levels: a block of four
 four : (A : List ℕ) → length A ≡ 4 → A ≡ getD A 0 0 ∷ getD A 1 0 ∷ getD A 2 0 ∷ getD A 3 0 ∷ []
@@ -214,26 +247,69 @@ module _ (p : ℕ) (z : ℕ → ℕ) (k : ℕ) (A : List ℕ) (e : length A ≡ 
   unfolding bwd
   bwd-four a b c d = refl
 
-  module _ (w u v : ℕ) (ew : w ≡ z k) where
-    pub last-four : u ≡ z (2 * k) → v ≡ z (2 * k + 1) → (x0 x1 x2 x3 y0 y1 y2 y3 : ℕ)
-        → x0 ≡ up p w (getD A 0 0) (getD A 2 0) → x2 ≡ down p w (getD A 0 0) (getD A 2 0)
-        → x1 ≡ up p w (getD A 1 0) (getD A 3 0) → x3 ≡ down p w (getD A 1 0) (getD A 3 0)
-        → y0 ≡ up p u x0 x1 → y1 ≡ down p u x0 x1 → y2 ≡ up p v x2 x3 → y3 ≡ down p v x2 x3
-        → set4 A y0 y1 y2 y3 ≡ fwd p z 2 k A
-    last-four eu ev x0 x1 x2 x3 y0 y1 y2 y3 e0 e2 e1 e3 f0 f1 f2 f3 =
-        set-four A e y0 y1 y2 y3
-        ∙ cc (ew, eu, ev, e0, e1, e2, e3, f0, f1, f2, f3, fwd-four (getD A 0 0) (getD A 1 0) (getD A 2 0) (getD A 3 0))
-        ∙ ap (fwd p z 2 k) (sym (four A e))
+  rests-four : mods p A ≡ getD A 0 0 % p ∷ getD A 1 0 % p ∷ getD A 2 0 % p ∷ getD A 3 0 % p ∷ []
+  rests-four = ap (mods p) (four A e)
 
-    pub first-four : u ≡ z (2 * k + 1) → v ≡ z (2 * k) → (x0 x1 x2 x3 y0 y1 y2 y3 : ℕ)
-        → x0 ≡ join p (getD A 0 0) (getD A 1 0) → x1 ≡ part p u (getD A 0 0) (getD A 1 0)
-        → x2 ≡ join p (getD A 2 0) (getD A 3 0) → x3 ≡ part p v (getD A 2 0) (getD A 3 0)
-        → y0 ≡ join p x0 x2 → y2 ≡ part p w x0 x2 → y1 ≡ join p x1 x3 → y3 ≡ part p w x1 x3
-        → set4 A y0 y1 y2 y3 ≡ bwd p z 2 k A
-    first-four eu ev x0 x1 x2 x3 y0 y1 y2 y3 e0 e1 e2 e3 f0 f2 f1 f3 =
-        set-four A e y0 y1 y2 y3
-        ∙ cc (ew, eu, ev, e0, e1, e2, e3, f0, f1, f2, f3, bwd-four (getD A 0 0) (getD A 1 0) (getD A 2 0) (getD A 3 0))
-        ∙ ap (bwd p z 2 k) (sym (four A e))
+  four-low : (m a b c d : ℕ) → a < m → b < m → c < m → d < m → Below m (set4 A a b c d)
+  four-low m a b c d ha hb hc hd = subst (Below m) (sym (set-four A e a b c d)) (ha, (hb, (hc, (hd, tt))))
+
+  module _ (w u v : ℕ) (ew : w ≡ z k) (x0 x1 x2 x3 y0 y1 y2 y3 : ℕ) where
+    pub last-four : u ≡ z (2 * k) → v ≡ z (2 * k + 1)
+        → CooleyTukey p w (getD A 0 0) (getD A 2 0) x0 x2 → CooleyTukey p w (getD A 1 0) (getD A 3 0) x1 x3
+        → CooleyTukey p u x0 x1 y0 y1 → CooleyTukey p v x2 x3 y2 y3
+        → (n : ℕ) → getD A 0 0 < n * p → LooseList p ((n + 4) * p) (fwd p z 2 k (mods p A)) (set4 A y0 y1 y2 y3)
+    last-four eu ev r s t o n l =
+        record {
+          low =
+              four-low ((n + 4) * p) y0 y1 y2 y3 (omega (arith, l, r .sum-low, t .sum-low)) (omega (arith, l, r .sum-low, t .rest-low))
+              (omega (arith, l, r .rest-low, o .sum-low)) (omega (arith, l, r .rest-low, o .rest-low));
+          same =
+              ap (mods p) (set-four A e y0 y1 y2 y3)
+              ∙ cc (
+                ew,
+                eu,
+                ev,
+                r .sum-is,
+                r .rest-is,
+                s .sum-is,
+                s .rest-is,
+                t .sum-is,
+                t .rest-is,
+                o .sum-is,
+                o .rest-is,
+                fwd-four (getD A 0 0 % p) (getD A 1 0 % p) (getD A 2 0 % p) (getD A 3 0 % p),
+              )
+              ∙ ap (fwd p z 2 k) (sym rests-four);
+        }
+
+    pub first-four : u ≡ z (2 * k + 1) → v ≡ z (2 * k)
+        → GentlemanSande p u (getD A 0 0) (getD A 1 0) x0 x1 → GentlemanSande p v (getD A 2 0) (getD A 3 0) x2 x3
+        → GentlemanSande p w x0 x2 y0 y2 → GentlemanSande p w x1 x3 y1 y3
+        → 0 < p → Below p A → LooseList p (4 * p) (bwd p z 2 k (mods p A)) (set4 A y0 y1 y2 y3)
+    first-four eu ev r s t o pos h =
+        let low = below-at p pos A h in
+        record {
+          low =
+              four-low (4 * p) y0 y1 y2 y3 (omega (arith, low 0, low 1, low 2, low 3, r .sum-low, s .sum-low, t .sum-low))
+              (omega (arith, r .rest-low, s .rest-low, o .sum-low)) (omega (arith, t .rest-low)) (omega (arith, o .rest-low));
+          same =
+              ap (mods p) (set-four A e y0 y1 y2 y3)
+              ∙ cc (
+                ew,
+                eu,
+                ev,
+                r .sum-is,
+                r .rest-is,
+                s .sum-is,
+                s .rest-is,
+                t .sum-is,
+                t .rest-is,
+                o .sum-is,
+                o .rest-is,
+                bwd-four (getD A 0 0 % p) (getD A 1 0 % p) (getD A 2 0 % p) (getD A 3 0 % p),
+              )
+              ∙ ap (bwd p z 2 k) (sym rests-four);
+        }
 
 -- ---- the whole, from the rests of a list of 512
 
@@ -241,21 +317,29 @@ module _ (s : Bool) (A X : List ℕ) (e : length A ≡ 512) (eX : X ≡ mods (pr
   rests : Residues (prime s) 512 X
   rests = subst (Residues (prime s) 512) (sym eX) (residues-mods (prime-pos s) A e)
 
-  pub top-block : Block (prime s) 9 1 X
-  top-block = record { long = rests .long; inside = lit≤ tt; low = rests .low }
+  again : mods (prime s) X ≡ mods (prime s) A
+  again = ap (mods (prime s)) eX ∙ mods-mods (prime s) A
 
-  pub top-fwd : (Y : List ℕ) → Y ≡ fwd (prime s) (rootOf s) 9 1 X
-      → (Y ≡ fwd (prime s) (rootOf s) 9 1 (mods (prime s) A)) × Residues (prime s) 512 Y
-  top-fwd Y eY =
-      (eY ∙ ap (fwd (prime s) (rootOf s) 9 1) eX, subst (Residues (prime s) 512) (sym eY) (forth-residues s X rests))
+  pub low-block : Block (prime s) 9 1 X
+  low-block = record { long = rests .long; inside = lit≤ tt; low = rests .low }
 
-  module _ (Y : List ℕ) (eY : Y ≡ bwd (prime s) (rootOf s) 9 1 X) where
-    pub top-low : Below (prime s) Y
-    top-low = subst (Below (prime s)) (sym eY) (residues-bwd (prime-pos s) (rootOf s) 9 1 X rests .low)
+  pub top-block : Block (forthRange 9 * prime s) 9 1 X
+  top-block = subst (λ (m : ℕ). Block m 9 1 X) (omega arith) low-block
 
-    pub top-bwd : (v : ℕ) → v ≡ over512 s → (W : List ℕ) → W ≡ scale (prime s) v Y
-        → (W ≡ backOne s (mods (prime s) A)) × Residues (prime s) 512 W
-    unfolding backOne
-    top-bwd v ev W eW =
-        let a : W ≡ backOne s X = cc (eW, ev, eY) in
-        (a ∙ ap (backOne s) eX, subst (Residues (prime s) 512) (sym a) (back-residues s X rests))
+  pub top-fwd : (Y : List ℕ) → LooseList (prime s) (forthRange 0 * prime s) (fwd (prime s) (rootOf s) 9 1 (mods (prime s) X)) Y
+      → LooseList (prime s) (32 * prime s) (fwd (prime s) (rootOf s) 9 1 (mods (prime s) A)) Y
+  top-fwd Y h =
+      record {
+        low = wider (prime s) (forthRange 0) 32 (lit≤ tt) Y (h .low);
+        same = h .same ∙ ap (fwd (prime s) (rootOf s) 9 1) again;
+      }
+
+  pub top-bwd : (Y : List ℕ) (n : ℕ) → LooseList (prime s) n (bwd (prime s) (rootOf s) 9 1 (mods (prime s) X)) Y
+      → (v : ℕ) → v ≡ over512 s → (W : List ℕ) → LooseList (prime s) (2 * prime s) (scale (prime s) v (mods (prime s) Y)) W
+      → LooseList (prime s) (32 * prime s) (backOne s (mods (prime s) A)) W
+  unfolding backOne
+  top-bwd Y n h v ev W g =
+      record {
+        low = wider (prime s) 2 32 (lit≤ tt) W (g .low);
+        same = cc (g .same, ev, h .same, again);
+      }

@@ -1,8 +1,8 @@
--- The primes are below 2^25, so that a product of two residues fits a word; and one subtraction reduces a sum of two.
+-- The primes are below 2^25, what is less than them, and how one subtraction makes a least residue of what is below two primes.
 use mathlib.Core.Path.{_≡_, sym, ap, _∙_, subst}
 use mathlib.Core.Bool.{Bool, true, false}
-use Prim.Native.Nat.{ℕ, _+_, _*_, _-_, _%_, _^_, _<_, _≤_}
-use native.Mathlib.Nat.{mul-le-mul, mod-lt, mod-eq-of-lt, add-mul-mod-self-right}
+use Prim.Native.Nat.{ℕ, _+_, _*_, _-_, _%_, _<_, _≤_}
+use native.Mathlib.Nat.{mod-lt, mod-eq-of-lt, add-mul-mod-self-right}
 use native.Mathlib.Omega.{arith}
 use lib.Dec.{lit<}
 use Rattle.ring.specs.Residue.{prime, rootOf, over512}
@@ -12,11 +12,9 @@ pub prime-lt : (s : Bool) → prime s < 33554432
 prime-lt false = lit< tt
 prime-lt true = lit< tt
 
-pub product-fits : (s : Bool) (a b : ℕ) → a < prime s → b < prime s → a * b < 2 ^ 64
-product-fits s a b ha hb =
-    let la : a ≤ 33554432 = omega (arith, prime-lt s) in
-    let lb : b ≤ 33554432 = omega (arith, prime-lt s) in
-    omega (arith, mul-le-mul la lb)
+pub one-lt : (s : Bool) → 1 < prime s
+one-lt false = lit< tt
+one-lt true = lit< tt
 
 -- what is a rest modulo the prime is below it
 pub below-prime : (s : Bool) (r x : ℕ) → r ≡ x % prime s → r < prime s

@@ -3,7 +3,7 @@ use mathlib.Core.Path.{_≡_, refl, ap, sym, _∙_}
 use mathlib.Core.Bool.{Bool, true, false}
 use mathlib.Core.List.{List, [], _∷_}
 use Prim.Native.Nat.{ℕ, _+_, _*_, _-_, _%_, _/_, _<_}
-use native.Mathlib.Nat.{mod-lt, mod-mod, mod-eq-of-lt}
+use native.Mathlib.Nat.{mod-lt, mod-eq-of-lt}
 use native.Mathlib.Omega.{arith}
 use lib.Dec.{lit<}
 use lib.ListN.{length}
@@ -11,7 +11,7 @@ use Rattle.ring.specs.Words.{q, Below}
 use Rattle.ring.specs.Poly.{map2, neg, lastOf, shift, mulx, zerosOf, prod}
 use Rattle.ring.specs.Residue.{prime, mods, timesp, crtOf}
 use Rattle.ring.proofs.Cong.{Eqv, ≈refl, ≈sym, ≈trans, ≈by, ≈mult, ≈mod, ≈same, ≈kit, ≈cancel, coarser, neg-add}
-use Rattle.ring.proofs.Places.{maps}
+use Rattle.ring.proofs.Places.{maps, mods-mods}
 use Rattle.ring.proofs.Tables.{prime-pos}
 
 -- ---- one number
@@ -57,12 +57,24 @@ crt-is x a b h e g =
     (both-moduli 16515073 33292289 520194 258049 refl (≈trans (crt-one a b) g) (≈trans (crt-two a b h) e))
     (≈sym (≈mod x)))
 
+-- it takes any residue modulo q2
+pub crt-rest : (a b : ℕ) → crtOf a b ≡ crtOf (a % 33292289) b
+crt-rest a b =
+    let k : Eqv 33292289 ((a + (33292289 - b)) * 520194) ((a % 33292289 + (33292289 - b)) * 520194) =
+    ≈sym (grw (≈kit, ≈mod {p = 33292289} a) ≈refl) in
+    ap (λ (x : ℕ). b + 16515073 * x) (k .same)
+
 -- ---- lists
 
 pub below-crt : (xs ys : List ℕ) → Below 16515073 ys → Below q (map2 crtOf xs ys)
 below-crt [] ys l = tt
 below-crt (x ∷ xs) [] l = tt
 below-crt (x ∷ xs) (y ∷ ys) l = (crt-low x y (l .0), below-crt xs ys (l .1))
+
+pub map2-rests : (xs ys : List ℕ) → map2 (λ (x : ℕ) (y : ℕ). crtOf (x % 33292289) (y % 16515073)) xs ys ≡ map2 crtOf (mods 33292289 xs) (mods 16515073 ys)
+map2-rests [] ys = refl
+map2-rests (x ∷ xs) [] = refl
+map2-rests (x ∷ xs) (y ∷ ys) = ap (λ (l : List ℕ). crtOf (x % 33292289) (y % 16515073) ∷ l) (map2-rests xs ys)
 
 -- a list below q from its rests
 pub crt-mods : (xs : List ℕ) → Below q xs → map2 crtOf (mods (prime true) xs) (mods (prime false) xs) ≡ xs
@@ -93,10 +105,6 @@ mods-crt-true (x ∷ xs) (y ∷ ys) e k l =
     cc (crt-two x y (l .0) .same, mod-eq-of-lt (k .0), mods-crt-true xs ys (omega arith) (k .1) (l .1))
 
 -- ---- rests of products
-
-mods-mods : (p : ℕ) (xs : List ℕ) → mods p (mods p xs) ≡ mods p xs
-mods-mods p [] = refl
-mods-mods p (x ∷ xs) = cc (mod-mod x p, mods-mods p xs)
 
 -- the rests of a list made by the rule h, where k is that rule on rests
 mods-map2 : (p : ℕ) (h k : ℕ → ℕ → ℕ) → ((x y z : ℕ) → Eqv p y z → h x y % p ≡ k (x % p) z)

@@ -1,4 +1,5 @@
 pub mod Additive
+pub mod Barrett
 pub mod Blocks
 pub mod Bounds
 pub mod Butterfly
@@ -9,6 +10,9 @@ pub mod Draws
 pub mod Eval
 pub mod Filled
 pub mod Inverse
+pub mod LevelRanges
+pub mod LooseButterfly
+pub mod LoosePairs
 pub mod Mapped
 pub mod Pairs
 pub mod Places

@@ -6,7 +6,7 @@ use native.Mathlib.Nat.{not-suc-le-zero, zero-add, suc-add, mod-lt}
 use native.Mathlib.Numerals.{add-one}
 use native.Mathlib.Omega.{arith}
 use lib.ListN.{length, take, drop, getD, set, length-append, length-set, length-drop, List·getD-append, take-append-drop}
-use lib.Seq.{set-append-left, getD-append-add, length-take-le, take-all, take-suc, take-suc-set, getD-take, getD-drop}
+use lib.Seq.{set-append-left, getD-append-add, length-take-le, take-all, take-suc, take-suc-set}
 use Rattle.ring.specs.Words.{Below, zipTo}
 use Rattle.ring.specs.Poly.{map2}
 use Rattle.ring.specs.Residue.{halves, mods, scale}
@@ -120,12 +120,6 @@ module _ (h1 h2 : ℕ → ℕ → ℕ) (n : ℕ) (A : List ℕ) (e : length A �
 
     pub at-hi : getD a (n + i) 0 ≡ getD (drop n A) i 0
     at-hi = ap (λ (t : List ℕ). getD t (n + i) 0) (s .is) ∙ mixed-hi h1 h2 (take n A) (drop n A) n lo hi i
-
-    pub low-lo : (p : ℕ) → 0 < p → Below p A → getD a i 0 < p
-    low-lo p pos g = subst (λ (x : ℕ). x < p) (sym (at-lo ∙ getD-take n A i 0 l)) (below-at p pos A g i)
-
-    pub low-hi : (p : ℕ) → 0 < p → Below p A → getD a (n + i) 0 < p
-    low-hi p pos g = subst (λ (x : ℕ). x < p) (sym (at-hi ∙ getD-drop n A i 0)) (below-at p pos A g (n + i))
 
     pub paired-more : (v w : ℕ) → v ≡ h1 (getD a i 0) (getD a (n + i) 0) → w ≡ h2 (getD a i 0) (getD a (n + i) 0)
         → Paired h1 h2 n A (i + 1) (set (set a i v) (n + i) w)

@@ -2,15 +2,15 @@
 use mathlib.Core.Path.{_≡_, refl, ap, sym, _∙_}
 use mathlib.Core.List.{List, [], _∷_, _++_}
 use Prim.Native.Nat.{ℕ, zero, suc, _*_, _%_, _<_}
-use native.Mathlib.Nat.{mod-lt}
+use native.Mathlib.Nat.{mod-lt, mod-mod, mod-eq-of-lt}
 use native.Mathlib.Omega.{arith}
-use lib.ListN.{length, take, drop}
+use lib.ListN.{length, take, drop, getD, set}
 use Rattle.hash.specs.Lists.{table}
 use Rattle.hash.proofs.Table.{table-none, table-next, length-table}
 use Rattle.ring.specs.Words.{Below, Residues}
 use Rattle.ring.specs.Poly.{map2}
 use Rattle.ring.specs.Residue.{mods, scale}
-use Rattle.ring.proofs.Cong.{Eqv, ≈trans, ≈eq, ≈mod, ≈same, ≈kit}
+use Rattle.ring.proofs.Cong.{Eqv, ≈refl, ≈trans, ≈eq, ≈mod, ≈same, ≈kit}
 use Rattle.ring.proofs.Sums.{below-append}
 
 -- ---- a rule for two lists
@@ -39,16 +39,41 @@ pub length-mods : (p : ℕ) (xs : List ℕ) → length (mods p xs) ≡ length xs
 length-mods p [] = refl
 length-mods p (x ∷ xs) = ap suc (length-mods p xs)
 
-below-mods : {p : ℕ} → 0 < p → (xs : List ℕ) → Below p (mods p xs)
+pub below-mods : {p : ℕ} → 0 < p → (xs : List ℕ) → Below p (mods p xs)
 below-mods pos [] = tt
 below-mods pos (x ∷ xs) = (mod-lt x pos, below-mods pos xs)
 
 pub residues-mods : {p n : ℕ} → 0 < p → (xs : List ℕ) → length xs ≡ n → Residues p n (mods p xs)
 residues-mods {p} pos xs e = record { long = length-mods p xs ∙ e; low = below-mods pos xs }
 
-mods-append : (p : ℕ) (xs ys : List ℕ) → mods p (xs ++ ys) ≡ mods p xs ++ mods p ys
+pub mods-append : (p : ℕ) (xs ys : List ℕ) → mods p (xs ++ ys) ≡ mods p xs ++ mods p ys
 mods-append p [] ys = refl
 mods-append p (x ∷ xs) ys = ap (λ (l : List ℕ). x % p ∷ l) (mods-append p xs ys)
+
+pub mods-mods : (p : ℕ) (xs : List ℕ) → mods p (mods p xs) ≡ mods p xs
+mods-mods p [] = refl
+mods-mods p (x ∷ xs) = cc (mod-mod x p, mods-mods p xs)
+
+module _ (p : ℕ) where
+  pub mods-take : (n : ℕ) (xs : List ℕ) → mods p (take n xs) ≡ take n (mods p xs)
+  mods-take zero xs = refl
+  mods-take (suc n) [] = refl
+  mods-take (suc n) (x ∷ xs) = ap (λ (l : List ℕ). x % p ∷ l) (mods-take n xs)
+
+  pub mods-drop : (n : ℕ) (xs : List ℕ) → mods p (drop n xs) ≡ drop n (mods p xs)
+  mods-drop zero xs = refl
+  mods-drop (suc n) [] = refl
+  mods-drop (suc n) (x ∷ xs) = mods-drop n xs
+
+  pub mods-set : (xs : List ℕ) (i v : ℕ) → mods p (set xs i v) ≡ set (mods p xs) i (v % p)
+  mods-set [] i v = refl
+  mods-set (x ∷ xs) zero v = refl
+  mods-set (x ∷ xs) (suc i) v = ap (λ (l : List ℕ). x % p ∷ l) (mods-set xs i v)
+
+  pub mods-at : 0 < p → (xs : List ℕ) (i : ℕ) → getD (mods p xs) i 0 ≡ getD xs i 0 % p
+  mods-at pos [] i = sym (mod-eq-of-lt pos)
+  mods-at pos (x ∷ xs) zero = refl
+  mods-at pos (x ∷ xs) (suc i) = mods-at pos xs i
 
 pub mods-table : (p : ℕ) (f : ℕ → ℕ) (n : ℕ) → mods p (table f n) ≡ table (λ (i : ℕ). f i % p) n
 mods-table p f zero = ap (mods p) (table-none f) ∙ sym (table-none (λ (i : ℕ). f i % p))
@@ -108,6 +133,10 @@ module _ {p : ℕ} (pos : 0 < p) where
         ≈same (mod-lt (s * a) pos) (g .0) (≈trans (≈mod _) (≈trans {b = 1 * a} (grw (≈kit, h)) (≈eq (omega arith)))),
         scale-one s h f (g .1),
       )
+
+  -- rests times 1
+  pub scale-rests : (xs : List ℕ) → scale p 1 (mods p xs) ≡ mods p xs
+  scale-rests xs = scale-one 1 ≈refl (mods p xs) (below-mods pos xs)
 
   pub scale-scale : (s t : ℕ) (f : List ℕ) → scale p s (scale p t f) ≡ scale p (s * t) f
   scale-scale s t [] = refl

@@ -14,7 +14,7 @@ use Rattle.ring.specs.Transform.{g, root, ntt, intt, pointwise, mul}
 use Rattle.ring.proofs.Cong.{Eqv, ≈sym, ≈trans, ≈mod, ≈pow}
 use Rattle.ring.proofs.Eval.{eval-rests}
 use Rattle.ring.proofs.Places.{residues-mods, residues-scale, mods-table}
-use Rattle.ring.proofs.Values.{evals, evals-table, residues-fwd, fwd-eval, fwd-prod}
+use Rattle.ring.proofs.Values.{evals, evals-table, fwd-eval, fwd-prod}
 use Rattle.ring.proofs.Inverse.{residues-bwd, undone, onto}
 use Rattle.ring.proofs.Tables.{prime-pos, roots-at, top-at, mirror-top, over-at, point, leaves}
 use Rattle.ring.proofs.Crt.{rest, mods-times, mods-prod, mods-crt-false, mods-crt-true}
@@ -22,9 +22,6 @@ use Rattle.ring.proofs.Crt.{rest, mods-times, mods-prod, mods-crt-false
 -- ---- modulo one prime, 512 residues
 
 module _ (s : Bool) (f : List ℕ) (r : Residues (prime s) 512 f) where
-  pub forth-residues : Residues (prime s) 512 (fwd (prime s) (rootOf s) 9 1 f)
-  forth-residues = residues-fwd (prime-pos s) (rootOf s) 9 1 f r
-
   pub back-residues : Residues (prime s) 512 (backOne s f)
   unfolding backOne
   back-residues =

@@ -9,7 +9,7 @@ use native.Mathlib.Numerals.{add-one}
 use native.Mathlib.Omega.{arith}
 use borrow.Author.Tests.{ltb-true, lt-ltb, le-ltb}
 use lib.Dec.{ltb, lit<}
-use lib.ListN.{length, take, drop, getD, replicate, length-append, length-drop, length-replicate, drop-of-length-le}
+use lib.ListN.{length, take, drop, getD, set, replicate, length-append, length-drop, length-replicate, drop-of-length-le}
 use lib.Seq.{drop-cons, ext-getD, length-take-le}
 use Rattle.hash.specs.Lists.{pick}
 use Rattle.ring.specs.Words.{q, addq, subq, zipTo, addW, subW, Below, allBelow, Residues, Words, Linear}
@@ -74,6 +74,15 @@ module _ (p : ℕ) where
   pub below-append : (xs ys : List ℕ) → Below p xs → Below p ys → Below p (xs ++ ys)
   below-append [] ys h g = g
   below-append (x ∷ xs) ys h g = (h .0, below-append xs ys (h .1) g)
+
+  pub below-set : (xs : List ℕ) (i v : ℕ) → Below p xs → v < p → Below p (set xs i v)
+  below-set [] i v h l = tt
+  below-set (x ∷ xs) zero v h l = (l, h .1)
+  below-set (x ∷ xs) (suc i) v h l = (h .0, below-set xs i v (h .1) l)
+
+  pub below-wider : (m : ℕ) → p ≤ m → (xs : List ℕ) → Below p xs → Below m xs
+  below-wider m l [] h = tt
+  below-wider m l (x ∷ xs) h = (omega (arith, l, h .0), below-wider m l xs (h .1))
 
   pub below-zeros : 0 < p → (n : ℕ) → Below p (replicate n 0)
   below-zeros pos zero = tt

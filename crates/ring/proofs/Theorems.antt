@@ -1,5 +1,5 @@
 -- The theorems about the definitions of specs/Transform: what the layers above cite.
-use mathlib.Core.Path.{_≡_, ap, sym, _∙_}
+use mathlib.Core.Path.{_≡_, ap, sym, _∙_, subst}
 use mathlib.Core.Bool.{Bool, true, false}
 use mathlib.Core.List.{List}
 use Prim.Native.Nat.{ℕ, _+_, _*_, _%_, _<_}
@@ -11,7 +11,7 @@ use Rattle.ring.specs.Words.{q, addq, addW, Words, Linear}
 use Rattle.ring.specs.Poly.{eval, map2}
 use Rattle.ring.specs.Residue.{prime, rootOf, mods, timesp, fwd, backOne, crtOf}
 use Rattle.ring.specs.Transform.{root, ntt, intt, pointwise, mul}
-use Rattle.ring.proofs.Cong.{Eqv, ≈refl, ≈sym, ≈trans, ≈mod, ≈kit}
+use Rattle.ring.proofs.Cong.{Eqv, ≈refl, ≈sym, ≈trans, ≈eq, ≈mod, ≈kit}
 use Rattle.ring.proofs.Sums.{words-add}
 use Rattle.ring.proofs.Places.{length-map2, residues-map2, residues-mods, residues-table, maps}
 use Rattle.ring.proofs.Eval.{residues-prod}
@@ -52,15 +52,16 @@ pub ntt-by-rests : (f : List ℕ) → length f ≡ 512
 ntt-by-rests f e =
     maps crtOf (sym (ntt-rest true f e)) (sym (ntt-rest false f e)) ∙ crt-mods (ntt f) (ntt-words f .low)
 
--- a product modulo q from those modulo the primes
-pub pointwise-rests : (a b : ℕ)
-    → crtOf ((a % 33292289) * (b % 33292289) % 33292289) ((a % 16515073) * (b % 16515073) % 16515073) ≡ (a * b) % q
-pointwise-rests a b =
-    crt-is (a * b) ((a % 33292289) * (b % 33292289) % 33292289) ((a % 16515073) * (b % 16515073) % 16515073)
-    (mod-lt ((a % 16515073) * (b % 16515073)) (prime-pos false)) (rests 33292289) (rests 16515073)
+-- a product modulo q from those modulo the primes: r1 the least residue, r2 any
+pub pointwise-rests : (a b r2 r1 : ℕ) → r2 % 33292289 ≡ (a % 33292289) * (b % 33292289) % 33292289
+    → r1 ≡ (a % 16515073) * (b % 16515073) % 16515073 → crtOf r2 r1 ≡ (a * b) % q
+pointwise-rests a b r2 r1 e g =
+    crt-is (a * b) r2 r1 (subst (λ (x : ℕ). x < 16515073) (sym g) (mod-lt ((a % 16515073) * (b % 16515073)) (prime-pos false)))
+    (≈trans {b = (a % 33292289) * (b % 33292289)} (record { same = e }) (rests 33292289))
+    (≈trans (≈eq g) (≈trans (≈mod ((a % 16515073) * (b % 16515073))) (rests 16515073)))
   where
-    rests : (p : ℕ) → Eqv p ((a % p) * (b % p) % p) (a * b)
-    rests p = ≈trans (≈mod ((a % p) * (b % p))) (grw (≈kit, ≈mod {p = p} a, ≈mod {p = p} b) ≈refl)
+    rests : (p : ℕ) → Eqv p ((a % p) * (b % p)) (a * b)
+    rests p = grw (≈kit, ≈mod {p = p} a, ≈mod {p = p} b) ≈refl
 
 -- ---- the transform and its inverse
 

@@ -90,8 +90,8 @@ backOne s f = scale (prime s) (over512 s) (bwd (prime s) (rootOf s) 9 1 f)
 abbrev pub crtOf : ℕ → ℕ → ℕ
 crtOf r2 r1 = r1 + 16515073 * (((r2 + (33292289 - r1)) * 520194) % 33292289)
 
--- a block of 2^d residues at node k of the tree with 512 leaves
-pub record Block (p d k : ℕ) (a : List ℕ) : Type 0 where
+-- a block of 2^d entries below m at node k of the tree with 512 leaves
+pub record Block (m d k : ℕ) (a : List ℕ) : Type 0 where
   pub long : length a ≡ 2 ^ d
   pub inside : suc k * 2 ^ d ≤ 1024
-  pub low : Below p a
+  pub low : Below m a

@@ -10,6 +10,7 @@ use crate::residue::combine;
 use crate::residue::combined;
 use crate::residue::forward;
 use crate::residue::mul;
+use crate::residue::narrow;
 use crate::residue::reduce;
 
 const Q: u64 = 549824583172097;
@@ -59,7 +60,7 @@ fn mul_word(x: u64, y: u64) -> u64
 {
     let r2 = mul(true, reduce(true, x), reduce(true, y));
     let r1 = mul(false, reduce(false, x), reduce(false, y));
-    combine(r2, r1)
+    combine(r2, narrow(false, r1))
 }
 
 // Is every word below p?

@@ -1,10 +1,11 @@
 // Inside the layer: polynomials modulo one prime of q (000, 2.7.2), in place. One code for both primes; `second` says which.
 ghost use mathlib.Core.Path.{_≡_};
-ghost use Prim.Native.Nat.{_+_, _*_, _-_, _%_, _<_, _≤_};
+ghost use Prim.Native.Nat.{ℕ, _+_, _*_, _-_, _%_, _<_, _≤_};
 ghost use lib.ListN.{length};
 ghost use Rattle.ring.specs.Words.{q, Below, Residues};
 ghost use Rattle.ring.specs.Poly.{map2};
 ghost use Rattle.ring.specs.Residue.{prime, rootOf, over512, powers, up, down, join, part, halves, fwd, bwd, scale, mods, backOne, crtOf, Block};
+ghost use Rattle.ring.specs.Loose.{Loose, LooseList, CooleyTukey, GentlemanSande, Stepped, forthRange, backRange};
 use crate::powers::powers;
 
 // The two results of a butterfly.
@@ -34,8 +35,8 @@ pub fn reduce(second: bool, x: u64) -> u64
     if second { x % 33292289 } else { x % 16515073 }
 }
 
-// The same, where one subtraction is enough: compiled to a conditional move, with no jump.
-fn narrow(second: bool, x: u64) -> u64
+// The least residue of what is below twice the prime: compiled to a conditional move, with no jump.
+pub fn narrow(second: bool, x: u64) -> u64
     requires { ⌜ x < 2 * prime second ⌝ }
     ensures { λ r. ⌜ r ≡ x % prime second ⌝ }
 {
@@ -43,47 +44,70 @@ fn narrow(second: bool, x: u64) -> u64
     if x < p { x } else { x - p }
 }
 
-fn add(second: bool, a: u64, b: u64) -> u64
-    requires { ⌜ (a < prime second) × (b < prime second) ⌝ }
-    ensures { λ r. ⌜ r ≡ (a + b) % prime second ⌝ }
+// x as it is, seen to have 32 bits: products of such factors are taken two at a time.
+fn low32(x: u64) -> u64
+    requires { ⌜ x < 4294967296 ⌝ }
+    ensures { λ r. ⌜ r ≡ x ⌝ }
 {
-    narrow(second, a + b)
+    x % 4294967296
 }
 
-fn sub(second: bool, a: u64, b: u64) -> u64
-    requires { ⌜ (a < prime second) × (b < prime second) ⌝ }
-    ensures { λ r. ⌜ r ≡ (a + (prime second - b)) % prime second ⌝ }
+// Barrett's quotient: t by the prime, rounded down, or one less. The factors are 2^55 by the prime, rounded down; t has 55 bits.
+fn quotient(second: bool, t: u64) -> u64
+    requires { ⌜ t < 32 * (prime second * prime second) ⌝ }
+    ensures { λ r. ⌜ (r * prime second ≤ t) × (t < r * prime second + 2 * prime second) ⌝ }
 {
-    narrow(second, a + (modulus(second) - b))
-}
-
-pub fn mul(second: bool, a: u64, b: u64) -> u64
-    requires { ⌜ (a < prime second) × (b < prime second) ⌝ }
-    ensures { λ r. ⌜ r ≡ (a * b) % prime second ⌝ }
-{
-    reduce(second, a * b)
-}
-
-// x + w y and x - w y.
-fn cross(second: bool, w: u64, x: u64, y: u64) -> Pair
-    requires { ⌜ (w < prime second) × (x < prime second) × (y < prime second) ⌝ }
-    ensures { λ r. ⌜ (r .sum ≡ up (prime second) w x y) × (r .rest ≡ down (prime second) w x y) ⌝ }
-{
-    let t = mul(second, w, y);
-    Pair {
-        sum: add(second, x, t),
-        rest: sub(second, x, t),
+    if second {
+        (low32(t >> 23) * 1082196451) >> 32
+    } else {
+        (low32(t >> 23) * 2181570557) >> 32
     }
 }
 
-// x + y and w (y - x): the way back, but for a factor 2.
+// Barrett's reduction, left at what its quotient leaves of t: below twice the prime.
+fn barrett(second: bool, t: u64) -> u64
+    requires { ⌜ t < 32 * (prime second * prime second) ⌝ }
+    ensures { λ r. ⌜ Loose (prime second) (2 * prime second) (t % prime second) r ⌝ }
+{
+    t - quotient(second, t) * modulus(second)
+}
+
+// The residue product, returned loosely (02, #109): factors and product below twice the prime.
+pub fn mul(second: bool, a: u64, b: u64) -> u64
+    requires { ⌜ (a < 2 * prime second) × (b < 2 * prime second) ⌝ }
+    ensures { λ r. ⌜ Loose (prime second) (2 * prime second) ((a * b) % prime second) r ⌝ }
+{
+    barrett(second, low32(a) * low32(b))
+}
+
+// The same for a least residue, as those of the tables are, and a sum below 32 primes.
+fn mul_wide(second: bool, w: u64, y: u64) -> u64
+    requires { ⌜ (w < prime second) × (y < 32 * prime second) ⌝ }
+    ensures { λ r. ⌜ Loose (prime second) (2 * prime second) ((w * y) % prime second) r ⌝ }
+{
+    barrett(second, low32(w) * low32(y))
+}
+
+// x + w y and x - w y, not reduced.
+fn cross(second: bool, w: u64, x: u64, y: u64) -> Pair
+    requires { ⌜ (w < prime second) × (x < 32 * prime second) × (y < 32 * prime second) ⌝ }
+    ensures { λ r. ⌜ CooleyTukey (prime second) w x y (r .sum) (r .rest) ⌝ }
+{
+    let t = mul_wide(second, w, y);
+    Pair {
+        sum: x + t,
+        rest: x + (2 * modulus(second) - t),
+    }
+}
+
+// x + y, not reduced, and w (y - x): the way back, but for a factor 2.
 fn back(second: bool, w: u64, x: u64, y: u64) -> Pair
-    requires { ⌜ (w < prime second) × (x < prime second) × (y < prime second) ⌝ }
-    ensures { λ r. ⌜ (r .sum ≡ join (prime second) x y) × (r .rest ≡ part (prime second) w x y) ⌝ }
+    requires { ⌜ (w < prime second) × (x < 16 * prime second) × (y < 16 * prime second) ⌝ }
+    ensures { λ r. ⌜ GentlemanSande (prime second) w x y (r .sum) (r .rest) ⌝ }
 {
     Pair {
-        sum: add(second, x, y),
-        rest: mul(second, w, sub(second, y, x)),
+        sum: x + y,
+        rest: mul_wide(second, w, y + (16 * modulus(second) - x)),
     }
 }
 
@@ -97,8 +121,8 @@ fn zeta(second: bool, z: &[u64; 512], k: usize) -> u64
 
 // A block of the transform: a butterfly at each place of its halves.
 fn split(second: bool, a: &mut [u64], h: usize, w: u64)
-    requires { ⌜ (length (now a) ≡ 2 * h) × (w < prime second) × Below (prime second) (now a) ⌝ }
-    ensures { λ _. ⌜ now (a .exit) ≡ halves (up (prime second) w) (down (prime second) w) h (now (a .entry)) ⌝ }
+    requires { ⌜ (length (now a) ≡ 2 * h) × (w < prime second) × Below (32 * prime second) (now a) ⌝ }
+    ensures { λ _. ⌜ Stepped (prime second) (halves (up (prime second) w) (down (prime second) w) h) (λ (m : ℕ). m + 2 * prime second) (now (a .entry)) (now (a .exit)) ⌝ }
 {
     let mut i = 0;
     while i < h {
@@ -111,8 +135,8 @@ fn split(second: bool, a: &mut [u64], h: usize, w: u64)
 
 // A block of the inverse.
 fn merge(second: bool, a: &mut [u64], h: usize, w: u64)
-    requires { ⌜ (length (now a) ≡ 2 * h) × (w < prime second) × Below (prime second) (now a) ⌝ }
-    ensures { λ _. ⌜ now (a .exit) ≡ halves (join (prime second)) (part (prime second) w) h (now (a .entry)) ⌝ }
+    requires { ⌜ (length (now a) ≡ 2 * h) × (w < prime second) × Below (16 * prime second) (now a) ⌝ }
+    ensures { λ _. ⌜ Stepped (prime second) (halves (join (prime second)) (part (prime second) w) h) (λ (m : ℕ). 2 * m) (now (a .entry)) (now (a .exit)) ⌝ }
 {
     let mut i = 0;
     while i < h {
@@ -123,10 +147,33 @@ fn merge(second: bool, a: &mut [u64], h: usize, w: u64)
     }
 }
 
+// Each entry times s.
+fn scaled(second: bool, a: &mut [u64], s: u64)
+    requires { ⌜ (s < prime second) × Below (32 * prime second) (now a) ⌝ }
+    ensures { λ _. ⌜ LooseList (prime second) (2 * prime second) (scale (prime second) s (mods (prime second) (now (a .entry)))) (now (a .exit)) ⌝ }
+{
+    let mut i = 0;
+    while i < a.len() {
+        a[i] = mul_wide(second, s, a[i]);
+        i += 1;
+    }
+}
+
+// A level of the inverse, to blocks of 2^d entries, with the sums of the fifth reduced.
+fn level(second: bool, a: &mut [u64], h: usize, w: u64, d: usize)
+    requires { ⌜ (length (now a) ≡ 2 * h) × (w < prime second) × (0 < d) × (d ≤ 9) × Below (backRange (d - 1) * prime second) (now a) ⌝ }
+    ensures { λ _. ⌜ LooseList (prime second) (backRange d * prime second) (halves (join (prime second)) (part (prime second) w) h (mods (prime second) (now (a .entry)))) (now (a .exit)) ⌝ }
+{
+    merge(second, a, h, w);
+    if d == 5 {
+        scaled(second, a, 1);
+    }
+}
+
 // The last two levels of the transform, a block of four at node k.
 fn last(second: bool, z: &[u64; 512], a: &mut [u64], k: usize)
-    requires { ⌜ (now z ≡ powers second) × Block (prime second) 2 k (now a) ⌝ }
-    ensures { λ _. ⌜ now (a .exit) ≡ fwd (prime second) (rootOf second) 2 k (now (a .entry)) ⌝ }
+    requires { ⌜ (now z ≡ powers second) × Block (forthRange 2 * prime second) 2 k (now a) ⌝ }
+    ensures { λ _. ⌜ LooseList (prime second) (forthRange 0 * prime second) (fwd (prime second) (rootOf second) 2 k (mods (prime second) (now (a .entry)))) (now (a .exit)) ⌝ }
 {
     let w = zeta(second, z, k);
     let s = cross(second, w, a[0], a[2]);
@@ -142,7 +189,7 @@ fn last(second: bool, z: &[u64; 512], a: &mut [u64], k: usize)
 // The first two levels of the inverse. k is the node that mirrors the block's.
 fn first(second: bool, z: &[u64; 512], a: &mut [u64], k: usize)
     requires { ⌜ (now z ≡ powers second) × Block (prime second) 2 k (now a) ⌝ }
-    ensures { λ _. ⌜ now (a .exit) ≡ bwd (prime second) (rootOf second) 2 k (now (a .entry)) ⌝ }
+    ensures { λ _. ⌜ LooseList (prime second) (backRange 2 * prime second) (bwd (prime second) (rootOf second) 2 k (mods (prime second) (now (a .entry)))) (now (a .exit)) ⌝ }
 {
     let s = back(second, zeta(second, z, 2 * k + 1), a[0], a[1]);
     let t = back(second, zeta(second, z, 2 * k), a[2], a[3]);
@@ -157,8 +204,8 @@ fn first(second: bool, z: &[u64; 512], a: &mut [u64], k: usize)
 
 // The transform of a block of 2^d entries at node k.
 fn transform(second: bool, z: &[u64; 512], a: &mut [u64], k: usize, d: usize)
-    requires { ⌜ (now z ≡ powers second) × (2 ≤ d) × Block (prime second) d k (now a) ⌝ }
-    ensures { λ _. ⌜ now (a .exit) ≡ fwd (prime second) (rootOf second) d k (now (a .entry)) ⌝ }
+    requires { ⌜ (now z ≡ powers second) × (2 ≤ d) × (d ≤ 9) × Block (forthRange d * prime second) d k (now a) ⌝ }
+    ensures { λ _. ⌜ LooseList (prime second) (forthRange 0 * prime second) (fwd (prime second) (rootOf second) d k (mods (prime second) (now (a .entry)))) (now (a .exit)) ⌝ }
 {
     if 2 < d {
         let h = a.len() / 2;
@@ -173,29 +220,17 @@ fn transform(second: bool, z: &[u64; 512], a: &mut [u64], k: usize, d: usize)
 
 // The inverse of the transform of a block of 2^d entries, but for a factor 2^d. k is the node that mirrors the block's.
 fn invert(second: bool, z: &[u64; 512], a: &mut [u64], k: usize, d: usize)
-    requires { ⌜ (now z ≡ powers second) × (2 ≤ d) × Block (prime second) d k (now a) ⌝ }
-    ensures { λ _. ⌜ now (a .exit) ≡ bwd (prime second) (rootOf second) d k (now (a .entry)) ⌝ }
+    requires { ⌜ (now z ≡ powers second) × (2 ≤ d) × (d ≤ 9) × Block (prime second) d k (now a) ⌝ }
+    ensures { λ _. ⌜ LooseList (prime second) (backRange d * prime second) (bwd (prime second) (rootOf second) d k (mods (prime second) (now (a .entry)))) (now (a .exit)) ⌝ }
 {
     if 2 < d {
         let h = a.len() / 2;
         invert(second, z, &mut a[..h], 2 * k + 1, d - 1);
         invert(second, z, &mut a[h..], 2 * k, d - 1);
         let w = zeta(second, z, k);
-        merge(second, a, h, w);
+        level(second, a, h, w, d);
     } else {
         first(second, z, a, k);
-    }
-}
-
-// Each entry times s.
-fn scaled(second: bool, a: &mut [u64], s: u64)
-    requires { ⌜ (s < prime second) × Below (prime second) (now a) ⌝ }
-    ensures { λ _. ⌜ now (a .exit) ≡ scale (prime second) s (now (a .entry)) ⌝ }
-{
-    let mut i = 0;
-    while i < a.len() {
-        a[i] = mul(second, s, a[i]);
-        i += 1;
     }
 }
 
@@ -210,20 +245,20 @@ fn rests(second: bool, a: &mut [u64])
     }
 }
 
-// The rests of the coefficients a, transformed.
+// The coefficients a, transformed.
 pub fn forward(second: bool, a: &mut [u64])
     requires { ⌜ length (now a) ≡ 512 ⌝ }
-    ensures { λ _. ⌜ (now (a .exit) ≡ fwd (prime second) (rootOf second) 9 1 (mods (prime second) (now (a .entry)))) × Residues (prime second) 512 (now (a .exit)) ⌝ }
+    ensures { λ _. ⌜ LooseList (prime second) (32 * prime second) (fwd (prime second) (rootOf second) 9 1 (mods (prime second) (now (a .entry)))) (now (a .exit)) ⌝ }
 {
     rests(second, a);
     let z = powers(second);
     transform(second, &z, a, 1, 9);
 }
 
-// The rests of the values a, transformed back.
+// The values a, transformed back.
 pub fn backward(second: bool, a: &mut [u64])
     requires { ⌜ length (now a) ≡ 512 ⌝ }
-    ensures { λ _. ⌜ (now (a .exit) ≡ backOne second (mods (prime second) (now (a .entry)))) × Residues (prime second) 512 (now (a .exit)) ⌝ }
+    ensures { λ _. ⌜ LooseList (prime second) (32 * prime second) (backOne second (mods (prime second) (now (a .entry)))) (now (a .exit)) ⌝ }
 {
     rests(second, a);
     let z = powers(second);
@@ -231,23 +266,23 @@ pub fn backward(second: bool, a: &mut [u64])
     scaled(second, a, inverse(second));
 }
 
-// The number below q with the rests r1 and r2.
+// The number below q with the least residue r1 modulo the first prime, and congruent to r2 modulo the second.
 pub fn combine(r2: u64, r1: u64) -> u64
-    requires { ⌜ (r2 < 33292289) × (r1 < 16515073) ⌝ }
+    requires { ⌜ (r2 < 32 * 33292289) × (r1 < 16515073) ⌝ }
     ensures { λ r. ⌜ (r ≡ crtOf r2 r1) × (r < q) ⌝ }
 {
     let t = ((r2 + (33292289 - r1)) * 520194) % 33292289;
     r1 + 16515073 * t
 }
 
-// From the rests modulo the second prime, in a, and modulo the first, in b, to the numbers below q.
+// From residues modulo the second prime, in a, and modulo the first, in b, to the numbers below q: here they are made least.
 pub fn combined(a: &mut [u64], b: &[u64])
-    requires { ⌜ Residues 33292289 512 (now a) × Residues 16515073 512 (now b) ⌝ }
-    ensures { λ _. ⌜ (now (a .exit) ≡ map2 crtOf (now (a .entry)) (now (b .entry))) × Residues q 512 (now (a .exit)) ⌝ }
+    requires { ⌜ Residues (32 * 33292289) 512 (now a) × (length (now b) ≡ 512) ⌝ }
+    ensures { λ _. ⌜ (now (a .exit) ≡ map2 crtOf (mods 33292289 (now (a .entry))) (mods 16515073 (now (b .entry)))) × Residues q 512 (now (a .exit)) ⌝ }
 {
     let mut i = 0;
     while i < a.len() {
-        a[i] = combine(a[i], b[i]);
+        a[i] = combine(a[i], reduce(false, b[i]));
         i += 1;
     }
 }

@@ -13,7 +13,7 @@ unfolding intt
 returns c =
     let x = c .before .before .before .before .before .before .before .before .before .before .args .x in
     let e : _ ≡ intt x =
-    c .before .combined .ensures .0 ∙ maps crtOf (c .before .before .before .before .before .before .before .before .backward .ensures .0) (c .before .before .before .before .before .backward2 .ensures .0) in
+    c .before .combined .ensures .0 ∙ maps crtOf (c .before .before .before .before .before .before .before .before .backward .ensures .same) (c .before .before .before .before .before .backward2 .ensures .same) in
     (e, c .before .combined .ensures .1, λ (h : Words 512 x). ap ntt e ∙ ntt-intt x h)
 
 pub intt-spec : {M : Type 1} → statement M

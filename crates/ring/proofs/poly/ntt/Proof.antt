@@ -8,7 +8,7 @@ use Rattle.ring.proofs.poly.ntt.Tie as tie
 
 returns : tie.Need-returns
 returns c = (
-  c .before .combined .ensures .0 ∙ maps crtOf (c .before .before .before .before .before .before .before .before .forward .ensures .0) (c .before .before .before .before .before .forward2 .ensures .0) ∙ ntt-by-rests (c .before .before .before .before .before .before .before .before .before .before .args .f) (c .before .before .before .before .before .before .before .before .before .before .good .0 .1 .0 .1),
+  c .before .combined .ensures .0 ∙ maps crtOf (c .before .before .before .before .before .before .before .before .forward .ensures .same) (c .before .before .before .before .before .forward2 .ensures .same) ∙ ntt-by-rests (c .before .before .before .before .before .before .before .before .before .before .args .f) (c .before .before .before .before .before .before .before .before .before .before .good .0 .1 .0 .1),
   c .before .combined .ensures .1,
 )
 

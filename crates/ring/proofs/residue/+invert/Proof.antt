@@ -1,13 +1,13 @@
-use mathlib.Core.Path.{_≡_, ap, sym, _∙_, subst}
-use Prim.Native.Nat.{_/_, ℕ, _<_}
+use mathlib.Core.Path.{_≡_, sym, _∙_, subst}
+use Prim.Native.Nat.{ℕ, _*_, _/_, _<_}
 use native.Mathlib.Omega.{arith}
 use lib.ListN.{length}
 use lib.Seq.{length-take-le}
 use borrow.Author.Needs.{needs}
 use borrow.Fn.Kinds.{In}
 use borrow.Fn.PlainCycle.{Measures, is, falls, and}
-use Rattle.ring.specs.Residue.{prime, rootOf, bwd, Block}
-use Rattle.ring.proofs.Tables.{prime-pos}
+use Rattle.ring.specs.Residue.{prime, rootOf, bwd, mods, Block}
+use Rattle.ring.specs.Loose.{LooseList, backRange}
 use Rattle.ring.proofs.Bounds.{root-below}
 use Rattle.ring.proofs.Blocks.{node-lt, long-half, first-part, second-part, after-part, laid-long, laid-low, whole-bwd}
 use Rattle.ring.proofs.residue.+invert.{statement}
@@ -16,7 +16,7 @@ use Rattle.ring.proofs.residue.invert.Reads as invert
 use Rattle.ring.proofs.residue.invert.Kinds as invert-kinds
 use Rattle.ring.proofs.residue.+invert.Lts-invert as invert-lts
 use Rattle.ring.proofs.residue.first.Reads as first-reads
-use Rattle.ring.proofs.residue.merge.Reads as merge-reads
+use Rattle.ring.proofs.residue.level.Reads as level-reads
 use Rattle.ring.proofs.residue.zeta.Reads as zeta-reads
 
 abbrev μ-invert : Measures 2 invert-kinds.ps ℕ
@@ -31,7 +31,7 @@ invert-below t = and 2 invert-kinds.ps (falls 2 invert-kinds.ps _<_ μ-invert t)
 -- what the calls ask and tell
 abbrev calls : ℕ → invert-lts.Claims
 calls t =
-    (invert-below t, invert.Post, zeta-reads.Asked, zeta-reads.Learnt, merge-reads.Asked, merge-reads.Learnt, first-reads.Asked, first-reads.Learnt)
+    (invert-below t, invert.Post, zeta-reads.Asked, zeta-reads.Learnt, level-reads.Asked, level-reads.Learnt, first-reads.Asked, first-reads.Learnt)
 
 invert-slice-aggregate-invert : (t : ℕ) → invert-lts.Need-slice-aggregate-invert (calls t) (invert-at t) invert.Post
 invert-slice-aggregate-invert t c = sym (length-take-le (length (c .before .before .before .args .a .now) / 2) (c .before .before .before .args .a .now) (omega arith))
@@ -41,65 +41,72 @@ invert-mul-invert t c =
     let b = c .before .before .before in
     let g = b .args in
     let l = c .before .if1 .taken in
-    omega (arith, node-lt (prime (g .second)) (g .d) (g .k) (g .a .now) l (b .pre .1 .2))
+    omega (arith, node-lt (prime (g .second)) (g .d) (g .k) (g .a .now) l (b .pre .1 .3))
 
 invert-add-invert : (t : ℕ) → invert-lts.Need-add-invert (calls t) (invert-at t) invert.Post
 invert-add-invert t c =
     let b = c .before .before .before in
     let g = b .args in
     let l = c .before .if1 .taken in
-    omega (arith, node-lt (prime (g .second)) (g .d) (g .k) (g .a .now) l (b .pre .1 .2))
+    omega (arith, node-lt (prime (g .second)) (g .d) (g .k) (g .a .now) l (b .pre .1 .3))
 
 invert-invert-requires : (t : ℕ) → invert-lts.Need-invert-requires (calls t) (invert-at t) invert.Post
 invert-invert-requires t c κs =
     let b = c .before .before .before in
     let g = b .args in
     let l = c .before .if1 .taken in
-    (omega (arith, b .pre .0), (b .pre .1 .0, omega arith, first-part (prime (g .second)) (g .d) (g .k) (g .a .now) l (b .pre .1 .2)))
+    (omega (arith, b .pre .0), (b .pre .1 .0, omega arith, omega (arith, b .pre .1 .2), first-part (prime (g .second)) (g .d) (g .k) (g .a .now) l (b .pre .1 .3)))
 
 invert-sub-invert-2 : (t : ℕ) → invert-lts.Need-sub-invert-2 (calls t) (invert-at t) invert.Post
 invert-sub-invert-2 t c =
     let b = c .before .before .before .before .before .before in
     let g = b .args in
-    let l = c .before .before .before .before .if1 .taken in
-    omega (arith, after-part (prime (g .second)) (g .d) (g .k) (g .a .now) l (b .pre .1 .2) (c .before .before .invert .last .1 .1 .0) (c .before .before .invert .kept .1 .1 .0))
+    let r = c .before .before .invert in
+    omega (arith, after-part (prime (g .second)) (g .d) (g .k) (g .a .now) (c .before .before .before .before .if1 .taken) (b .pre .1 .3) (r .last .1 .1 .0) (r .kept .1 .1 .0))
 
 invert-part-invert-start : (t : ℕ) → invert-lts.Need-part-invert-start (calls t) (invert-at t) invert.Post
 invert-part-invert-start t c =
     let b = c .before .before .before .before .before .before in
     let g = b .args in
-    let l = c .before .before .before .before .if1 .taken in
-    omega (arith, after-part (prime (g .second)) (g .d) (g .k) (g .a .now) l (b .pre .1 .2) (c .before .before .invert .last .1 .1 .0) (c .before .before .invert .kept .1 .1 .0))
+    let r = c .before .before .invert in
+    omega (arith, after-part (prime (g .second)) (g .d) (g .k) (g .a .now) (c .before .before .before .before .if1 .taken) (b .pre .1 .3) (r .last .1 .1 .0) (r .kept .1 .1 .0))
 
 invert-mul-invert-3 : (t : ℕ) → invert-lts.Need-mul-invert-3 (calls t) (invert-at t) invert.Post
 invert-mul-invert-3 t c =
     let b = c .before .before .before .before .before .before .before in
     let g = b .args in
     let l = c .before .before .before .before .before .if1 .taken in
-    omega (arith, node-lt (prime (g .second)) (g .d) (g .k) (g .a .now) l (b .pre .1 .2))
+    omega (arith, node-lt (prime (g .second)) (g .d) (g .k) (g .a .now) l (b .pre .1 .3))
 
 invert-invert-requires-2 : (t : ℕ) → invert-lts.Need-invert-requires-2 (calls t) (invert-at t) invert.Post
 invert-invert-requires-2 t c κs =
     let b = c .before .before .before .before .before .before .before in
     let g = b .args in
-    let l = c .before .before .before .before .before .if1 .taken in
-    (omega (arith, b .pre .0), (b .pre .1 .0, omega arith, second-part (prime (g .second)) (g .d) (g .k) (g .a .now) l (b .pre .1 .2) (c .before .before .before .invert .last .1 .1 .0) (c .before .before .before .invert .kept .1 .1 .0)))
+    let r = c .before .before .before .invert in (
+      omega (arith, b .pre .0),
+      (b .pre .1 .0, omega arith, omega (arith, b .pre .1 .2), second-part (prime (g .second)) (g .d) (g .k) (g .a .now) (c .before .before .before .before .before .if1 .taken) (b .pre .1 .3) (r .last .1 .1 .0) (r .kept .1 .1 .0)),
+    )
 
 invert-zeta-requires : (t : ℕ) → invert-lts.Need-zeta-requires (calls t) (invert-at t) invert.Post
 invert-zeta-requires t c κs =
     let b = c .before .before .before .before .before .before .before .before .before .before in
     let g = b .args in
     let l = c .before .before .before .before .before .before .before .before .if1 .taken in
-    (b .pre .1 .0, node-lt (prime (g .second)) (g .d) (g .k) (g .a .now) l (b .pre .1 .2))
+    (b .pre .1 .0, node-lt (prime (g .second)) (g .d) (g .k) (g .a .now) l (b .pre .1 .3))
 
-invert-merge-requires : (t : ℕ) → invert-lts.Need-merge-requires (calls t) (invert-at t) invert.Post
-invert-merge-requires t c κs =
+invert-level-requires : (t : ℕ) → invert-lts.Need-level-requires (calls t) (invert-at t) invert.Post
+invert-level-requires t c κs =
     let b = c .before .before .before .before .before .before .before .before .before .before .before .before in
     let g = b .args in
-    let l = c .before .before .before .before .before .before .before .before .before .before .if1 .taken in (
-      laid-long (prime (g .second)) (g .d) (g .k) (g .a .now) l (b .pre .1 .2) (c .before .before .before .before .before .before .before .before .invert .last .1 .1 .0) (c .before .before .before .before .before .before .before .before .invert .kept .1 .1 .0) (c .before .before .before .before .invert2 .last .1 .1 .0) (c .before .before .before .before .invert2 .kept .1 .1 .0),
+    let l = c .before .before .before .before .before .before .before .before .before .before .if1 .taken in
+    let r = c .before .before .before .before .before .before .before .before .invert in
+    let s = c .before .before .before .before .invert2 in (
+      laid-long (prime (g .second)) (g .d) (g .k) (g .a .now) l (b .pre .1 .3) (r .last .1 .1 .0) (r .kept .1 .1 .0) (s .last .1 .1 .0) (s .kept .1 .1 .0),
       root-below (g .second) _ (c .before .zeta .ensures),
-      laid-low (prime (g .second)) (g .d) (g .k) (g .a .now) l (b .pre .1 .2) (c .before .before .before .before .before .before .before .before .invert .last .1 .1 .0) (c .before .before .before .before .before .before .before .before .invert .kept .1 .1 .0) (c .before .before .before .before .invert2 .last .1 .1 .0) (c .before .before .before .before .invert2 .kept .1 .1 .0) (rootOf (g .second)) (prime-pos (g .second)) (c .before .before .before .before .before .before .before .before .invert .ensures) (c .before .before .before .before .invert2 .ensures),
+      omega (arith, l),
+      b .pre .1 .2,
+      laid-low (prime (g .second)) (g .d) (g .k) (g .a .now) l (b .pre .1 .3) (r .last .1 .1 .0) (r .kept .1 .1 .0) (s .last .1 .1 .0) (s .kept .1 .1 .0)
+          (prime (g .second)) _ (rootOf (g .second)) (r .ensures) (s .ensures),
     )
 
 invert-first-requires : (t : ℕ) → invert-lts.Need-first-requires (calls t) (invert-at t) invert.Post
@@ -107,23 +114,29 @@ invert-first-requires t c κs =
     let b = c .before .before .before in
     let g = b .args in
     let e : 2 ≡ g .d = omega (arith, c .before .if1 .left, b .pre .1 .1) in
-    (b .pre .1 .0, subst (λ (m : ℕ). Block (prime (g .second)) m (g .k) (g .a .now)) (sym e) (b .pre .1 .2))
+    (b .pre .1 .0, subst (λ (m : ℕ). Block (prime (g .second)) m (g .k) (g .a .now)) (sym e) (b .pre .1 .3))
 
 invert-same-length : (t : ℕ) → invert-lts.Need-same-length (calls t) (invert-at t) invert.Post
 invert-same-length t c =
     let b = c .before .before .before .before .before .before .before .before .before .before .before .before .before .before .before in
     let g = b .args in
     let l = c .before .before .before .before .before .before .before .before .before .before .before .before .before .if1 .taken in
-    c .before .before .merge .kept .1 .0 ∙ laid-long (prime (g .second)) (g .d) (g .k) (g .a .now) l (b .pre .1 .2) (c .before .before .before .before .before .before .before .before .before .before .before .invert .last .1 .1 .0) (c .before .before .before .before .before .before .before .before .before .before .before .invert .kept .1 .1 .0) (c .before .before .before .before .before .before .before .invert2 .last .1 .1 .0) (c .before .before .before .before .before .before .before .invert2 .kept .1 .1 .0) ∙ sym (long-half (prime (g .second)) (g .d) (g .k) (g .a .now) l (b .pre .1 .2))
+    let r = c .before .before .before .before .before .before .before .before .before .before .before .invert in
+    let s = c .before .before .before .before .before .before .before .invert2 in
+    c .before .before .level .kept .1 .0
+    ∙ laid-long (prime (g .second)) (g .d) (g .k) (g .a .now) l (b .pre .1 .3) (r .last .1 .1 .0) (r .kept .1 .1 .0) (s .last .1 .1 .0) (s .kept .1 .1 .0)
+    ∙ sym (long-half (prime (g .second)) (g .d) (g .k) (g .a .now) l (b .pre .1 .3))
 
 invert-returns : (t : ℕ) → invert-lts.Need-returns (calls t) (invert-at t) invert.Post
 invert-returns t c =
     let b = c .before .before .before .before .before .before .before .before .before .before .before .before .before .before .before in
     let g = b .args in
-    let l = c .before .before .before .before .before .before .before .before .before .before .before .before .before .if1 .taken in
-    whole-bwd (prime (g .second)) (g .d) (g .k) (g .a .now) l (b .pre .1 .2) (c .before .before .before .before .before .before .before .before .before .before .before .invert .last .1 .1 .0) (c .before .before .before .before .before .before .before .before .before .before .before .invert .kept .1 .1 .0) (c .before .before .before .before .before .before .before .invert2 .last .1 .1 .0) (c .before .before .before .before .before .before .before .invert2 .kept .1 .1 .0)
-    (rootOf (g .second)) (prime-pos (g .second)) (c .before .before .before .before .before .before .before .before .before .before .before .invert .ensures) (c .before .before .before .before .before .before .before .invert2 .ensures)
-    (c .before .before .before .before .zeta .result) (c .before .before .before .before .zeta .ensures) (c .before .before .merge .last .1 .0) (c .before .before .merge .ensures)
+    let r = c .before .before .before .before .before .before .before .before .before .before .before .invert in
+    let s = c .before .before .before .before .before .before .before .invert2 in
+    let w = c .before .before .before .before .zeta in
+    let o = c .before .before .level in
+    whole-bwd (prime (g .second)) (g .d) (g .k) (g .a .now) (c .before .before .before .before .before .before .before .before .before .before .before .before .before .if1 .taken) (b .pre .1 .3) (r .last .1 .1 .0) (r .kept .1 .1 .0) (s .last .1 .1 .0) (s .kept .1 .1 .0)
+    (prime (g .second)) _ (rootOf (g .second)) (r .ensures) (s .ensures) _ (w .result) (w .ensures) (o .last .1 .0) (o .ensures)
 
 invert-same-length-2 : (t : ℕ) → invert-lts.Need-same-length-2 (calls t) (invert-at t) invert.Post
 invert-same-length-2 t c = c .before .before .first .kept .1 .1 .0
@@ -132,8 +145,9 @@ invert-returns-2 : (t : ℕ) → invert-lts.Need-returns-2 (calls t) (invert-at 
 invert-returns-2 t c =
     let b = c .before .before .before .before .before .before in
     let g = b .args in
+    let r = c .before .before .first in
     let e : 2 ≡ g .d = omega (arith, c .before .before .before .before .if1 .left, b .pre .1 .1) in
-    c .before .before .first .ensures ∙ ap (λ (m : ℕ). bwd (prime (g .second)) (rootOf (g .second)) m (g .k) (g .a .now)) e
+    subst (λ (m : ℕ). LooseList (prime (g .second)) (backRange m * prime (g .second)) (bwd (prime (g .second)) (rootOf (g .second)) m (g .k) (mods (prime (g .second)) (g .a .now))) (r .last .1 .1 .0)) e (r .ensures)
 
 pub +invert-spec : {M : Type 1} → statement M
 +invert-spec = close μ-invert λ t. invert-lts.spec (calls t)
@@ -153,7 +167,7 @@ pub +invert-spec : {M : Type 1} → statement M
     (λ c. search needs)
     (invert-invert-requires-2 t)
     (invert-zeta-requires t)
-    (invert-merge-requires t)
+    (invert-level-requires t)
     (invert-first-requires t)
     (invert-same-length t)
     (invert-returns t)

@@ -1,15 +1,16 @@
-use mathlib.Core.Path.{_≡_, ap, sym, _∙_, subst}
-use Prim.Native.Nat.{_/_, ℕ, _<_}
+use mathlib.Core.Path.{_≡_, sym, subst}
+use Prim.Native.Nat.{ℕ, _*_, _/_, _<_}
 use native.Mathlib.Omega.{arith}
 use lib.ListN.{length}
 use lib.Seq.{length-take-le}
 use borrow.Author.Needs.{needs}
 use borrow.Fn.Kinds.{In}
 use borrow.Fn.PlainCycle.{Measures, is, falls, and}
-use Rattle.ring.specs.Residue.{prime, rootOf, fwd, Block}
-use Rattle.ring.proofs.Tables.{prime-pos}
+use Rattle.ring.specs.Residue.{prime, rootOf, fwd, mods, Block}
+use Rattle.ring.specs.Loose.{LooseList, forthRange}
 use Rattle.ring.proofs.Bounds.{root-below}
 use Rattle.ring.proofs.Blocks.{node-lt, long-half, first-block, second-block, after-first, both-kept, whole-fwd}
+use Rattle.ring.proofs.LevelRanges.{forth-low, forth-more}
 use Rattle.ring.proofs.residue.+transform.{statement}
 use Rattle.ring.proofs.residue.+transform.Tie.{close}
 use Rattle.ring.proofs.residue.transform.Reads as transform
@@ -39,14 +40,17 @@ transform-zeta-requires t c κs =
     let b = c .before .before in
     let g = b .args in
     let l = c .if1 .taken in
-    (b .pre .1 .0, node-lt (prime (g .second)) (g .d) (g .k) (g .a .now) l (b .pre .1 .2))
+    (b .pre .1 .0, node-lt _ (g .d) (g .k) (g .a .now) l (b .pre .1 .3))
 
 transform-split-requires : (t : ℕ) → transform-lts.Need-split-requires (calls t) (transform-at t) transform.Post
 transform-split-requires t c κs =
     let b = c .before .before .before .before in
     let g = b .args in
-    let l = c .before .before .if1 .taken in
-    (long-half (prime (g .second)) (g .d) (g .k) (g .a .now) l (b .pre .1 .2), root-below (g .second) _ (c .before .zeta .ensures), b .pre .1 .2 .low)
+    let l = c .before .before .if1 .taken in (
+      long-half _ (g .d) (g .k) (g .a .now) l (b .pre .1 .3),
+      root-below (g .second) _ (c .before .zeta .ensures),
+      forth-low (prime (g .second)) (g .d) (omega (arith, l)) (b .pre .1 .2) (g .a .now) (b .pre .1 .3 .low),
+    )
 
 transform-slice-relend-prefix-transform : (t : ℕ) → transform-lts.Need-slice-relend-prefix-transform (calls t) (transform-at t) transform.Post
 transform-slice-relend-prefix-transform t c = omega (arith, c .before .before .split .kept .1 .0)
@@ -59,73 +63,87 @@ transform-mul-transform t c =
     let b = c .before .before .before .before .before .before .before .before in
     let g = b .args in
     let l = c .before .before .before .before .before .before .if1 .taken in
-    omega (arith, node-lt (prime (g .second)) (g .d) (g .k) (g .a .now) l (b .pre .1 .2))
+    omega (arith, node-lt _ (g .d) (g .k) (g .a .now) l (b .pre .1 .3))
 
 transform-transform-requires : (t : ℕ) → transform-lts.Need-transform-requires (calls t) (transform-at t) transform.Post
 transform-transform-requires t c κs =
     let b = c .before .before .before .before .before .before .before .before in
     let g = b .args in
     let l = c .before .before .before .before .before .before .if1 .taken in
-    (omega (arith, b .pre .0), (b .pre .1 .0, omega arith, first-block (prime (g .second)) (g .d) (g .k) (g .a .now) l (b .pre .1 .2) (prime-pos (g .second)) (c .before .before .before .before .before .zeta .result) (c .before .before .before .split .last .1 .0) (c .before .before .before .split .ensures)))
+    let s = c .before .before .before .split in
+    let low = forth-more (prime (g .second)) (g .d) (omega (arith, l)) (b .pre .1 .2) (g .a .now) (b .pre .1 .3 .low) _ (s .last .1 .0) (s .ensures) in (
+      omega (arith, b .pre .0),
+      (b .pre .1 .0, omega arith, omega (arith, b .pre .1 .2), first-block _ (g .d) (g .k) (g .a .now) l (b .pre .1 .3) (s .last .1 .0) (s .kept .1 .0) _ low),
+    )
 
 transform-sub-transform-2 : (t : ℕ) → transform-lts.Need-sub-transform-2 (calls t) (transform-at t) transform.Post
 transform-sub-transform-2 t c =
     let b = c .before .before .before .before .before .before .before .before .before .before .before in
     let g = b .args in
-    let l = c .before .before .before .before .before .before .before .before .before .if1 .taken in
-    omega (arith, after-first (prime (g .second)) (g .d) (g .k) (g .a .now) l (b .pre .1 .2) (prime-pos (g .second)) (c .before .before .before .before .before .before .before .before .zeta .result) (c .before .before .before .before .before .before .split .last .1 .0) (c .before .before .before .before .before .before .split .ensures) (c .before .before .transform .last .1 .1 .0) (c .before .before .transform .kept .1 .1 .0))
+    let s = c .before .before .before .before .before .before .split in
+    let r = c .before .before .transform in
+    omega (arith, after-first _ (g .d) (g .k) (g .a .now) (c .before .before .before .before .before .before .before .before .before .if1 .taken) (b .pre .1 .3) (s .last .1 .0) (s .kept .1 .0) (r .last .1 .1 .0) (r .kept .1 .1 .0))
 
 transform-part-transform-start : (t : ℕ) → transform-lts.Need-part-transform-start (calls t) (transform-at t) transform.Post
 transform-part-transform-start t c =
     let b = c .before .before .before .before .before .before .before .before .before .before .before in
     let g = b .args in
-    let l = c .before .before .before .before .before .before .before .before .before .if1 .taken in
-    omega (arith, after-first (prime (g .second)) (g .d) (g .k) (g .a .now) l (b .pre .1 .2) (prime-pos (g .second)) (c .before .before .before .before .before .before .before .before .zeta .result) (c .before .before .before .before .before .before .split .last .1 .0) (c .before .before .before .before .before .before .split .ensures) (c .before .before .transform .last .1 .1 .0) (c .before .before .transform .kept .1 .1 .0))
+    let s = c .before .before .before .before .before .before .split in
+    let r = c .before .before .transform in
+    omega (arith, after-first _ (g .d) (g .k) (g .a .now) (c .before .before .before .before .before .before .before .before .before .if1 .taken) (b .pre .1 .3) (s .last .1 .0) (s .kept .1 .0) (r .last .1 .1 .0) (r .kept .1 .1 .0))
 
 transform-mul-transform-3 : (t : ℕ) → transform-lts.Need-mul-transform-3 (calls t) (transform-at t) transform.Post
 transform-mul-transform-3 t c =
     let b = c .before .before .before .before .before .before .before .before .before .before .before .before in
     let g = b .args in
     let l = c .before .before .before .before .before .before .before .before .before .before .if1 .taken in
-    omega (arith, node-lt (prime (g .second)) (g .d) (g .k) (g .a .now) l (b .pre .1 .2))
+    omega (arith, node-lt _ (g .d) (g .k) (g .a .now) l (b .pre .1 .3))
 
 transform-add-transform : (t : ℕ) → transform-lts.Need-add-transform (calls t) (transform-at t) transform.Post
 transform-add-transform t c =
     let b = c .before .before .before .before .before .before .before .before .before .before .before .before in
     let g = b .args in
     let l = c .before .before .before .before .before .before .before .before .before .before .if1 .taken in
-    omega (arith, node-lt (prime (g .second)) (g .d) (g .k) (g .a .now) l (b .pre .1 .2))
+    omega (arith, node-lt _ (g .d) (g .k) (g .a .now) l (b .pre .1 .3))
 
 transform-transform-requires-2 : (t : ℕ) → transform-lts.Need-transform-requires-2 (calls t) (transform-at t) transform.Post
 transform-transform-requires-2 t c κs =
     let b = c .before .before .before .before .before .before .before .before .before .before .before .before in
     let g = b .args in
     let l = c .before .before .before .before .before .before .before .before .before .before .if1 .taken in
-    (omega (arith, b .pre .0), (b .pre .1 .0, omega arith, second-block (prime (g .second)) (g .d) (g .k) (g .a .now) l (b .pre .1 .2) (prime-pos (g .second)) (c .before .before .before .before .before .before .before .before .before .zeta .result) (c .before .before .before .before .before .before .before .split .last .1 .0) (c .before .before .before .before .before .before .before .split .ensures) (c .before .before .before .transform .last .1 .1 .0) (c .before .before .before .transform .kept .1 .1 .0)))
+    let s = c .before .before .before .before .before .before .before .split in
+    let r = c .before .before .before .transform in
+    let low = forth-more (prime (g .second)) (g .d) (omega (arith, l)) (b .pre .1 .2) (g .a .now) (b .pre .1 .3 .low) _ (s .last .1 .0) (s .ensures) in (
+      omega (arith, b .pre .0),
+      (b .pre .1 .0, omega arith, omega (arith, b .pre .1 .2), second-block _ (g .d) (g .k) (g .a .now) l (b .pre .1 .3) (s .last .1 .0) (s .kept .1 .0) (r .last .1 .1 .0) (r .kept .1 .1 .0) _ low),
+    )
 
 transform-last-requires : (t : ℕ) → transform-lts.Need-last-requires (calls t) (transform-at t) transform.Post
 transform-last-requires t c κs =
     let b = c .before .before .before in
     let g = b .args in
     let e : 2 ≡ g .d = omega (arith, c .before .if1 .left, b .pre .1 .1) in
-    (b .pre .1 .0, subst (λ (m : ℕ). Block (prime (g .second)) m (g .k) (g .a .now)) (sym e) (b .pre .1 .2))
+    (b .pre .1 .0, subst (λ (m : ℕ). Block (forthRange m * prime (g .second)) m (g .k) (g .a .now)) (sym e) (b .pre .1 .3))
 
 transform-same-length : (t : ℕ) → transform-lts.Need-same-length (calls t) (transform-at t) transform.Post
 transform-same-length t c =
     let b = c .before .before .before .before .before .before .before .before .before .before .before .before .before .before .before in
     let g = b .args in
-    let l = c .before .before .before .before .before .before .before .before .before .before .before .before .before .if1 .taken in
-    both-kept (prime (g .second)) (g .d) (g .k) (g .a .now) l (b .pre .1 .2) (prime-pos (g .second)) (c .before .before .before .before .before .before .before .before .before .before .before .before .zeta .result) (c .before .before .before .before .before .before .before .before .before .before .split .last .1 .0) (c .before .before .before .before .before .before .before .before .before .before .split .ensures)
-    (c .before .before .before .before .before .before .transform .last .1 .1 .0) (c .before .before .before .before .before .before .transform .kept .1 .1 .0) (c .before .before .transform2 .last .1 .1 .0) (c .before .before .transform2 .kept .1 .1 .0)
+    let s = c .before .before .before .before .before .before .before .before .before .before .split in
+    let r = c .before .before .before .before .before .before .transform in
+    let o = c .before .before .transform2 in
+    both-kept _ (g .d) (g .k) (g .a .now) (c .before .before .before .before .before .before .before .before .before .before .before .before .before .if1 .taken) (b .pre .1 .3) (s .last .1 .0) (s .kept .1 .0) (r .last .1 .1 .0) (r .kept .1 .1 .0) (o .last .1 .1 .0) (o .kept .1 .1 .0)
 
 transform-returns : (t : ℕ) → transform-lts.Need-returns (calls t) (transform-at t) transform.Post
 transform-returns t c =
     let b = c .before .before .before .before .before .before .before .before .before .before .before .before .before .before .before in
     let g = b .args in
-    let l = c .before .before .before .before .before .before .before .before .before .before .before .before .before .if1 .taken in
-    whole-fwd (prime (g .second)) (g .d) (g .k) (g .a .now) l (b .pre .1 .2) (prime-pos (g .second)) (c .before .before .before .before .before .before .before .before .before .before .before .before .zeta .result) (c .before .before .before .before .before .before .before .before .before .before .split .last .1 .0) (c .before .before .before .before .before .before .before .before .before .before .split .ensures)
-    (c .before .before .before .before .before .before .transform .last .1 .1 .0) (c .before .before .before .before .before .before .transform .kept .1 .1 .0) (rootOf (g .second)) (c .before .before .before .before .before .before .before .before .before .before .before .before .zeta .ensures) (c .before .before .before .before .before .before .transform .ensures)
-    (c .before .before .transform2 .last .1 .1 .0) (c .before .before .transform2 .ensures)
+    let w = c .before .before .before .before .before .before .before .before .before .before .before .before .zeta in
+    let s = c .before .before .before .before .before .before .before .before .before .before .split in
+    let r = c .before .before .before .before .before .before .transform in
+    let o = c .before .before .transform2 in
+    whole-fwd _ (g .d) (g .k) (g .a .now) (c .before .before .before .before .before .before .before .before .before .before .before .before .before .if1 .taken) (b .pre .1 .3) (s .last .1 .0) (s .kept .1 .0) (r .last .1 .1 .0) (r .kept .1 .1 .0) (o .last .1 .1 .0)
+    (prime (g .second)) (w .result) _ (s .ensures) _ (rootOf (g .second)) (w .ensures) (r .ensures) (o .ensures)
 
 transform-same-length-2 : (t : ℕ) → transform-lts.Need-same-length-2 (calls t) (transform-at t) transform.Post
 transform-same-length-2 t c = c .before .before .last .kept .1 .1 .0
@@ -134,8 +152,9 @@ transform-returns-2 : (t : ℕ) → transform-lts.Need-returns-2 (calls t) (tran
 transform-returns-2 t c =
     let b = c .before .before .before .before .before .before in
     let g = b .args in
+    let r = c .before .before .last in
     let e : 2 ≡ g .d = omega (arith, c .before .before .before .before .if1 .left, b .pre .1 .1) in
-    c .before .before .last .ensures ∙ ap (λ (m : ℕ). fwd (prime (g .second)) (rootOf (g .second)) m (g .k) (g .a .now)) e
+    subst (λ (m : ℕ). LooseList (prime (g .second)) (forthRange 0 * prime (g .second)) (fwd (prime (g .second)) (rootOf (g .second)) m (g .k) (mods (prime (g .second)) (g .a .now))) (r .last .1 .1 .0)) e (r .ensures)
 
 pub +transform-spec : {M : Type 1} → statement M
 +transform-spec = close μ-transform λ t. transform-lts.spec (calls t)

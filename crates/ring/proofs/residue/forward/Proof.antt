@@ -8,13 +8,14 @@ transform-requires : tie.Need-transform-requires
 transform-requires c κs =
     let b = c .before .before .before .before .before .before .before .before in
     let r = c .before .before .before .before .before .rests in
-    (c .before .before .powers .ensures, lit≤ tt, top-block (b .args .second) (b .args .a .now) (r .last .1 .0) (b .pre) (r .ensures))
+    (c .before .before .powers .ensures, lit≤ tt, lit≤ tt, top-block (b .args .second) (b .args .a .now) (r .last .1 .0) (b .pre) (r .ensures))
 
 returns : tie.Need-returns
 returns c =
     let b = c .before .before .before .before .before .before .before .before .before .before .before in
     let r = c .before .before .before .before .before .before .before .before .rests in
-    top-fwd (b .args .second) (b .args .a .now) (r .last .1 .0) (b .pre) (r .ensures) (c .before .before .transform .last .1 .1 .0) (c .before .before .transform .ensures)
+    let t = c .before .before .transform in
+    top-fwd (b .args .second) (b .args .a .now) (r .last .1 .0) (b .pre) (r .ensures) (t .last .1 .1 .0) (t .ensures)
 
 pub forward-spec : {M : Type 1} → statement M
 forward-spec =
