@@ -59,13 +59,13 @@ module _ (p f t u : ℕ) (s : Serves p f) (e : u ≡ t / 8388608) where
           omega (arith, e, n, mul-le-mul k (le-refl p), ap (λ (x : ℕ). u * x) d, mul-le-mul o (le-refl c))
 
 -- what such a quotient leaves, m being the prime
-pub left-loose : (p m r t : ℕ) → m ≡ p → r * p ≤ t → t < r * p + 2 * p → Loose p (2 * p) (t % p) (t - r * m)
+pub left-loose : (p m r t : ℕ) → m ≡ p → r * p ≤ t → t < r * p + 2 * p → Loose p 2 (t % p) (t - r * m)
 left-loose p m r t e h g =
     let k : Eqv p (t - r * p) t = ≈by r 0 (omega arith) in
-    subst (λ (x : ℕ). Loose p (2 * p) (t % p) (t - r * x)) (sym e) (record { low = omega arith; same = k .same })
+    subst (λ (x : ℕ). Loose p 2 (t % p) (t - r * x)) (sym e) (record { low = omega arith; same = k .same })
 
 -- the product of equal factors
-pub of-product : (p m r : ℕ) {a b c d : ℕ} → a ≡ c → b ≡ d → Loose p m ((a * b) % p) r → Loose p m ((c * d) % p) r
-of-product p m r {a} {b} {c} {d} e g h =
+pub of-product : (p n r : ℕ) {a b c d : ℕ} → a ≡ c → b ≡ d → Loose p n ((a * b) % p) r → Loose p n ((c * d) % p) r
+of-product p n r {a} {b} {c} {d} e g h =
     let k : a * b ≡ c * d = cc (e, g) in
-    subst (λ (x : ℕ). Loose p m (x % p) r) k h
+    subst (λ (x : ℕ). Loose p n (x % p) r) k h

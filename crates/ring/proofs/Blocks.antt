@@ -149,7 +149,7 @@ module _ (m d k : ℕ) (A : List ℕ) (l : 2 < d) (b : Block m d k A) where
           whole-fwd n z ew hx hy =
               let is = laid-is (length A / 2) S X long-s lx Y in
               record {
-                low = subst (Below n) (sym is) (below-append n X Y (hx .low) (hy .low));
+                low = subst (Below (n * p)) (sym is) (below-append (n * p) X Y (hx .low) (hy .low));
                 same =
                     ap (mods p) is ∙ mods-append p X Y
                     ∙ cc (below, ew, hx .same, hy .same, half-is, first-is, last-is, second-is (length A / 2) S X long-s lx);
@@ -182,9 +182,9 @@ module _ (m d k : ℕ) (A : List ℕ) (l : 2 < d) (b : Block m d k A) where
 
       module _ (p n : ℕ) (z : ℕ → ℕ) (hx : LooseList p n (bwd p z (d - 1) (2 * k + 1) (mods p (take (length A / 2) A))) X)
           (hy : LooseList p n (bwd p z (d - 1) (2 * k) (mods p (second (length A / 2) (X ++ drop (length A / 2) A)))) Y) where
-        pub laid-low : Below n (laid (length A / 2) (X ++ drop (length A / 2) A) Y)
+        pub laid-low : Below (n * p) (laid (length A / 2) (X ++ drop (length A / 2) A) Y)
         laid-low =
-            subst (Below n) (sym (laid-is (length A / 2) A X long-half lp Y)) (below-append n X Y (hx .low) (hy .low))
+            subst (Below (n * p)) (sym (laid-is (length A / 2) A X long-half lp Y)) (below-append (n * p) X Y (hx .low) (hy .low))
 
         laid-rests : mods p (laid (length A / 2) (X ++ drop (length A / 2) A) Y) ≡ mods p X ++ mods p Y
         laid-rests = ap (mods p) (laid-is (length A / 2) A X long-half lp Y) ∙ mods-append p X Y
@@ -197,11 +197,11 @@ module _ (m d k : ℕ) (A : List ℕ) (l : 2 < d) (b : Block m d k A) where
             hy .same ∙ ap (λ (t : List ℕ). bwd p z (d - 1) (2 * k) (mods p t)) (second-is (length A / 2) A X long-half lp)
             ∙ ap (bwd p z (d - 1) (2 * k)) (mods-drop p (length A / 2) A)
 
-        pub whole-bwd : (m′ w : ℕ) → w ≡ z k → (S : List ℕ)
-            → LooseList p m′ (halves (join p) (part p w) (length A / 2) (mods p (laid (length A / 2) (X ++ drop (length A / 2) A) Y))) S
-            → LooseList p m′ (bwd p z d k (mods p A)) S
+        pub whole-bwd : (n′ w : ℕ) → w ≡ z k → (S : List ℕ)
+            → LooseList p n′ (halves (join p) (part p w) (length A / 2) (mods p (laid (length A / 2) (X ++ drop (length A / 2) A) Y))) S
+            → LooseList p n′ (bwd p z d k (mods p A)) S
         unfolding bwd
-        whole-bwd m′ w ew S h =
+        whole-bwd n′ w ew S h =
             let lx : length (mods p X) ≡ length A / 2 = length-mods p X ∙ lp in
             record {
               low = h .low;
@@ -257,7 +257,7 @@ module _ (p : ℕ) (z : ℕ → ℕ) (k : ℕ) (A : List ℕ) (e : length A ≡ 
     pub last-four : u ≡ z (2 * k) → v ≡ z (2 * k + 1)
         → CooleyTukey p w (getD A 0 0) (getD A 2 0) x0 x2 → CooleyTukey p w (getD A 1 0) (getD A 3 0) x1 x3
         → CooleyTukey p u x0 x1 y0 y1 → CooleyTukey p v x2 x3 y2 y3
-        → (n : ℕ) → getD A 0 0 < n * p → LooseList p ((n + 4) * p) (fwd p z 2 k (mods p A)) (set4 A y0 y1 y2 y3)
+        → (n : ℕ) → getD A 0 0 < n * p → LooseList p (n + 4) (fwd p z 2 k (mods p A)) (set4 A y0 y1 y2 y3)
     last-four eu ev r s t o n l =
         record {
           low =
@@ -285,7 +285,7 @@ module _ (p : ℕ) (z : ℕ → ℕ) (k : ℕ) (A : List ℕ) (e : length A ≡ 
     pub first-four : u ≡ z (2 * k + 1) → v ≡ z (2 * k)
         → GentlemanSande p u (getD A 0 0) (getD A 1 0) x0 x1 → GentlemanSande p v (getD A 2 0) (getD A 3 0) x2 x3
         → GentlemanSande p w x0 x2 y0 y2 → GentlemanSande p w x1 x3 y1 y3
-        → 0 < p → Below p A → LooseList p (4 * p) (bwd p z 2 k (mods p A)) (set4 A y0 y1 y2 y3)
+        → 0 < p → Below p A → LooseList p 4 (bwd p z 2 k (mods p A)) (set4 A y0 y1 y2 y3)
     first-four eu ev r s t o pos h =
         let low = below-at p pos A h in
         record {
@@ -326,8 +326,8 @@ module _ (s : Bool) (A X : List ℕ) (e : length A ≡ 512) (eX : X ≡ mods (pr
   pub top-block : Block (forthRange 9 * prime s) 9 1 X
   top-block = subst (λ (m : ℕ). Block m 9 1 X) (omega arith) low-block
 
-  pub top-fwd : (Y : List ℕ) → LooseList (prime s) (forthRange 0 * prime s) (fwd (prime s) (rootOf s) 9 1 (mods (prime s) X)) Y
-      → LooseList (prime s) (32 * prime s) (fwd (prime s) (rootOf s) 9 1 (mods (prime s) A)) Y
+  pub top-fwd : (Y : List ℕ) → LooseList (prime s) (forthRange 0) (fwd (prime s) (rootOf s) 9 1 (mods (prime s) X)) Y
+      → LooseList (prime s) 32 (fwd (prime s) (rootOf s) 9 1 (mods (prime s) A)) Y
   top-fwd Y h =
       record {
         low = wider (prime s) (forthRange 0) 32 (lit≤ tt) Y (h .low);
@@ -335,8 +335,8 @@ module _ (s : Bool) (A X : List ℕ) (e : length A ≡ 512) (eX : X ≡ mods (pr
       }
 
   pub top-bwd : (Y : List ℕ) (n : ℕ) → LooseList (prime s) n (bwd (prime s) (rootOf s) 9 1 (mods (prime s) X)) Y
-      → (v : ℕ) → v ≡ over512 s → (W : List ℕ) → LooseList (prime s) (2 * prime s) (scale (prime s) v (mods (prime s) Y)) W
-      → LooseList (prime s) (32 * prime s) (backOne s (mods (prime s) A)) W
+      → (v : ℕ) → v ≡ over512 s → (W : List ℕ) → LooseList (prime s) 2 (scale (prime s) v (mods (prime s) Y)) W
+      → LooseList (prime s) 32 (backOne s (mods (prime s) A)) W
   unfolding backOne
   top-bwd Y n h v ev W g =
       record {

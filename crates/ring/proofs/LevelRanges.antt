@@ -71,7 +71,7 @@ unfolding backRange
 back-five p d ys e h = subst (λ (x : ℕ). Below (backRange x * p) ys) (sym e) h
 
 -- two levels at once, and all nine
-pub back-two : (p : ℕ) (f xs : List ℕ) → LooseList p (4 * p) f xs → LooseList p (backRange 2 * p) f xs
+pub back-two : (p : ℕ) (f xs : List ℕ) → LooseList p 4 f xs → LooseList p (backRange 2) f xs
 unfolding backRange
 back-two p f xs h = h
 

@@ -32,7 +32,7 @@ module _ {p : ℕ} (pos : 0 < p) where
 
   -- ---- the butterflies
 
-  pub cooley-tukey : (w x y t : ℕ) → Loose p (2 * p) ((w * y) % p) t → CooleyTukey p w x y (x + t) (x + (2 * p - t))
+  pub cooley-tukey : (w x y t : ℕ) → Loose p 2 ((w * y) % p) t → CooleyTukey p w x y (x + t) (x + (2 * p - t))
   cooley-tukey w x y t h =
       let e : t % p ≡ (w * (y % p)) % p = h .same ∙ times-rest w y in
       record {
@@ -42,7 +42,7 @@ module _ {p : ℕ} (pos : 0 < p) where
         rest-low = omega arith;
       }
 
-  pub gentleman-sande : (n w x y t : ℕ) → x ≤ n * p → Loose p (2 * p) ((w * (y + (n * p - x))) % p) t → GentlemanSande p w x y (x + y) t
+  pub gentleman-sande : (n w x y t : ℕ) → x ≤ n * p → Loose p 2 ((w * (y + (n * p - x))) % p) t → GentlemanSande p w x y (x + y) t
   gentleman-sande n w x y t l h =
       record {
         sum-is = sum-rest x y;

@@ -74,25 +74,25 @@ module _ (p : ℕ) (g : ℕ → ℕ) (h1 h2 : ℕ → ℕ → ℕ) (n : ℕ) (A 
   loose-paired-end i a s l =
       record { same = paired-end h1 h2 n (mods p A) (length-mods p A ∙ e) i (mods p a) (s .rests) l; low = s .low }
 
--- ---- one list: the rests times f, below N where it is done
+-- ---- one list: the rests times f, below n primes where it is done
 
-pub record LooseEach (p f N : ℕ) (A : List ℕ) (i : ℕ) (a : List ℕ) : Type 0 where
+pub record LooseEach (p f n : ℕ) (A : List ℕ) (i : ℕ) (a : List ℕ) : Type 0 where
   pub upto : i ≤ length A
   pub long : length a ≡ length A
   pub rests : Each (λ (x : ℕ) (y : ℕ). (f * x) % p) (mods p A) (mods p A) i (mods p a)
   pub ahead : (j : ℕ) → i ≤ j → getD a j 0 ≡ getD A j 0
-  pub front : Below N (take i a)
+  pub front : Below (n * p) (take i a)
 
-module _ (p f N : ℕ) (A : List ℕ) where
-  pub loose-each-start : LooseEach p f N A 0 A
+module _ (p f n : ℕ) (A : List ℕ) where
+  pub loose-each-start : LooseEach p f n A 0 A
   loose-each-start =
       record { upto = omega arith; long = refl; rests = each-start _ (mods p A) (mods p A); ahead = λ j h. refl; front = tt }
 
-  module _ (pos : 0 < p) (i : ℕ) (a : List ℕ) (s : LooseEach p f N A i a) where
+  module _ (pos : 0 < p) (i : ℕ) (a : List ℕ) (s : LooseEach p f n A i a) where
     pub loose-each-low : (m : ℕ) → 0 < m → Below m A → getD a i 0 < m
     loose-each-low m o h = subst (λ (x : ℕ). x < m) (sym (s .ahead i (omega arith))) (below-at m o A h i)
 
-    pub loose-each-more : (v : ℕ) → i < length a → Loose p N ((f * getD a i 0) % p) v → LooseEach p f N A (i + 1) (set a i v)
+    pub loose-each-more : (v : ℕ) → i < length a → Loose p n ((f * getD a i 0) % p) v → LooseEach p f n A (i + 1) (set a i v)
     loose-each-more v l h =
         let k : Eqv p (f * getD a i 0) (f * (getD a i 0 % p)) = ≈sym (grw (≈kit, ≈mod {p = p} (getD a i 0)) ≈refl) in
         record {
@@ -104,14 +104,14 @@ module _ (p f N : ℕ) (A : List ℕ) where
               (h .same ∙ k .same ∙ ap (λ (x : ℕ). (f * x) % p) (sym (mods-at p pos a i))));
           ahead = λ j g. getD-set-other a i j v 0 (λ q. omega (arith, q, g)) ∙ s .ahead j (omega arith);
           front =
-              subst (Below N) (sym (ap (λ (t : ℕ). take t (set a i v)) (add-one i) ∙ take-suc-set a i v l))
-              (below-append N (take i a) (v ∷ []) (s .front) (h .low, tt));
+              subst (Below (n * p)) (sym (ap (λ (t : ℕ). take t (set a i v)) (add-one i) ∙ take-suc-set a i v l))
+              (below-append (n * p) (take i a) (v ∷ []) (s .front) (h .low, tt));
         }
 
-    pub loose-each-end : length a ≤ i → LooseList p N (scale p f (mods p A)) a
+    pub loose-each-end : length a ≤ i → LooseList p n (scale p f (mods p A)) a
     loose-each-end l =
         record {
-          low = subst (Below N) (take-all i a l) (s .front);
+          low = subst (Below (n * p)) (take-all i a l) (s .front);
           same =
               each-end _ (mods p A) (mods p A) i (mods p a) (s .rests) (omega (arith, l, length-mods p a)) refl ∙ map2-scale p f (mods p A);
         }

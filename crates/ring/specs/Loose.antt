@@ -1,19 +1,19 @@
--- Inside the layer: residues modulo p returned loosely (02, #109), congruent to the least one and below a bound, and how that bound grows over the
--- levels of the transform. No layer above cites this file.
+-- Inside the layer: residues modulo p returned loosely (02, #109), congruent to the least one and below so many primes, and how many these are at
+-- each level of the transform. No layer above cites this file.
 use mathlib.Core.Path.{_≡_}
 use mathlib.Core.List.{List}
 use Prim.Native.Nat.{ℕ, _+_, _*_, _-_, _%_, _/_, _^_, _<_, _≤_}
 use Rattle.ring.specs.Words.{Below}
 use Rattle.ring.specs.Residue.{up, down, join, part, mods}
 
--- r stands for the least residue x: congruent to it, and below m
-pub record Loose (p m x r : ℕ) : Type 0 where
-  pub low : r < m
+-- r, returned loosely (02, #109), stands for the least residue x: congruent to it, and below n primes; a product is below two
+pub record Loose (p n x r : ℕ) : Type 0 where
+  pub low : r < n * p
   pub same : r % p ≡ x
 
 -- .. place by place
-pub record LooseList (p m : ℕ) (xs rs : List ℕ) : Type 0 where
-  pub low : Below m rs
+pub record LooseList (p n : ℕ) (xs rs : List ℕ) : Type 0 where
+  pub low : Below (n * p) rs
   pub same : mods p rs ≡ xs
 
 -- a butterfly of the transform (Cooley and Tukey): x + w y and x - w y, each at most two primes above x

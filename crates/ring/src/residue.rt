@@ -67,25 +67,33 @@ fn quotient(second: bool, t: u64) -> u64
 // Barrett's reduction, left at what its quotient leaves of t: below twice the prime.
 fn barrett(second: bool, t: u64) -> u64
     requires { ⌜ t < 32 * (prime second * prime second) ⌝ }
-    ensures { λ r. ⌜ Loose (prime second) (2 * prime second) (t % prime second) r ⌝ }
+    ensures { λ r. ⌜ Loose (prime second) 2 (t % prime second) r ⌝ }
 {
     t - quotient(second, t) * modulus(second)
+}
+
+// The product of two words of 32 bits, so reduced.
+fn barrett_mul(second: bool, a: u64, b: u64) -> u64
+    requires { ⌜ (a < 4294967296) × (b < 4294967296) × (a * b < 32 * (prime second * prime second)) ⌝ }
+    ensures { λ r. ⌜ Loose (prime second) 2 ((a * b) % prime second) r ⌝ }
+{
+    barrett(second, low32(a) * low32(b))
 }
 
 // The residue product, returned loosely (02, #109): factors and product below twice the prime.
 pub fn mul(second: bool, a: u64, b: u64) -> u64
     requires { ⌜ (a < 2 * prime second) × (b < 2 * prime second) ⌝ }
-    ensures { λ r. ⌜ Loose (prime second) (2 * prime second) ((a * b) % prime second) r ⌝ }
+    ensures { λ r. ⌜ Loose (prime second) 2 ((a * b) % prime second) r ⌝ }
 {
-    barrett(second, low32(a) * low32(b))
+    barrett_mul(second, a, b)
 }
 
 // The same for a least residue, as those of the tables are, and a sum below 32 primes.
 fn mul_wide(second: bool, w: u64, y: u64) -> u64
     requires { ⌜ (w < prime second) × (y < 32 * prime second) ⌝ }
-    ensures { λ r. ⌜ Loose (prime second) (2 * prime second) ((w * y) % prime second) r ⌝ }
+    ensures { λ r. ⌜ Loose (prime second) 2 ((w * y) % prime second) r ⌝ }
 {
-    barrett(second, low32(w) * low32(y))
+    barrett_mul(second, w, y)
 }
 
 // x + w y and x - w y, not reduced.
@@ -150,7 +158,7 @@ fn merge(second: bool, a: &mut [u64], h: usize, w: u64)
 // Each entry times s.
 fn scaled(second: bool, a: &mut [u64], s: u64)
     requires { ⌜ (s < prime second) × Below (32 * prime second) (now a) ⌝ }
-    ensures { λ _. ⌜ LooseList (prime second) (2 * prime second) (scale (prime second) s (mods (prime second) (now (a .entry)))) (now (a .exit)) ⌝ }
+    ensures { λ _. ⌜ LooseList (prime second) 2 (scale (prime second) s (mods (prime second) (now (a .entry)))) (now (a .exit)) ⌝ }
 {
     let mut i = 0;
     while i < a.len() {
@@ -162,7 +170,7 @@ fn scaled(second: bool, a: &mut [u64], s: u64)
 // A level of the inverse, to blocks of 2^d entries, with the sums of the fifth reduced.
 fn level(second: bool, a: &mut [u64], h: usize, w: u64, d: usize)
     requires { ⌜ (length (now a) ≡ 2 * h) × (w < prime second) × (0 < d) × (d ≤ 9) × Below (backRange (d - 1) * prime second) (now a) ⌝ }
-    ensures { λ _. ⌜ LooseList (prime second) (backRange d * prime second) (halves (join (prime second)) (part (prime second) w) h (mods (prime second) (now (a .entry)))) (now (a .exit)) ⌝ }
+    ensures { λ _. ⌜ LooseList (prime second) (backRange d) (halves (join (prime second)) (part (prime second) w) h (mods (prime second) (now (a .entry)))) (now (a .exit)) ⌝ }
 {
     merge(second, a, h, w);
     if d == 5 {
@@ -173,7 +181,7 @@ fn level(second: bool, a: &mut [u64], h: usize, w: u64, d: usize)
 // The last two levels of the transform, a block of four at node k.
 fn last(second: bool, z: &[u64; 512], a: &mut [u64], k: usize)
     requires { ⌜ (now z ≡ powers second) × Block (forthRange 2 * prime second) 2 k (now a) ⌝ }
-    ensures { λ _. ⌜ LooseList (prime second) (forthRange 0 * prime second) (fwd (prime second) (rootOf second) 2 k (mods (prime second) (now (a .entry)))) (now (a .exit)) ⌝ }
+    ensures { λ _. ⌜ LooseList (prime second) (forthRange 0) (fwd (prime second) (rootOf second) 2 k (mods (prime second) (now (a .entry)))) (now (a .exit)) ⌝ }
 {
     let w = zeta(second, z, k);
     let s = cross(second, w, a[0], a[2]);
@@ -189,7 +197,7 @@ fn last(second: bool, z: &[u64; 512], a: &mut [u64], k: usize)
 // The first two levels of the inverse. k is the node that mirrors the block's.
 fn first(second: bool, z: &[u64; 512], a: &mut [u64], k: usize)
     requires { ⌜ (now z ≡ powers second) × Block (prime second) 2 k (now a) ⌝ }
-    ensures { λ _. ⌜ LooseList (prime second) (backRange 2 * prime second) (bwd (prime second) (rootOf second) 2 k (mods (prime second) (now (a .entry)))) (now (a .exit)) ⌝ }
+    ensures { λ _. ⌜ LooseList (prime second) (backRange 2) (bwd (prime second) (rootOf second) 2 k (mods (prime second) (now (a .entry)))) (now (a .exit)) ⌝ }
 {
     let s = back(second, zeta(second, z, 2 * k + 1), a[0], a[1]);
     let t = back(second, zeta(second, z, 2 * k), a[2], a[3]);
@@ -205,7 +213,7 @@ fn first(second: bool, z: &[u64; 512], a: &mut [u64], k: usize)
 // The transform of a block of 2^d entries at node k.
 fn transform(second: bool, z: &[u64; 512], a: &mut [u64], k: usize, d: usize)
     requires { ⌜ (now z ≡ powers second) × (2 ≤ d) × (d ≤ 9) × Block (forthRange d * prime second) d k (now a) ⌝ }
-    ensures { λ _. ⌜ LooseList (prime second) (forthRange 0 * prime second) (fwd (prime second) (rootOf second) d k (mods (prime second) (now (a .entry)))) (now (a .exit)) ⌝ }
+    ensures { λ _. ⌜ LooseList (prime second) (forthRange 0) (fwd (prime second) (rootOf second) d k (mods (prime second) (now (a .entry)))) (now (a .exit)) ⌝ }
 {
     if 2 < d {
         let h = a.len() / 2;
@@ -221,7 +229,7 @@ fn transform(second: bool, z: &[u64; 512], a: &mut [u64], k: usize, d: usize)
 // The inverse of the transform of a block of 2^d entries, but for a factor 2^d. k is the node that mirrors the block's.
 fn invert(second: bool, z: &[u64; 512], a: &mut [u64], k: usize, d: usize)
     requires { ⌜ (now z ≡ powers second) × (2 ≤ d) × (d ≤ 9) × Block (prime second) d k (now a) ⌝ }
-    ensures { λ _. ⌜ LooseList (prime second) (backRange d * prime second) (bwd (prime second) (rootOf second) d k (mods (prime second) (now (a .entry)))) (now (a .exit)) ⌝ }
+    ensures { λ _. ⌜ LooseList (prime second) (backRange d) (bwd (prime second) (rootOf second) d k (mods (prime second) (now (a .entry)))) (now (a .exit)) ⌝ }
 {
     if 2 < d {
         let h = a.len() / 2;
@@ -248,7 +256,7 @@ fn rests(second: bool, a: &mut [u64])
 // The coefficients a, transformed.
 pub fn forward(second: bool, a: &mut [u64])
     requires { ⌜ length (now a) ≡ 512 ⌝ }
-    ensures { λ _. ⌜ LooseList (prime second) (32 * prime second) (fwd (prime second) (rootOf second) 9 1 (mods (prime second) (now (a .entry)))) (now (a .exit)) ⌝ }
+    ensures { λ _. ⌜ LooseList (prime second) 32 (fwd (prime second) (rootOf second) 9 1 (mods (prime second) (now (a .entry)))) (now (a .exit)) ⌝ }
 {
     rests(second, a);
     let z = powers(second);
@@ -258,7 +266,7 @@ pub fn forward(second: bool, a: &mut [u64])
 // The values a, transformed back.
 pub fn backward(second: bool, a: &mut [u64])
     requires { ⌜ length (now a) ≡ 512 ⌝ }
-    ensures { λ _. ⌜ LooseList (prime second) (32 * prime second) (backOne second (mods (prime second) (now (a .entry)))) (now (a .exit)) ⌝ }
+    ensures { λ _. ⌜ LooseList (prime second) 32 (backOne second (mods (prime second) (now (a .entry)))) (now (a .exit)) ⌝ }
 {
     rests(second, a);
     let z = powers(second);

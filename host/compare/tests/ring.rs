@@ -65,6 +65,40 @@ fn products_are_schoolbook_products() {
     }
 }
 
+/// The word below q that is 1 modulo the prime of that index and 0 modulo the other.
+fn unit_of(index: usize) -> u128 {
+    let (p, other) = (PRIMES[index], PRIMES[1 - index]);
+    let factor = (1..p).find(|k| other * k % p == 1).unwrap();
+    u128::from(other * factor)
+}
+
+/// The nine words that are 0, 1 or -1 modulo each prime: inside the ring, sums and products of these reach furthest.
+fn extreme_words() -> Vec<u64> {
+    let units = [unit_of(0), unit_of(1)];
+    let residues = |index: usize| [0, 1, u128::from(PRIMES[index] - 1)];
+    let words = residues(0).into_iter().flat_map(|r| residues(1).map(|s| (r * units[0] + s * units[1]) % u128::from(Q)));
+    words.map(|word| u64::try_from(word).unwrap()).collect()
+}
+
+#[test]
+fn extreme_residues_at_every_place() {
+    let tables = Tables::new();
+    let mut random = Random(13);
+    let words = extreme_words();
+    assert!(words.contains(&0) && words.contains(&1) && words.contains(&(Q - 1)));
+    let mut polys: Vec<Poly> = words.iter().flat_map(|&word| [[word; N], monomial(0, word), monomial(511, word)]).collect();
+    polys.extend((0..60).map(|_| std::array::from_fn(|_| words[random.below(words.len())])));
+    for f in &polys {
+        let mut transform = *f;
+        assert!(unit::ntt(&mut transform));
+        assert_eq!(transform, tables.transform(f));
+        let g = &polys[random.below(polys.len())];
+        let mut product = *f;
+        assert!(unit::product(&mut product, g));
+        assert_eq!(product, tables.inverse(&Tables::pointwise(&transform, &tables.transform(g))));
+    }
+}
+
 #[test]
 fn words_of_q_and_above_are_refused() {
     for word in [Q, Q + 1, u64::MAX] {

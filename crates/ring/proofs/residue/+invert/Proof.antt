@@ -1,5 +1,5 @@
 use mathlib.Core.Path.{_≡_, sym, _∙_, subst}
-use Prim.Native.Nat.{ℕ, _*_, _/_, _<_}
+use Prim.Native.Nat.{ℕ, _/_, _<_}
 use native.Mathlib.Omega.{arith}
 use lib.ListN.{length}
 use lib.Seq.{length-take-le}
@@ -147,7 +147,7 @@ invert-returns-2 t c =
     let g = b .args in
     let r = c .before .before .first in
     let e : 2 ≡ g .d = omega (arith, c .before .before .before .before .if1 .left, b .pre .1 .1) in
-    subst (λ (m : ℕ). LooseList (prime (g .second)) (backRange m * prime (g .second)) (bwd (prime (g .second)) (rootOf (g .second)) m (g .k) (mods (prime (g .second)) (g .a .now))) (r .last .1 .1 .0)) e (r .ensures)
+    subst (λ (m : ℕ). LooseList (prime (g .second)) (backRange m) (bwd (prime (g .second)) (rootOf (g .second)) m (g .k) (mods (prime (g .second)) (g .a .now))) (r .last .1 .1 .0)) e (r .ensures)
 
 pub +invert-spec : {M : Type 1} → statement M
 +invert-spec = close μ-invert λ t. invert-lts.spec (calls t)

@@ -154,7 +154,7 @@ transform-returns-2 t c =
     let g = b .args in
     let r = c .before .before .last in
     let e : 2 ≡ g .d = omega (arith, c .before .before .before .before .if1 .left, b .pre .1 .1) in
-    subst (λ (m : ℕ). LooseList (prime (g .second)) (forthRange 0 * prime (g .second)) (fwd (prime (g .second)) (rootOf (g .second)) m (g .k) (mods (prime (g .second)) (g .a .now))) (r .last .1 .1 .0)) e (r .ensures)
+    subst (λ (m : ℕ). LooseList (prime (g .second)) (forthRange 0) (fwd (prime (g .second)) (rootOf (g .second)) m (g .k) (mods (prime (g .second)) (g .a .now))) (r .last .1 .1 .0)) e (r .ensures)
 
 pub +transform-spec : {M : Type 1} → statement M
 +transform-spec = close μ-transform λ t. transform-lts.spec (calls t)

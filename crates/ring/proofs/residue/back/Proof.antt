@@ -30,7 +30,7 @@ returns c =
     let s = c .before .before .args in
     let t = c .mul-wide in
     gentleman-sande (prime-pos (s .second)) 16 (s .w) (s .x) (s .y) (t .result) (omega (arith, c .before .before .pre .1))
-    (subst (λ (m : ℕ). Loose (prime (s .second)) (2 * prime (s .second)) ((s .w * (s .y + (16 * m - s .x))) % prime (s .second)) (t .result)) (c .before .modulus .ensures) (t .ensures))
+    (subst (λ (m : ℕ). Loose (prime (s .second)) 2 ((s .w * (s .y + (16 * m - s .x))) % prime (s .second)) (t .result)) (c .before .modulus .ensures) (t .ensures))
 
 pub back-spec : {M : Type 1} → statement M
 back-spec =

@@ -1,4 +1,4 @@
-use Prim.Native.Nat.{_*_, _-_}
+use Prim.Native.Nat.{_-_}
 use native.Mathlib.Omega.{arith}
 use lib.ListN.{length}
 use borrow.Author.Needs.{needs}
@@ -9,7 +9,7 @@ use Rattle.ring.proofs.residue.scaled.Statement.{statement}
 use Rattle.ring.proofs.residue.scaled.Tie as tie
 
 abbrev Inv-loop : tie.InvT-loop
-Inv-loop second a₀ s i₀ a i = LooseEach (prime second) s (2 * prime second) a₀ i a
+Inv-loop second a₀ s i₀ a i = LooseEach (prime second) s 2 a₀ i a
 
 abbrev μ-loop : tie.MeasureT-loop
 μ-loop second a₀ s i₀ a i = length a₀ - i
