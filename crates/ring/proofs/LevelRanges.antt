@@ -5,10 +5,8 @@ use mathlib.Core.List.{List}
 use Prim.Native.Nat.{ℕ, _+_, _*_, _-_, _/_, _%_, _^_, _<_, _≤_}
 use native.Mathlib.Nat.{le-refl, mul-le-mul}
 use native.Mathlib.Omega.{arith}
-use lib.Dec.{leb, leb→le}
-use lib.Pow.{pow-pos}
+use lib.Pow.{pow-pos, pow-mono}
 use lib.ListN.{getD}
-use Rattle.hash.proofs.Computed.{below, at}
 use Rattle.ring.specs.Words.{Below}
 use Rattle.ring.specs.Loose.{LooseList, Stepped, forthRange, backRange}
 use Rattle.ring.proofs.Sums.{below-at, below-wider}
@@ -45,8 +43,10 @@ unfolding backRange
 back-pos d = pow-pos (d / 5 + d % 5)
 
 back-at-most : (d : ℕ) → d < 9 → backRange d ≤ 16
-unfolding backRange below
-back-at-most d l = leb→le _ _ (at (λ (x : ℕ). leb (backRange x) 16) 9 tt d l)
+unfolding backRange
+back-at-most d l =
+    let e : d / 5 + d % 5 ≤ 4 = omega arith in
+    pow-mono e
 
 back-twice : (d : ℕ) → 0 < d → d ≢ 5 → d ≤ 9 → 2 * backRange (d - 1) ≡ backRange d
 unfolding backRange

@@ -86,7 +86,7 @@ timesp p a b = (a * b) % p
 unfoldable pub backOne : Bool → List ℕ → List ℕ
 backOne s f = scale (prime s) (over512 s) (bwd (prime s) (rootOf s) 9 1 f)
 
--- the number below q with the rests r2 modulo q2 and r1 modulo q1
+-- the number below q with the least residue r1 modulo q1, and congruent to r2 modulo q2
 abbrev pub crtOf : ℕ → ℕ → ℕ
 crtOf r2 r1 = r1 + 16515073 * (((r2 + (33292289 - r1)) * 520194) % 33292289)
 
