@@ -1,4 +1,5 @@
 // Inside the layer: polynomials modulo one prime of q (000, 2.7.2), in place. One code for both primes; `second` says which.
+// From `rests` to `combined` residues are loose (02, #109).
 ghost use mathlib.Core.Path.{_≡_};
 ghost use Prim.Native.Nat.{ℕ, _+_, _*_, _-_, _%_, _<_, _≤_};
 ghost use lib.ListN.{length};
