@@ -69,6 +69,12 @@ module _ {p : ℕ} where
       (≈trans {b = x * (x + y)} (≈eq (omega arith))
       (≈trans {b = y * (x + y)} (grw (≈kit, h) (≈sym (grw (≈kit, h) (≈eq (omega arith))))) (≈eq (omega arith))))
 
+-- the rest of a product by the rest of a factor
+pub times-rest : (p w y : ℕ) → (w * y) % p ≡ (w * (y % p)) % p
+times-rest p w y =
+    let k : Eqv p (w * y) (w * (y % p)) = ≈sym (grw (≈kit, ≈mod {p = p} y) ≈refl) in
+    k .same
+
 -- what is congruent modulo q = m p is congruent modulo p
 pub coarser : (p q m : ℕ) → q ≡ m * p → {x y : ℕ} → Eqv q x y → Eqv p x y
 coarser p q m e {x} {y} h =

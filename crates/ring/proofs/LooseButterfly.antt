@@ -5,9 +5,9 @@ use native.Mathlib.Omega.{arith}
 use Rattle.ring.specs.Poly.{neg}
 use Rattle.ring.specs.Residue.{join}
 use Rattle.ring.specs.Loose.{Loose, CooleyTukey, GentlemanSande}
-use Rattle.ring.proofs.Cong.{Eqv, ≈refl, ≈sym, ≈trans, ≈by, ≈mod, ≈kit, ≈unique, neg-add}
+use Rattle.ring.proofs.Cong.{Eqv, ≈refl, ≈sym, ≈trans, ≈by, ≈mod, ≈kit, ≈unique, times-rest, neg-add}
 
--- ---- rests of sums, differences and products
+-- ---- rests of sums and differences
 
 module _ {p : ℕ} (pos : 0 < p) where
   sum-rest : (x y : ℕ) → (x + y) % p ≡ join p (x % p) (y % p)
@@ -25,16 +25,11 @@ module _ {p : ℕ} (pos : 0 < p) where
       ≈trans {b = x + neg p y} (grw (≈kit, minus n y l) ≈refl) (≈sym (grw (≈kit, ≈mod {p = p} x) ≈refl)) in
       k .same
 
-  times-rest : (w y : ℕ) → (w * y) % p ≡ (w * (y % p)) % p
-  times-rest w y =
-      let k : Eqv p (w * y) (w * (y % p)) = ≈sym (grw (≈kit, ≈mod {p = p} y) ≈refl) in
-      k .same
-
   -- ---- the butterflies
 
   pub cooley-tukey : (w x y t : ℕ) → Loose p 2 ((w * y) % p) t → CooleyTukey p w x y (x + t) (x + (2 * p - t))
   cooley-tukey w x y t h =
-      let e : t % p ≡ (w * (y % p)) % p = h .same ∙ times-rest w y in
+      let e : t % p ≡ (w * (y % p)) % p = h .same ∙ times-rest p w y in
       record {
         sum-is = sum-rest x t ∙ ap (λ (r : ℕ). (x % p + r) % p) e;
         rest-is = minus-rest 2 x t (omega (arith, h .low)) ∙ ap (λ (r : ℕ). (x % p + (p - r)) % p) e;
@@ -46,7 +41,7 @@ module _ {p : ℕ} (pos : 0 < p) where
   gentleman-sande n w x y t l h =
       record {
         sum-is = sum-rest x y;
-        rest-is = h .same ∙ times-rest w (y + (n * p - x)) ∙ ap (λ (r : ℕ). (w * r) % p) (minus-rest n y x l);
+        rest-is = h .same ∙ times-rest p w (y + (n * p - x)) ∙ ap (λ (r : ℕ). (w * r) % p) (minus-rest n y x l);
         sum-low = omega arith;
         rest-low = h .low;
       }

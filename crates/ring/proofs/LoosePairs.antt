@@ -9,7 +9,7 @@ use lib.Seq.{getD-set-other, take-suc-set, take-all}
 use Rattle.ring.specs.Words.{Below}
 use Rattle.ring.specs.Residue.{halves, mods, scale}
 use Rattle.ring.specs.Loose.{Loose, LooseList, Stepped}
-use Rattle.ring.proofs.Cong.{Eqv, ≈refl, ≈sym, ≈mod, ≈kit}
+use Rattle.ring.proofs.Cong.{times-rest}
 use Rattle.ring.proofs.Sums.{below-at, below-set, below-wider, below-append}
 use Rattle.ring.proofs.Places.{length-mods, mods-set, mods-at}
 use Rattle.ring.proofs.Pairs.{Paired, paired-start, paired-more, paired-end, Each, each-start, each-more, each-end, map2-scale}
@@ -94,14 +94,13 @@ module _ (p f n : ℕ) (A : List ℕ) where
 
     pub loose-each-more : (v : ℕ) → i < length a → Loose p n ((f * getD a i 0) % p) v → LooseEach p f n A (i + 1) (set a i v)
     loose-each-more v l h =
-        let k : Eqv p (f * getD a i 0) (f * (getD a i 0 % p)) = ≈sym (grw (≈kit, ≈mod {p = p} (getD a i 0)) ≈refl) in
         record {
           upto = omega (arith, l, s .long);
           long = simp length-set (s .long);
           rests =
               subst (Each (λ (x : ℕ) (y : ℕ). (f * x) % p) (mods p A) (mods p A) (i + 1)) (sym (mods-set p a i v))
               (each-more _ (mods p A) (mods p A) i (mods p a) (s .rests) (v % p) (omega (arith, l, length-mods p a)) refl
-              (h .same ∙ k .same ∙ ap (λ (x : ℕ). (f * x) % p) (sym (mods-at p pos a i))));
+              (h .same ∙ times-rest p f (getD a i 0) ∙ ap (λ (x : ℕ). (f * x) % p) (sym (mods-at p pos a i))));
           ahead = λ j g. getD-set-other a i j v 0 (λ q. omega (arith, q, g)) ∙ s .ahead j (omega arith);
           front =
               subst (Below (n * p)) (sym (ap (λ (t : ℕ). take t (set a i v)) (add-one i) ∙ take-suc-set a i v l))

@@ -168,7 +168,7 @@ fn scaled(second: bool, a: &mut [u64], s: u64)
     }
 }
 
-// A level of the inverse, to blocks of 2^d entries, with the sums of the fifth reduced.
+// A level of the inverse, to blocks of 2^d entries; the sums of the fifth are reduced, as products with 1.
 fn level(second: bool, a: &mut [u64], h: usize, w: u64, d: usize)
     requires { ⌜ (length (now a) ≡ 2 * h) × (w < prime second) × (0 < d) × (d ≤ 9) × Below (backRange (d - 1) * prime second) (now a) ⌝ }
     ensures { λ _. ⌜ LooseList (prime second) (backRange d) (halves (join (prime second)) (part (prime second) w) h (mods (prime second) (now (a .entry)))) (now (a .exit)) ⌝ }
