@@ -99,6 +99,25 @@ fn extreme_residues_at_every_place() {
     }
 }
 
+/// Values that are a in every other block of 2^k and b in those between, for each k: on the way back the sums of one half of a
+/// block then reach furthest, and those of the other stay small.
+#[test]
+fn extreme_values_in_blocks() {
+    let tables = Tables::new();
+    for k in 0..9 {
+        for (a, b) in [(0, 1), (0, Q - 1), (1, 0), (1, Q - 1), (Q - 1, 0), (Q - 1, 1)] {
+            let values: Poly = std::array::from_fn(|i| if i >> k & 1 == 0 { a } else { b });
+            let f = tables.inverse(&values);
+            let mut transform = f;
+            assert!(unit::ntt(&mut transform));
+            assert_eq!(transform, values);
+            let mut product = f;
+            assert!(unit::product(&mut product, &monomial(0, 1)));
+            assert_eq!(product, f, "blocks of 2^{k}, {a} and {b}");
+        }
+    }
+}
+
 #[test]
 fn words_of_q_and_above_are_refused() {
     for word in [Q, Q + 1, u64::MAX] {
