@@ -8,12 +8,12 @@ ghost use Rattle.ring.specs.Words.{q, allBelow};
 ghost use Rattle.ring.specs.Transform.{ntt, mul};
 ghost use Rattle.ring.specs.Uniform.{sampleQ, heldOf};
 ghost use Rattle.hash.specs.Keccak.{lane};
-ghost use Rattle.hash.specs.Shake.{zeros, after, shake256};
+ghost use Rattle.hash.specs.Shake.{zeroState, after, shake256};
 
 // n permutations, one on the other.
 #[no_mangle]
 pub extern "C" fn bench_permute(n: usize) -> u64
-    ensures { λ r. ⌜ r ≡ lane (after n zeros) 0 0 ⌝ }
+    ensures { λ r. ⌜ r ≡ lane (after n zeroState) 0 0 ⌝ }
 {
     let mut s = hash::shake::start();
     for i in 0..n {

@@ -39,12 +39,12 @@ abbrev pub allOf : List Bool → Bool
 allOf [] = true
 allOf (b ∷ bs) = conj b (allOf bs)
 
-abbrev pub testNo : List Bool → ℕ → Bool
-testNo [] i = true
-testNo (b ∷ bs) zero = b
-testNo (b ∷ bs) (suc i) = testNo bs i
+abbrev pub testAt : List Bool → ℕ → Bool
+testAt [] i = true
+testAt (b ∷ bs) zero = b
+testAt (b ∷ bs) (suc i) = testAt bs i
 
-pub pass : (bs : List Bool) → T (allOf bs) → (i : ℕ) → T (testNo bs i)
+pub pass : (bs : List Bool) → T (allOf bs) → (i : ℕ) → T (testAt bs i)
 pass [] t i = tt
 pass (b ∷ bs) t zero = conj-left b (allOf bs) t
 pass (b ∷ bs) t (suc i) = pass bs (conj-right b (allOf bs) t) i

@@ -1,16 +1,16 @@
 -- A state as its 25 lanes in a row, in the order of 3.1.2, and back.
 use mathlib.Core.Path.{_≡_, refl, sym, ap, _∙_}
 use mathlib.Core.List.{List, [], _∷_}
-use Prim.Native.Nat.{ℕ, zero, suc, _+_, _*_, _^_, _<_}
+use Prim.Native.Nat.{ℕ, zero, suc, _+_, _*_, _/_, _%_, _^_, _<_}
 use lib.Dec.{lit<}
 use lib.ListN.{length, getD}
 use Rattle.hash.specs.Lists.{table}
 use Rattle.hash.specs.Keccak.{State, lane, plane, lanes, chi, round, rounds, keccakF}
 use Rattle.hash.specs.Shake.{absorbed, finish}
-use Rattle.hash.specs.Endian.{laneAt, rateLanes, word}
+use Rattle.hash.specs.Endian.{laneAt, word}
 use Rattle.hash.proofs.Table.{getD-table, listed}
 use Rattle.hash.proofs.Sponge.{finish-absorbed}
-use Rattle.hash.proofs.Word.{words-are, first-word}
+use Rattle.hash.proofs.Word.{first-word}
 
 abbrev pub flat : State → List ℕ
 flat A = table (laneAt A) 25
@@ -66,13 +66,14 @@ low-lanes f h x (suc (suc (suc zero))) = low-plane (λ x. f x 3) (λ x. h x 3) x
 low-lanes f h x (suc (suc (suc (suc zero)))) = low-plane (λ x. f x 4) (λ x. h x 4) x
 low-lanes f h x (suc (suc (suc (suc (suc y))))) = lit< tt
 
-rate-flat : (l : List ℕ) → rateLanes (unflat l) ≡ table (λ i. getD l i 0) 17
-unfolding rateLanes table
+rate-flat : (l : List ℕ) → table (laneAt (unflat l)) 17 ≡ table (λ i. getD l i 0) 17
+unfolding table
 rate-flat l = refl
 
 -- lane i of the rate is word i of the stream
 pub flat-word : (l : List ℕ) (i : ℕ) → i < 17 → ((j : ℕ) → getD l j 0 < 2 ^ 64) → getD l i 0 ≡ word (unflat l) i
 flat-word l i h low =
     sym (getD-table (λ j. getD l j 0) 17 i h)
-    ∙ ap (λ t. getD t i 0) (sym (rate-flat l) ∙ words-are (unflat l) (low-lanes (λ x y. getD l (5 * y + x) 0) (λ x y. low (5 * y + x))))
-    ∙ first-word (unflat l) i h
+    ∙ ap (λ t. getD t i 0) (sym (rate-flat l))
+    ∙ getD-table (laneAt (unflat l)) 17 i h
+    ∙ sym (first-word (unflat l) i h (low-lanes (λ x y. getD l (5 * y + x) 0) (λ x y. low (5 * y + x)) (i % 5) (i / 5)))

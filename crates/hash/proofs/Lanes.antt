@@ -13,7 +13,8 @@ use lib.ListN.{length, getD, set, drop}
 use lib.Seq.{set-set, set-out, set-getD, getD-set-same, drop-cons}
 use Rattle.hash.specs.Keccak.{State, lane, keccakF}
 use Rattle.hash.specs.Shake.{xorByte, turn, absorbByte, absorbFrom, xorLane}
-use Rattle.hash.specs.Endian.{joined}
+use Rattle.hash.specs.Endian.{le}
+use Rattle.hash.proofs.Word.{on-top}
 
 -- ---- xor is associative: digit by digit
 
@@ -44,7 +45,7 @@ lowest a b =
     let d : differ (a % 2) (b % 2) < 2 = differ-lt (a % 2) (b % 2) (omega arith) (omega arith) in
     omega (arith, xor-step a b)
 
-pub xor-assoc : (a b c : ℕ) → bitXor a (bitXor b c) ≡ bitXor (bitXor a b) c
+xor-assoc : (a b c : ℕ) → bitXor a (bitXor b c) ≡ bitXor (bitXor a b) c
 xor-assoc =
     bin-ind (λ (n : ℕ). (b c : ℕ) → bitXor n (bitXor b c) ≡ bitXor (bitXor n b) c)
     (λ b c. refl)
@@ -55,6 +56,25 @@ xor-assoc =
     (ap (differ (n % 2)) (lowest b c) ∙ differ-assoc (n % 2) (b % 2) (c % 2) (omega arith) (omega arith) (omega arith)
     ∙ ap (λ (x : ℕ). differ x (c % 2)) (sym (lowest n b)))
     ∙ sym (xor-step (bitXor n b) c))
+
+-- ---- the number of bytes, made by xors
+
+-- the first n bytes f j, each xored in at its place
+unfoldable pub xored : (ℕ → ℕ) → ℕ → ℕ
+xored f zero = 0
+xored f (suc n) = bitXor (xored f n) (f n * 2 ^ (8 * n))
+
+module _ (f : ℕ → ℕ) (bytes : (j : ℕ) → f j < 256) where
+  xored-is : (n : ℕ) → (xored f n ≡ le f n) × (le f n < 2 ^ (8 * n))
+  unfolding xored le
+  xored-is zero = (refl, lit< tt)
+  xored-is (suc n) =
+      let t = on-top (le f n) (f n) (8 * n) (xored-is n .1) (bytes n) in
+      let e : 8 * suc n ≡ 8 * n + 8 = omega arith in
+      (rw (xored-is n .0) (t .0), rw e (t .1))
+
+  pub le-xored : (n : ℕ) → le f n ≡ xored f n
+  le-xored n = sym (xored-is n .0)
 
 -- ---- two xors into one lane are one
 
@@ -100,43 +120,43 @@ last-lane k = go (ℕ-discrete k 16)
 
 module _ (A : State) (n i : ℕ) (m : List ℕ) (aligned : n % 8 ≡ 0) (fits : i + 8 ≤ length m) where
   one-byte : (j : ℕ) → j < 8
-      → absorbFrom (xorLane A (n % 136 / 8) (joined (λ (t : ℕ). getD m (i + t) 0) j)) (n + j) (drop (i + j) m)
-      ≡ absorbFrom (turn (eqb (8 * (n % 136 / 8) + j) 135) (xorLane A (n % 136 / 8) (joined (λ (t : ℕ). getD m (i + t) 0) (suc j)))) (n + suc j) (drop (i + suc j) m)
-  unfolding absorbFrom absorbByte joined
+      → absorbFrom (xorLane A (n % 136 / 8) (xored (λ (t : ℕ). getD m (i + t) 0) j)) (n + j) (drop (i + j) m)
+      ≡ absorbFrom (turn (eqb (8 * (n % 136 / 8) + j) 135) (xorLane A (n % 136 / 8) (xored (λ (t : ℕ). getD m (i + t) 0) (suc j)))) (n + suc j) (drop (i + suc j) m)
+  unfolding absorbFrom absorbByte xored
   one-byte j h =
       let k = n % 136 / 8 in
       let f : ℕ → ℕ = λ t. getD m (i + t) 0 in
-      let B = xorLane A (n % 136 / 8) (joined (λ (t : ℕ). getD m (i + t) 0) j) in
+      let B = xorLane A (n % 136 / 8) (xored (λ (t : ℕ). getD m (i + t) 0) j) in
       let e : (n + j) % 136 ≡ 8 * (n % 136 / 8) + j = omega arith in
       let l : i + j < length m = omega arith in
-      let x : xorByte B ((n + j) % 136) (f j) ≡ xorLane A (n % 136 / 8) (joined f (suc j)) =
-      ap (λ (t : ℕ). xorByte B t (f j)) e ∙ byte-of-lane B (n % 136 / 8) j (f j) h ∙ xor-twice A (n % 136 / 8) (joined f j) (f j * 2 ^ (8 * j)) in
+      let x : xorByte B ((n + j) % 136) (f j) ≡ xorLane A (n % 136 / 8) (xored f (suc j)) =
+      ap (λ (t : ℕ). xorByte B t (f j)) e ∙ byte-of-lane B (n % 136 / 8) j (f j) h ∙ xor-twice A (n % 136 / 8) (xored f j) (f j * 2 ^ (8 * j)) in
       ap (absorbFrom B (n + j)) (drop-cons m (i + j) 0 l)
       ∙ ap₂ (λ (t : ℕ) (S : State). absorbFrom (turn (eqb t 135) S) (suc (n + j)) (drop (suc (i + j)) m)) e x
       ∙ rw (add-suc, add-suc)
 
   some-bytes : (j : ℕ) → j < 8
-      → absorbFrom A n (drop i m) ≡ absorbFrom (xorLane A (n % 136 / 8) (joined (λ (t : ℕ). getD m (i + t) 0) j)) (n + j) (drop (i + j) m)
-  unfolding joined
+      → absorbFrom A n (drop i m) ≡ absorbFrom (xorLane A (n % 136 / 8) (xored (λ (t : ℕ). getD m (i + t) 0) j)) (n + j) (drop (i + j) m)
+  unfolding xored
   some-bytes zero h = rw (xor-nothing, add-zero, add-zero)
   some-bytes (suc j) h =
       let e : (8 * (n % 136 / 8) + j ≡ 135) → ⊥ = omega arith in
       some-bytes j (omega arith) ∙ (rw (ne-eqb (8 * (n % 136 / 8) + j) 135 e) at (one-byte j (omega arith)))
 
-  pub absorb-lane : absorbFrom A n (drop i m)
-      ≡ absorbFrom (turn (eqb (n % 136 / 8) 16) (xorLane A (n % 136 / 8) (joined (λ (t : ℕ). getD m (i + t) 0) 8))) (n + 8) (drop (i + 8) m)
+  absorb-lane : absorbFrom A n (drop i m)
+      ≡ absorbFrom (turn (eqb (n % 136 / 8) 16) (xorLane A (n % 136 / 8) (xored (λ (t : ℕ). getD m (i + t) 0) 8))) (n + 8) (drop (i + 8) m)
   absorb-lane = some-bytes 7 (lit< tt) ∙ (rw (last-lane (n % 136 / 8)) at (one-byte 7 (lit< tt)))
 
 -- ---- a turn of the loop over lanes: lane number i of m, where k is its place in the block
 
-module _ (A B X : State) (n i k v : ℕ) (m : List ℕ) (aligned : n % 8 ≡ 0) (fits : 8 * i + 8 ≤ length m) (place : k ≡ (n + 8 * i) % 136 / 8)
-    (lane-is : v ≡ joined (λ (t : ℕ). getD m (8 * i + t) 0) 8) (so-far : absorbFrom A (n + 8 * i) (drop (8 * i) m) ≡ X) where
+module _ (A B X : State) (n i k v : ℕ) (m : List ℕ) (aligned : n % 8 ≡ 0) (fits : 8 * i + 8 ≤ length m) (bytes : (j : ℕ) → getD m j 0 < 256)
+    (place : k ≡ (n + 8 * i) % 136 / 8) (lane-is : v ≡ le (λ (t : ℕ). getD m (8 * i + t) 0) 8) (so-far : absorbFrom A (n + 8 * i) (drop (8 * i) m) ≡ X) where
   turned-lane : absorbFrom (turn (eqb k 16) (xorLane A k v)) (n + 8 * (i + 1)) (drop (8 * (i + 1)) m) ≡ X
   turned-lane =
       let a : (n + 8 * i) % 8 ≡ 0 = omega arith in
       let e : n + 8 * (i + 1) ≡ n + 8 * i + 8 = omega arith in
       let d : 8 * (i + 1) ≡ 8 * i + 8 = omega arith in
-      rw (e, d, place, lane-is) (sym (absorb-lane A (n + 8 * i) (8 * i) m a fits) ∙ so-far)
+      rw (e, d, place, lane-is, le-xored (λ (t : ℕ). getD m (8 * i + t) 0) (λ t. bytes (8 * i + t)) 8) (sym (absorb-lane A (n + 8 * i) (8 * i) m a fits) ∙ so-far)
 
   pub last-turn : k ≡ 16 → B ≡ keccakF (xorLane A k v) → absorbFrom B (n + 8 * (i + 1)) (drop (8 * (i + 1)) m) ≡ X
   last-turn h e = rw e (rw (eq-eqb k 16 h) at turned-lane)

@@ -1,9 +1,9 @@
+pub mod Alone
 pub mod Computed
 pub mod Flat
 pub mod Laid
 pub mod Lanes
 pub mod Moves
-pub mod Open
 pub mod Output
 pub mod Paste
 pub mod Rows

@@ -9,7 +9,7 @@ use lib.ListN.{length, getD, take, drop}
 use lib.Seq.{take-at, drop-at}
 use Rattle.hash.specs.Lists.{table, Bytes}
 use Rattle.hash.specs.Keccak.{State, keccakF}
-use Rattle.hash.specs.Shake.{zeros, absorbed, absorbFrom, xorBytes, padding, finish, byteAt, after, rate, stream, shake256}
+use Rattle.hash.specs.Shake.{zeroState, absorbed, absorbFrom, xorBytes, padding, finish, byteAt, after, rate, stream, shake256}
 use Rattle.hash.proofs.Table.{length-table, getD-table}
 use Rattle.hash.proofs.Paste.{table-more, table-same}
 use Rattle.hash.proofs.Sponge.{absorb-append, finish-absorbed, stream-at}
@@ -102,8 +102,8 @@ unfolding absorbParts joinParts absorbFrom
 parts-are [] A n = refl
 parts-are (m ∷ ms) A n = parts-are ms (absorbFrom A n m) (n + length m) ∙ sym (absorb-append A n m (joinParts ms))
 
-pub finish-parts : (ms : List (List ℕ)) → finish (absorbParts zeros 0 ms) (length (joinParts ms)) ≡ absorbed (joinParts ms)
-finish-parts ms = ap (λ (S : State). finish S (length (joinParts ms))) (parts-are ms zeros 0) ∙ finish-absorbed (joinParts ms)
+pub finish-parts : (ms : List (List ℕ)) → finish (absorbParts zeroState 0 ms) (length (joinParts ms)) ≡ absorbed (joinParts ms)
+finish-parts ms = ap (λ (S : State). finish S (length (joinParts ms))) (parts-are ms zeroState 0) ∙ finish-absorbed (joinParts ms)
 
 -- the end of a message: only the place in the block counts
 pub finish-mod : (A : State) (n k : ℕ) → n % 136 ≡ k % 136 → finish A n ≡ finish A k

@@ -1,10 +1,9 @@
 -- The state and its stream in words of eight bytes, the low byte first.
 use Prim.Native.Nat.{ℕ, zero, suc, _+_, _*_, _/_, _%_, _^_}
 use mathlib.Core.List.{List, [], _∷_}
-use lib.Bits.{bitXor}
 use Rattle.hash.specs.Lists.{table}
 use Rattle.hash.specs.Keccak.{State, lane}
-use Rattle.hash.specs.Shake.{byteAt, stream}
+use Rattle.hash.specs.Shake.{stream}
 
 -- byte j of a word, and the number of n bytes, the low one first
 abbrev pub byteOf : ℕ → ℕ → ℕ
@@ -14,11 +13,6 @@ unfoldable pub le : (ℕ → ℕ) → ℕ → ℕ
 le f zero = 0
 le f (suc n) = le f n + f n * 2 ^ (8 * n)
 
--- the first n bytes f j, each xored in at its place
-unfoldable pub joined : (ℕ → ℕ) → ℕ → ℕ
-joined f zero = 0
-joined f (suc n) = bitXor (joined f n) (f n * 2 ^ (8 * n))
-
 -- lane i in the order of 3.1.2, and the 17 lanes of the rate
 abbrev pub laneAt : State → ℕ → ℕ
 laneAt A i = lane A (i % 5) (i / 5)
@@ -26,16 +20,10 @@ laneAt A i = lane A (i % 5) (i / 5)
 unfoldable pub rateLanes : State → List ℕ
 rateLanes A = table (laneAt A) 17
 
--- word i of a state's bytes, those of the rate, and word n of the stream that a state gives
-unfoldable pub wordAt : State → ℕ → ℕ
-wordAt A i = le (λ j. byteAt A (8 * i + j)) 8
-
-unfoldable pub words : State → List ℕ
-words A = table (wordAt A) 17
-
+-- word n of the stream that a state gives
 unfoldable pub word : State → ℕ → ℕ
 word S n = le (λ j. stream S (8 * n + j)) 8
 
 -- a block of at most six lanes, with the padding's last bit, alone in the state
-unfoldable pub opened : List ℕ → ℕ → State
-opened p q = p ∷ (q ∷ 0 ∷ 0 ∷ 0 ∷ 0 ∷ []) ∷ (0 ∷ 0 ∷ 0 ∷ 0 ∷ 0 ∷ []) ∷ (0 ∷ 2 ^ 63 ∷ 0 ∷ 0 ∷ 0 ∷ []) ∷ (0 ∷ 0 ∷ 0 ∷ 0 ∷ 0 ∷ []) ∷ []
+unfoldable pub alone : List ℕ → ℕ → State
+alone p q = p ∷ (q ∷ 0 ∷ 0 ∷ 0 ∷ 0 ∷ []) ∷ (0 ∷ 0 ∷ 0 ∷ 0 ∷ 0 ∷ []) ∷ (0 ∷ 2 ^ 63 ∷ 0 ∷ 0 ∷ 0 ∷ []) ∷ (0 ∷ 0 ∷ 0 ∷ 0 ∷ 0 ∷ []) ∷ []

@@ -2,12 +2,16 @@
 use mathlib.Core.Bool.{Bool, true, false}
 use mathlib.Core.List.{List, [], _∷_, _++_}
 use Prim.Native.Nat.{ℕ, zero, suc, _+_, _<_}
-use lib.ListN.{take, drop}
+use lib.ListN.{take, drop, replicate}
 
 -- f 0, f 1, .., f (n - 1)
 unfoldable pub table : (ℕ → ℕ) → ℕ → List ℕ
 table f zero = []
 table f (suc n) = table f n ++ (f n ∷ [])
+
+-- n zeros
+abbrev pub zeros : ℕ → List ℕ
+zeros n = replicate n 0
 
 -- l with f 0, .., f (n - 1) laid at the place at
 abbrev pub pasted : (ℕ → ℕ) → List ℕ → ℕ → ℕ → List ℕ

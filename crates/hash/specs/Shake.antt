@@ -3,9 +3,9 @@ use Prim.Native.Nat.{ℕ, zero, suc, _+_, _-_, _*_, _/_, _%_, _^_}
 use mathlib.Core.Bool.{Bool, true, false}
 use mathlib.Core.List.{List, [], _∷_, _++_}
 use lib.Dec.{eqb}
-use lib.ListN.{length, take, drop, replicate}
+use lib.ListN.{length, take, drop}
 use lib.Bits.{bitXor}
-use Rattle.hash.specs.Lists.{table}
+use Rattle.hash.specs.Lists.{table, zeros}
 use Rattle.hash.specs.Keccak.{State, lane, setLane, lanes, keccakF}
 
 -- byte k of a state: byte k % 8, from the low end, of lane k / 8, in the order of 3.1.2
@@ -29,7 +29,7 @@ xorBytes A k (b ∷ bs) = xorBytes (xorByte A k b) (suc k) bs
 unfoldable pub padding : ℕ → List ℕ
 padding zero = []
 padding (suc zero) = 0x9f ∷ []
-padding (suc (suc q)) = 0x1f ∷ (replicate q 0 ++ (0x80 ∷ []))
+padding (suc (suc q)) = 0x1f ∷ (zeros q ++ (0x80 ∷ []))
 
 unfoldable pub padded : List ℕ → List ℕ
 padded m = m ++ padding (136 - length m % 136)
@@ -39,11 +39,11 @@ unfoldable pub blocks : ℕ → State → List ℕ → State
 blocks zero A p = A
 blocks (suc n) A p = blocks n (keccakF (xorBytes A 0 (take 136 p))) (drop 136 p)
 
-abbrev pub zeros : State
-zeros = lanes (λ x y. 0)
+abbrev pub zeroState : State
+zeroState = lanes (λ x y. 0)
 
 unfoldable pub absorbed : List ℕ → State
-absorbed m = blocks (length m / 136 + 1) zeros (padded m)
+absorbed m = blocks (length m / 136 + 1) zeroState (padded m)
 
 -- squeezed: the state that gives block i, and that block
 unfoldable pub after : ℕ → State → State

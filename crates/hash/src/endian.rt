@@ -3,7 +3,7 @@ ghost use mathlib.Core.Path.{_≡_};
 ghost use Prim.Native.Nat.{_+_, _%_, _≤_};
 ghost use lib.ListN.{getD, length};
 ghost use Rattle.hash.specs.Lists.{table, pasted};
-ghost use Rattle.hash.specs.Endian.{byteOf, le, joined};
+ghost use Rattle.hash.specs.Endian.{byteOf, le};
 
 // The low byte.
 fn low_byte(x: u64) -> u8
@@ -42,7 +42,7 @@ pub fn put_word(out: &mut [u8], at: usize, x: u64)
 // The number of the n bytes of m from the place at, n at most 8.
 pub fn load(m: &[u8], at: usize, n: usize) -> u64
     requires { ⌜ (n ≤ 8) × (at + n ≤ length (now m)) ⌝ }
-    ensures { λ r. ⌜ (r ≡ joined (λ j. getD (now (m .entry)) (at + j) 0) n) × (r ≡ le (λ j. getD (now (m .entry)) (at + j) 0) n) ⌝ }
+    ensures { λ r. ⌜ r ≡ le (λ j. getD (now (m .entry)) (at + j) 0) n ⌝ }
 {
     let mut x: u64 = 0;
     for j in 0..n {

@@ -28,7 +28,7 @@ pub struct Params {
     pub edition: Edition,
 }
 
-// The answer of the look-up: the record, or which of the two numbers is wrong (questions 1 and 2 of paper 01).
+// The answer of the look-up: the record, or which of the two numbers is wrong (checks 1 and 2).
 pub enum Selected {
     Found(Params),
     NoSet,

@@ -6,8 +6,9 @@ ghost use Prim.Native.Nat.{_+_, _-_, _*_, _/_, _%_, _<_, _≤_};
 ghost use lib.ListN.{getD, length, drop};
 ghost use Rattle.hash.specs.Lists.{table, pasted};
 ghost use Rattle.hash.specs.Keccak.{keccakF};
-ghost use Rattle.hash.specs.Endian.{rateLanes, words, opened};
-ghost use Rattle.hash.specs.Shake.{absorbed, byteAt, xorByte, absorbByte, absorbFrom, finish, rate, zeros, after, stream, shake256};
+ghost use Rattle.hash.specs.Endian.{rateLanes, word, alone};
+ghost use Rattle.hash.specs.Shake.{absorbed, byteAt, xorByte, absorbByte, absorbFrom, finish, rate, zeroState, after, stream, shake256};
+use crate::endian::load;
 
 // b xored into byte k of the state.
 fn xor_byte(a: [[u64; 5]; 5], k: usize, b: u8) -> [[u64; 5]; 5]
@@ -47,14 +48,14 @@ pub fn finish(a: [[u64; 5]; 5], n: usize) -> [[u64; 5]; 5]
 
 // The state before any byte.
 pub fn start() -> [[u64; 5]; 5]
-    ensures { λ r. ⌜ r ≡ zeros ⌝ }
+    ensures { λ r. ⌜ r ≡ zeroState ⌝ }
 {
     [[0; 5]; 5]
 }
 
 // The rate as its 17 lanes, which are its words of eight bytes.
-pub fn rate_words(a: [[u64; 5]; 5]) -> [u64; 17]
-    ensures { λ r. ⌜ (r ≡ rateLanes a) × (r ≡ words a) ⌝ }
+fn rate_words(a: [[u64; 5]; 5]) -> [u64; 17]
+    ensures { λ r. ⌜ (r ≡ rateLanes a) × (r ≡ table (word a) 17) ⌝ }
 {
     let p = a[0];
     let q = a[1];
@@ -134,7 +135,7 @@ fn absorb_lanes(a: [[u64; 5]; 5], n: usize, m: &[u8], lanes: usize) -> [[u64; 5]
     let mut s = a;
     let mut k = n % 136 / 8;
     for i in 0..lanes {
-        let v = crate::endian::load(m, 8 * i, 8);
+        let v = load(m, 8 * i, 8);
         let x = k % 5;
         let y = k / 5;
         s[y][x] = s[y][x] ^ v;
@@ -161,8 +162,8 @@ pub fn absorb(a: [[u64; 5]; 5], n: usize, m: &[u8]) -> [[u64; 5]; 5]
 }
 
 // One block that is absorbed alone: the lanes of plane 0, one of plane 1, and the padding's last bit.
-fn opening(p: [u64; 5], q: u64) -> [[u64; 5]; 5]
-    ensures { λ r. ⌜ r ≡ keccakF (opened p q) ⌝ }
+fn permute_alone(p: [u64; 5], q: u64) -> [[u64; 5]; 5]
+    ensures { λ r. ⌜ r ≡ keccakF (alone p q) ⌝ }
 {
     crate::keccak::permute([
         p,
@@ -173,46 +174,70 @@ fn opening(p: [u64; 5], q: u64) -> [[u64; 5]; 5]
     ])
 }
 
+// A header and a seed of 16 bytes: three lanes, and the padding's first bits in the next.
+fn begin_16(header: &[u8], seed: &[u8]) -> [[u64; 5]; 5]
+    requires { ⌜ (length (now header) ≡ 8) × (length (now seed) ≡ 16) ⌝ }
+    ensures { λ r. ⌜ r ≡ absorbed (now (header .entry) ++ now (seed .entry)) ⌝ }
+{
+    permute_alone(
+        [
+            load(header, 0, 8),
+            load(seed, 0, 8),
+            load(seed, 8, 8),
+            0x1f,
+            0,
+        ],
+        0,
+    )
+}
+
+// .. of 24 bytes.
+fn begin_24(header: &[u8], seed: &[u8]) -> [[u64; 5]; 5]
+    requires { ⌜ (length (now header) ≡ 8) × (length (now seed) ≡ 24) ⌝ }
+    ensures { λ r. ⌜ r ≡ absorbed (now (header .entry) ++ now (seed .entry)) ⌝ }
+{
+    permute_alone(
+        [
+            load(header, 0, 8),
+            load(seed, 0, 8),
+            load(seed, 8, 8),
+            load(seed, 16, 8),
+            0x1f,
+        ],
+        0,
+    )
+}
+
+// .. of 32 bytes.
+fn begin_32(header: &[u8], seed: &[u8]) -> [[u64; 5]; 5]
+    requires { ⌜ (length (now header) ≡ 8) × (length (now seed) ≡ 32) ⌝ }
+    ensures { λ r. ⌜ r ≡ absorbed (now (header .entry) ++ now (seed .entry)) ⌝ }
+{
+    permute_alone(
+        [
+            load(header, 0, 8),
+            load(seed, 0, 8),
+            load(seed, 8, 8),
+            load(seed, 16, 8),
+            load(seed, 24, 8),
+        ],
+        0x1f,
+    )
+}
+
 // The state that gives the stream of a header and a seed (000, 2.4.3). Seeds of kappa bits, 16, 24 or 32 bytes, fill whole lanes of one block.
 pub fn begin(header: &[u8; 8], seed: &[u8]) -> [[u64; 5]; 5]
     ensures { λ r. ⌜ r ≡ absorbed (now (header .entry) ++ now (seed .entry)) ⌝ }
 {
     let n = seed.len();
     if n == 16 {
-        return opening(
-            [
-                crate::endian::load(header, 0, 8),
-                crate::endian::load(seed, 0, 8),
-                crate::endian::load(seed, 8, 8),
-                0x1f,
-                0,
-            ],
-            0,
-        );
+        return begin_16(header, seed);
     }
     if n == 24 {
-        return opening(
-            [
-                crate::endian::load(header, 0, 8),
-                crate::endian::load(seed, 0, 8),
-                crate::endian::load(seed, 8, 8),
-                crate::endian::load(seed, 16, 8),
-                0x1f,
-            ],
-            0,
-        );
+        return begin_24(header, seed);
     }
     if n == 32 {
-        return opening(
-            [
-                crate::endian::load(header, 0, 8),
-                crate::endian::load(seed, 0, 8),
-                crate::endian::load(seed, 8, 8),
-                crate::endian::load(seed, 16, 8),
-                crate::endian::load(seed, 24, 8),
-            ],
-            0x1f,
-        );
+        return begin_32(header, seed);
     }
     finish(absorb(absorb(start(), 0, header), 8, seed), 8 + n)
 }

@@ -5,13 +5,12 @@ use Prim.Native.Nat.{ℕ, zero, suc, _+_, _*_, _%_, _<_}
 use native.Mathlib.Omega.{arith}
 use lib.Dec.{lit<}
 use lib.ListN.{length}
-use Rattle.hash.specs.Lists.{table}
+use Rattle.hash.specs.Lists.{table, zeros}
 use Rattle.hash.proofs.Table.{table-none, table-next, length-table}
 use Rattle.ring.specs.Words.{q, addq, zipTo, addW}
-use Rattle.ring.specs.Poly.{eval, map2, neg, lastOf, shift, mulx, zerosOf, prod}
-use Rattle.ring.specs.Residue.{timesp}
+use Rattle.ring.specs.Poly.{eval, map2, neg, lastOf, shift, mulx, prod}
 use Rattle.ring.proofs.Cong.{Eqv, ≈refl, ≈sym, ≈trans, ≈eq, ≈mod, ≈kit, ≈unique, neg-add}
-use Rattle.ring.proofs.Sums.{zip-append}
+use Rattle.ring.proofs.Sums.{zip-append, length-zip, words-zeros, add-zero-left}
 use Rattle.ring.proofs.Eval.{length-prod}
 
 -- ---- values
@@ -31,23 +30,6 @@ zip-table k f h (suc n) =
     ∙ ap (λ (t : List ℕ). t ++ (k (f n) (h n) ∷ [])) (zip-table k f h n)
     ∙ sym (zip-append k (table f n) (f n ∷ []) (table h n) (h n ∷ []) (length-table f n ∙ sym (length-table h n)))
     ∙ cc (table-next f n, table-next h n)
-
--- ---- products place by place
-
-times-sum : (a x y : ℕ) → timesp q a (addq x y) ≡ addq (timesp q a x) (timesp q a y)
-unfolding addq
-times-sum a x y =
-    let h : Eqv q (a * ((x + y) % q)) ((a * x) % q + (a * y) % q) =
-    grw (≈kit, ≈mod {p = q} (x + y)) (≈sym (grw (≈kit, ≈mod {p = q} (a * x), ≈mod {p = q} (a * y)) (≈eq (omega arith)))) in
-    h .same
-
-pub times-sums : (a x y : List ℕ) → length x ≡ length y → map2 (timesp q) a (addW x y) ≡ addW (map2 (timesp q) a x) (map2 (timesp q) a y)
-unfolding zipTo
-times-sums [] x y e = refl
-times-sums (a ∷ b) [] [] e = refl
-times-sums (a ∷ b) [] (y ∷ ys) e = absurd (omega arith)
-times-sums (a ∷ b) (x ∷ xs) [] e = absurd (omega arith)
-times-sums (a ∷ b) (x ∷ xs) (y ∷ ys) e = cc (times-sum a x y, times-sums b xs ys (omega arith))
 
 -- ---- the product of the ring
 
@@ -89,14 +71,11 @@ step-sum a c c1 c2 (x ∷ xs) (y ∷ ys) (r ∷ rs) [] l m n e = absurd (omega a
 step-sum a c c1 c2 (x ∷ xs) (y ∷ ys) (r ∷ rs) (s ∷ ss) l m n e =
     cc (place-sum a x y c c1 c2 e, step-sum a (addq r s) r s xs ys rs ss (omega arith) (omega arith) (omega arith) (sum-is r s))
 
-zeros-sum : (x y : List ℕ) → length x ≡ length y → zerosOf (addW x y) ≡ addW (zerosOf x) (zerosOf y)
-unfolding zipTo addq
-zeros-sum [] y l = refl
-zeros-sum (x ∷ xs) [] l = absurd (omega arith)
-zeros-sum (x ∷ xs) (y ∷ ys) l = ap (λ (t : List ℕ). 0 ∷ t) (zeros-sum xs ys (omega arith))
-
 pub prod-sum : (f x y : List ℕ) → length x ≡ length y → prod q f (addW x y) ≡ addW (prod q f x) (prod q f y)
-prod-sum [] x y l = zeros-sum x y l
+prod-sum [] x y l =
+    ap zeros (length-zip addq x y)
+    ∙ sym (add-zero-left (zeros (length x)) (words-zeros (length x)))
+    ∙ ap (λ (n : ℕ). addW (zeros (length x)) (zeros n)) l
 prod-sum (a ∷ f) x y l =
     let u : List ℕ = prod q f x in
     let w : List ℕ = prod q f y in

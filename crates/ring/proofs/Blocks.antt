@@ -11,8 +11,8 @@ use lib.ListN.{length, take, drop, getD, set, length-append, length-drop, drop-o
 use lib.Seq.{take-at, drop-at, length-take-le, take-all}
 use borrow.Rule.Slice.PartMut.{putMid, same-len-mid}
 use Rattle.ring.specs.Words.{Below, Residues}
-use Rattle.ring.specs.Poly.{map2}
-use Rattle.ring.specs.Residue.{prime, rootOf, over512, up, down, join, part, halves, fwd, bwd, scale, mods, backOne, Block}
+use Rattle.ring.specs.Poly.{mapN, map2}
+use Rattle.ring.specs.Residue.{prime, zeta, over512, up, down, join, part, halves, fwd, bwd, scale, mods, backOne, Block}
 use Rattle.ring.specs.Loose.{LooseList, CooleyTukey, GentlemanSande, Stepped, forthRange}
 use Rattle.ring.proofs.Sums.{below-at, below-take, below-drop, below-append}
 use Rattle.ring.proofs.Places.{length-map2, length-mods, residues-mods, mods-append, mods-mods, mods-take, mods-drop}
@@ -32,20 +32,20 @@ module _ (h : ℕ) (S X : List ℕ) (es : length S ≡ 2 * h) (ex : length X ≡
   both-long : length (X ++ drop h S) ≡ 2 * h
   both-long = simp (length-append, length-drop) (omega arith)
 
-  rest : drop h (X ++ drop h S) ≡ drop h S
-  rest = drop-at X (drop h S) h ex
+  past-first : drop h (X ++ drop h S) ≡ drop h S
+  past-first = drop-at X (drop h S) h ex
 
   enough : length (drop h S) ≤ length (X ++ drop h S) - h
   enough = simp length-drop (omega (arith, both-long))
 
   second-is : second h (X ++ drop h S) ≡ drop h S
   second-is =
-      ap (λ (t : List ℕ). take (length (X ++ drop h S) - h) t) rest ∙ take-all (length (X ++ drop h S) - h) (drop h S) enough
+      ap (λ (t : List ℕ). take (length (X ++ drop h S) - h) t) past-first ∙ take-all (length (X ++ drop h S) - h) (drop h S) enough
 
   laid-is : (Y : List ℕ) → laid h (X ++ drop h S) Y ≡ X ++ Y
   laid-is Y =
       let none : drop (length (X ++ drop h S) - h) (drop h (X ++ drop h S)) ≡ [] =
-      ap (λ (t : List ℕ). drop (length (X ++ drop h S) - h) t) rest ∙ drop-of-length-le (drop h S) enough in
+      ap (λ (t : List ℕ). drop (length (X ++ drop h S) - h) t) past-first ∙ drop-of-length-le (drop h S) enough in
       cc (take-at X (drop h S) h ex, none, append-nil Y)
 
 -- ---- a block above the last
@@ -248,6 +248,7 @@ module _ (p : ℕ) (z : ℕ → ℕ) (k : ℕ) (A : List ℕ) (e : length A ≡ 
   bwd-four a b c d = refl
 
   rests-four : mods p A ≡ getD A 0 0 % p ∷ getD A 1 0 % p ∷ getD A 2 0 % p ∷ getD A 3 0 % p ∷ []
+  unfolding mapN
   rests-four = ap (mods p) (four A e)
 
   four-low : (m a b c d : ℕ) → a < m → b < m → c < m → d < m → Below m (set4 A a b c d)
@@ -258,11 +259,12 @@ module _ (p : ℕ) (z : ℕ → ℕ) (k : ℕ) (A : List ℕ) (e : length A ≡ 
         → CooleyTukey p w (getD A 0 0) (getD A 2 0) x0 x2 → CooleyTukey p w (getD A 1 0) (getD A 3 0) x1 x3
         → CooleyTukey p u x0 x1 y0 y1 → CooleyTukey p v x2 x3 y2 y3
         → (n : ℕ) → getD A 0 0 < n * p → LooseList p (n + 4) (fwd p z 2 k (mods p A)) (set4 A y0 y1 y2 y3)
+    unfolding mapN
     last-four eu ev r s t o n l =
         record {
           low =
-              four-low ((n + 4) * p) y0 y1 y2 y3 (omega (arith, l, r .sum-low, t .sum-low)) (omega (arith, l, r .sum-low, t .rest-low))
-              (omega (arith, l, r .rest-low, o .sum-low)) (omega (arith, l, r .rest-low, o .rest-low));
+              four-low ((n + 4) * p) y0 y1 y2 y3 (omega (arith, l, r .sum-low, t .sum-low)) (omega (arith, l, r .sum-low, t .diff-low))
+              (omega (arith, l, r .diff-low, o .sum-low)) (omega (arith, l, r .diff-low, o .diff-low));
           same =
               ap (mods p) (set-four A e y0 y1 y2 y3)
               ∙ cc (
@@ -270,13 +272,13 @@ module _ (p : ℕ) (z : ℕ → ℕ) (k : ℕ) (A : List ℕ) (e : length A ≡ 
                 eu,
                 ev,
                 r .sum-is,
-                r .rest-is,
+                r .diff-is,
                 s .sum-is,
-                s .rest-is,
+                s .diff-is,
                 t .sum-is,
-                t .rest-is,
+                t .diff-is,
                 o .sum-is,
-                o .rest-is,
+                o .diff-is,
                 fwd-four (getD A 0 0 % p) (getD A 1 0 % p) (getD A 2 0 % p) (getD A 3 0 % p),
               )
               ∙ ap (fwd p z 2 k) (sym rests-four);
@@ -286,12 +288,13 @@ module _ (p : ℕ) (z : ℕ → ℕ) (k : ℕ) (A : List ℕ) (e : length A ≡ 
         → GentlemanSande p u (getD A 0 0) (getD A 1 0) x0 x1 → GentlemanSande p v (getD A 2 0) (getD A 3 0) x2 x3
         → GentlemanSande p w x0 x2 y0 y2 → GentlemanSande p w x1 x3 y1 y3
         → 0 < p → Below p A → LooseList p 4 (bwd p z 2 k (mods p A)) (set4 A y0 y1 y2 y3)
+    unfolding mapN
     first-four eu ev r s t o pos h =
         let low = below-at p pos A h in
         record {
           low =
               four-low (4 * p) y0 y1 y2 y3 (omega (arith, low 0, low 1, low 2, low 3, r .sum-low, s .sum-low, t .sum-low))
-              (omega (arith, r .rest-low, s .rest-low, o .sum-low)) (omega (arith, t .rest-low)) (omega (arith, o .rest-low));
+              (omega (arith, r .diff-low, s .diff-low, o .sum-low)) (omega (arith, t .diff-low)) (omega (arith, o .diff-low));
           same =
               ap (mods p) (set-four A e y0 y1 y2 y3)
               ∙ cc (
@@ -299,13 +302,13 @@ module _ (p : ℕ) (z : ℕ → ℕ) (k : ℕ) (A : List ℕ) (e : length A ≡ 
                 eu,
                 ev,
                 r .sum-is,
-                r .rest-is,
+                r .diff-is,
                 s .sum-is,
-                s .rest-is,
+                s .diff-is,
                 t .sum-is,
-                t .rest-is,
+                t .diff-is,
                 o .sum-is,
-                o .rest-is,
+                o .diff-is,
                 bwd-four (getD A 0 0 % p) (getD A 1 0 % p) (getD A 2 0 % p) (getD A 3 0 % p),
               )
               ∙ ap (bwd p z 2 k) (sym rests-four);
@@ -314,27 +317,27 @@ module _ (p : ℕ) (z : ℕ → ℕ) (k : ℕ) (A : List ℕ) (e : length A ≡ 
 -- ---- the whole, from the rests of a list of 512
 
 module _ (s : Bool) (A X : List ℕ) (e : length A ≡ 512) (eX : X ≡ mods (prime s) A) where
-  rests : Residues (prime s) 512 X
-  rests = subst (Residues (prime s) 512) (sym eX) (residues-mods (prime-pos s) A e)
+  are-residues : Residues (prime s) 512 X
+  are-residues = subst (Residues (prime s) 512) (sym eX) (residues-mods (prime-pos s) A e)
 
   again : mods (prime s) X ≡ mods (prime s) A
   again = ap (mods (prime s)) eX ∙ mods-mods (prime s) A
 
   pub low-block : Block (prime s) 9 1 X
-  low-block = record { long = rests .long; inside = lit≤ tt; low = rests .low }
+  low-block = record { long = are-residues .long; inside = lit≤ tt; low = are-residues .low }
 
   pub top-block : Block (forthRange 9 * prime s) 9 1 X
   top-block = subst (λ (m : ℕ). Block m 9 1 X) (omega arith) low-block
 
-  pub top-fwd : (Y : List ℕ) → LooseList (prime s) (forthRange 0) (fwd (prime s) (rootOf s) 9 1 (mods (prime s) X)) Y
-      → LooseList (prime s) 32 (fwd (prime s) (rootOf s) 9 1 (mods (prime s) A)) Y
+  pub top-fwd : (Y : List ℕ) → LooseList (prime s) (forthRange 0) (fwd (prime s) (zeta s) 9 1 (mods (prime s) X)) Y
+      → LooseList (prime s) 32 (fwd (prime s) (zeta s) 9 1 (mods (prime s) A)) Y
   top-fwd Y h =
       record {
         low = wider (prime s) (forthRange 0) 32 (lit≤ tt) Y (h .low);
-        same = h .same ∙ ap (fwd (prime s) (rootOf s) 9 1) again;
+        same = h .same ∙ ap (fwd (prime s) (zeta s) 9 1) again;
       }
 
-  pub top-bwd : (Y : List ℕ) (n : ℕ) → LooseList (prime s) n (bwd (prime s) (rootOf s) 9 1 (mods (prime s) X)) Y
+  pub top-bwd : (Y : List ℕ) (n : ℕ) → LooseList (prime s) n (bwd (prime s) (zeta s) 9 1 (mods (prime s) X)) Y
       → (v : ℕ) → v ≡ over512 s → (W : List ℕ) → LooseList (prime s) 2 (scale (prime s) v (mods (prime s) Y)) W
       → LooseList (prime s) 32 (backOne s (mods (prime s) A)) W
   unfolding backOne

@@ -5,8 +5,8 @@ use Prim.Native.Nat.{ℕ, _+_, _*_, _-_, _%_, _<_, _≤_}
 use native.Mathlib.Nat.{mod-lt, mod-eq-of-lt, add-mul-mod-self-right}
 use native.Mathlib.Omega.{arith}
 use lib.Dec.{lit<}
-use Rattle.ring.specs.Residue.{prime, rootOf, over512}
-use Rattle.ring.proofs.Tables.{prime-pos, root-low}
+use Rattle.ring.specs.Residue.{prime, zeta, over512}
+use Rattle.ring.proofs.Tables.{prime-pos, zeta-low}
 
 pub prime-lt : (s : Bool) → prime s < 33554432
 prime-lt false = lit< tt
@@ -31,5 +31,5 @@ pub over-lt : (s : Bool) → over512 s < prime s
 over-lt false = lit< tt
 over-lt true = lit< tt
 
-pub root-below : (s : Bool) {r : ℕ} (k : ℕ) → r ≡ rootOf s k → r < prime s
-root-below s k e = subst (λ (y : ℕ). y < prime s) (sym e) (root-low s k)
+pub zeta-below : (s : Bool) {r : ℕ} (k : ℕ) → r ≡ zeta s k → r < prime s
+zeta-below s k e = subst (λ (y : ℕ). y < prime s) (sym e) (zeta-low s k)

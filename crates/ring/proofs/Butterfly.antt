@@ -6,7 +6,7 @@ use native.Mathlib.Nat.{mod-lt}
 use native.Mathlib.Omega.{arith}
 use lib.ListN.{length, take, drop}
 use Rattle.ring.specs.Words.{Below, Residues}
-use Rattle.ring.specs.Poly.{map2, neg}
+use Rattle.ring.specs.Poly.{mapN, map2, neg}
 use Rattle.ring.specs.Residue.{up, down, join, part, scale}
 use Rattle.ring.proofs.Cong.{Eqv, ≈refl, ≈sym, ≈trans, ≈eq, ≈mod, ≈same, ≈kit, ≈unique, neg1, neg-add, neg1-mul, neg1-one, neg1-square, neg-is, minus-is}
 use Rattle.ring.proofs.Sums.{residues-append, residues-take, residues-drop}
@@ -142,12 +142,14 @@ module _ {p : ℕ} (pos : 0 < p) where
 
   pub joined-all : (s w : ℕ) (xs ys : List ℕ) → length xs ≡ length ys
       → map2 (join p) (scale p s (map2 (up p w) xs ys)) (scale p s (map2 (down p w) xs ys)) ≡ scale p (2 * s) xs
+  unfolding mapN
   joined-all s w [] ys e = refl
   joined-all s w (x ∷ xs) [] e = absurd (omega arith)
   joined-all s w (x ∷ xs) (y ∷ ys) e = cc (joined s w x y, joined-all s w xs ys (omega arith))
 
   pub parted-all : (s w v : ℕ) → Eqv p (w * v + 1) 0 → (xs ys : List ℕ) → length xs ≡ length ys
       → map2 (part p v) (scale p s (map2 (up p w) xs ys)) (scale p s (map2 (down p w) xs ys)) ≡ scale p (2 * s) ys
+  unfolding mapN
   parted-all s w v g [] [] e = refl
   parted-all s w v g [] (y ∷ ys) e = absurd (omega arith)
   parted-all s w v g (x ∷ xs) [] e = absurd (omega arith)
@@ -155,12 +157,14 @@ module _ {p : ℕ} (pos : 0 < p) where
 
   pub uped-all : (w v : ℕ) → Eqv p (w * v + 1) 0 → (xs ys : List ℕ) → length xs ≡ length ys → Below p xs
       → map2 (up p w) (map2 (join p) xs ys) (map2 (part p v) xs ys) ≡ scale p 2 xs
+  unfolding mapN
   uped-all w v g [] ys e s = refl
   uped-all w v g (x ∷ xs) [] e s = absurd (omega arith)
   uped-all w v g (x ∷ xs) (y ∷ ys) e s = cc (uped w v x y (s .0) g, uped-all w v g xs ys (omega arith) (s .1))
 
   pub downed-all : (w v : ℕ) → Eqv p (w * v + 1) 0 → (xs ys : List ℕ) → length xs ≡ length ys → Below p xs
       → map2 (down p w) (map2 (join p) xs ys) (map2 (part p v) xs ys) ≡ scale p 2 ys
+  unfolding mapN
   downed-all w v g [] [] e s = refl
   downed-all w v g [] (y ∷ ys) e s = absurd (omega arith)
   downed-all w v g (x ∷ xs) [] e s = absurd (omega arith)

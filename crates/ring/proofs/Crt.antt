@@ -2,16 +2,17 @@
 use mathlib.Core.Path.{_≡_, refl, ap, sym, _∙_}
 use mathlib.Core.Bool.{Bool, true, false}
 use mathlib.Core.List.{List, [], _∷_}
-use Prim.Native.Nat.{ℕ, _+_, _*_, _-_, _%_, _/_, _<_}
+use Prim.Native.Nat.{ℕ, zero, suc, _+_, _*_, _-_, _%_, _/_, _<_}
 use native.Mathlib.Nat.{mod-lt, mod-eq-of-lt}
 use native.Mathlib.Omega.{arith}
 use lib.Dec.{lit<}
 use lib.ListN.{length}
+use Rattle.hash.specs.Lists.{zeros}
 use Rattle.ring.specs.Words.{q, Below}
-use Rattle.ring.specs.Poly.{map2, neg, lastOf, shift, mulx, zerosOf, prod}
+use Rattle.ring.specs.Poly.{mapN, map2, neg, lastOf, shift, mulx, prod}
 use Rattle.ring.specs.Residue.{prime, mods, timesp, crtOf}
 use Rattle.ring.proofs.Cong.{Eqv, ≈refl, ≈sym, ≈trans, ≈by, ≈mult, ≈mod, ≈same, ≈kit, ≈cancel, coarser, neg-add}
-use Rattle.ring.proofs.Places.{maps, mods-mods}
+use Rattle.ring.proofs.Places.{maps, length-mods, mods-mods}
 use Rattle.ring.proofs.Tables.{prime-pos}
 
 -- ---- one number
@@ -26,8 +27,8 @@ q-is false = refl
 q-is true = refl
 
 -- what is congruent modulo q is congruent modulo each prime
-pub rest : (s : Bool) {x y : ℕ} → Eqv q x y → Eqv (prime s) x y
-rest s h = coarser (prime s) q (other s) (q-is s) h
+pub each-prime : (s : Bool) {x y : ℕ} → Eqv q x y → Eqv (prime s) x y
+each-prime s h = coarser (prime s) q (other s) (q-is s) h
 
 both-moduli : (m n u v : ℕ) → u * m ≡ 1 + v * n → {x y : ℕ} → Eqv m x y → Eqv n x y → Eqv (m * n) x y
 both-moduli m n u v bez {x} {y} h k =
@@ -72,12 +73,14 @@ below-crt (x ∷ xs) [] l = tt
 below-crt (x ∷ xs) (y ∷ ys) l = (crt-low x y (l .0), below-crt xs ys (l .1))
 
 pub map2-rests : (xs ys : List ℕ) → map2 (λ (x : ℕ) (y : ℕ). crtOf (x % 33292289) (y % 16515073)) xs ys ≡ map2 crtOf (mods 33292289 xs) (mods 16515073 ys)
+unfolding mapN
 map2-rests [] ys = refl
 map2-rests (x ∷ xs) [] = refl
 map2-rests (x ∷ xs) (y ∷ ys) = ap (λ (l : List ℕ). crtOf (x % 33292289) (y % 16515073) ∷ l) (map2-rests xs ys)
 
 -- a list below q from its rests
 pub crt-mods : (xs : List ℕ) → Below q xs → map2 crtOf (mods (prime true) xs) (mods (prime false) xs) ≡ xs
+unfolding mapN
 crt-mods [] l = refl
 crt-mods (x ∷ xs) l =
     cc (
@@ -91,6 +94,7 @@ lists-by-rests xs ys hx hy e = sym (crt-mods xs hx) ∙ maps crtOf (e true) (e f
 
 -- the rests of a list made of its rests
 pub mods-crt-false : (xs ys : List ℕ) → length xs ≡ length ys → Below 16515073 ys → mods (prime false) (map2 crtOf xs ys) ≡ ys
+unfolding mapN
 mods-crt-false [] [] e l = refl
 mods-crt-false [] (y ∷ ys) e l = absurd (omega arith)
 mods-crt-false (x ∷ xs) [] e l = absurd (omega arith)
@@ -98,6 +102,7 @@ mods-crt-false (x ∷ xs) (y ∷ ys) e l =
     cc (crt-one x y .same, mod-eq-of-lt (l .0), mods-crt-false xs ys (omega arith) (l .1))
 
 pub mods-crt-true : (xs ys : List ℕ) → length xs ≡ length ys → Below 33292289 xs → Below 16515073 ys → mods (prime true) (map2 crtOf xs ys) ≡ xs
+unfolding mapN
 mods-crt-true [] [] e k l = refl
 mods-crt-true [] (y ∷ ys) e k l = absurd (omega arith)
 mods-crt-true (x ∷ xs) [] e k l = absurd (omega arith)
@@ -109,6 +114,7 @@ mods-crt-true (x ∷ xs) (y ∷ ys) e k l =
 -- the rests of a list made by the rule h, where k is that rule on rests
 mods-map2 : (p : ℕ) (h k : ℕ → ℕ → ℕ) → ((x y z : ℕ) → Eqv p y z → h x y % p ≡ k (x % p) z)
     → (xs ys zs : List ℕ) → mods p ys ≡ mods p zs → mods p (map2 h xs ys) ≡ map2 k (mods p xs) zs
+unfolding mapN
 mods-map2 p h k l [] ys zs e = refl
 mods-map2 p h k l (x ∷ xs) [] [] e = refl
 mods-map2 p h k l (x ∷ xs) [] (z ∷ zs) e = absurd (omega (arith, ap length e))
@@ -125,26 +131,29 @@ mods-times s xs ys =
     one : (x y z : ℕ) → Eqv (prime s) y z → (x * y) % q % prime s ≡ (x % prime s * z) % prime s
     one x y z e =
         let k : Eqv (prime s) ((x * y) % q) (x % prime s * z) =
-        ≈trans (rest s (≈mod (x * y))) (≈sym (grw (≈kit, ≈mod {p = prime s} x, ≈sym e) ≈refl)) in
+        ≈trans (each-prime s (≈mod (x * y))) (≈sym (grw (≈kit, ≈mod {p = prime s} x, ≈sym e) ≈refl)) in
         k .same
 
 mods-shift : (p c d : ℕ) (h : List ℕ) → Eqv p c d → mods p (shift c h) ≡ mods p (shift d (mods p h))
+unfolding mapN
 mods-shift p c d [] k = refl
 mods-shift p c d (a ∷ h) k = cc (k .same, mods-shift p a (a % p) h (≈sym (≈mod a)))
 
 mods-last : (p c d : ℕ) (h : List ℕ) → Eqv p c d → Eqv p (lastOf c h) (lastOf d (mods p h))
+unfolding mapN
 mods-last p c d [] k = k
 mods-last p c d (a ∷ h) k = mods-last p a (a % p) h (≈sym (≈mod a))
 
-mods-zerosOf : {p : ℕ} → 0 < p → (g : List ℕ) → mods p (zerosOf g) ≡ zerosOf (mods p g)
-mods-zerosOf pos [] = refl
-mods-zerosOf {p} pos (a ∷ g) = cc (mod-eq-of-lt pos, mods-zerosOf pos g)
+mods-zeros : {p : ℕ} → 0 < p → (n : ℕ) → mods p (zeros n) ≡ zeros n
+unfolding mapN
+mods-zeros pos zero = refl
+mods-zeros pos (suc n) = cc (mod-eq-of-lt pos, mods-zeros pos n)
 
 module _ (s : Bool) where
   neg-rest : (x y : ℕ) → Eqv (prime s) x y → Eqv (prime s) (neg q x) (neg (prime s) y)
   neg-rest x y k =
       ≈cancel y
-      (≈trans {b = neg q x + x} (grw (≈kit, ≈sym k)) (≈trans (rest s (neg-add (lit< tt) x)) (≈sym (neg-add (prime-pos s) y))))
+      (≈trans {b = neg q x + x} (grw (≈kit, ≈sym k)) (≈trans (each-prime s (neg-add (lit< tt) x)) (≈sym (neg-add (prime-pos s) y))))
 
   mods-mulx : (h : List ℕ) → mods (prime s) (mulx q h) ≡ mods (prime s) (mulx (prime s) (mods (prime s) h))
   mods-mulx h =
@@ -152,7 +161,9 @@ module _ (s : Bool) where
 
   -- the rests of the product are the product of the rests
   pub mods-prod : (f g : List ℕ) → mods (prime s) (prod q f g) ≡ prod (prime s) (mods (prime s) f) (mods (prime s) g)
-  mods-prod [] g = mods-zerosOf (prime-pos s) g
+  unfolding mapN
+  mods-prod [] g =
+      mods-zeros (prime-pos s) (length g) ∙ ap zeros (sym (length-mods (prime s) g))
   mods-prod (a ∷ f) g =
       mods-map2 (prime s) (λ (x : ℕ) (y : ℕ). (a * x + y) % q) (λ (x : ℕ) (y : ℕ). ((a % prime s) * x + y) % prime s) one
       g (mulx q (prod q f g)) (mulx (prime s) (prod (prime s) (mods (prime s) f) (mods (prime s) g)))
@@ -161,6 +172,6 @@ module _ (s : Bool) where
       one : (x y z : ℕ) → Eqv (prime s) y z → (a * x + y) % q % prime s ≡ ((a % prime s) * (x % prime s) + z) % prime s
       one x y z e =
           let k : Eqv (prime s) ((a * x + y) % q) ((a % prime s) * (x % prime s) + z) =
-          ≈trans (rest s (≈mod (a * x + y)))
+          ≈trans (each-prime s (≈mod (a * x + y)))
           (≈sym (grw (≈kit, ≈mod {p = prime s} a, ≈mod {p = prime s} x, ≈sym e) ≈refl)) in
           k .same

@@ -1,14 +1,16 @@
 -- Values of polynomials: of lists made by a linear rule, of a product, of the rests.
 use mathlib.Core.Path.{_≡_, refl, ap, sym, _∙_}
 use mathlib.Core.List.{List, [], _∷_, _++_}
-use Prim.Native.Nat.{ℕ, suc, _+_, _*_, _%_, _^_, _<_}
+use Prim.Native.Nat.{ℕ, zero, suc, _+_, _*_, _%_, _^_, _<_}
 use native.Mathlib.Nat.{pow-suc, pow-zero, mod-lt}
 use native.Mathlib.Omega.{arith}
-use lib.ListN.{length}
+use lib.ListN.{length, length-replicate}
+use Rattle.hash.specs.Lists.{zeros}
 use Rattle.ring.specs.Words.{Below, Residues}
-use Rattle.ring.specs.Poly.{eval, map2, neg, lastOf, shift, mulx, zerosOf, prod}
+use Rattle.ring.specs.Poly.{eval, mapN, map2, neg, lastOf, shift, mulx, prod}
 use Rattle.ring.specs.Residue.{mods}
 use Rattle.ring.proofs.Cong.{Eqv, ≈refl, ≈sym, ≈trans, ≈eq, ≈mod, ≈kit, neg-add}
+use Rattle.ring.proofs.Sums.{below-zeros}
 use Rattle.ring.proofs.Places.{length-map2, below-map2}
 
 -- the value of two lists, one behind the other
@@ -23,20 +25,12 @@ length-shift : (c : ℕ) (h : List ℕ) → length (shift c h) ≡ length h
 length-shift c [] = refl
 length-shift c (a ∷ h) = ap suc (length-shift a h)
 
-length-zerosOf : (g : List ℕ) → length (zerosOf g) ≡ length g
-length-zerosOf [] = refl
-length-zerosOf (a ∷ g) = ap suc (length-zerosOf g)
-
 pub length-prod : (p : ℕ) (f g : List ℕ) → length (prod p f g) ≡ length g
-length-prod p [] g = length-zerosOf g
+length-prod p [] g = length-replicate {A = ℕ} (length g) 0
 length-prod p (a ∷ f) g = length-map2 _ g (mulx p (prod p f g)) (sym (length-shift _ (prod p f g) ∙ length-prod p f g))
 
-below-zerosOf : {p : ℕ} → 0 < p → (g : List ℕ) → Below p (zerosOf g)
-below-zerosOf pos [] = tt
-below-zerosOf pos (a ∷ g) = (pos, below-zerosOf pos g)
-
 below-prod : {p : ℕ} → 0 < p → (f g : List ℕ) → Below p (prod p f g)
-below-prod pos [] g = below-zerosOf pos g
+below-prod {p} pos [] g = below-zeros p pos (length g)
 below-prod {p} pos (a ∷ f) g =
     below-map2 p (λ (x : ℕ) (y : ℕ). (a * x + y) % p) (λ x y. mod-lt _ pos) g (mulx p (prod p f g))
 
@@ -45,9 +39,9 @@ residues-prod {p} pos f g e = record { long = length-prod p f g ∙ e; low = bel
 
 -- ---- values
 
-eval-zerosOf : (g : List ℕ) (r : ℕ) → eval (zerosOf g) r ≡ 0
-eval-zerosOf [] r = refl
-eval-zerosOf (a ∷ g) r = omega (arith, ap (λ (x : ℕ). r * x) (eval-zerosOf g r))
+eval-zeros : (n r : ℕ) → eval (zeros n) r ≡ 0
+eval-zeros zero r = refl
+eval-zeros (suc n) r = omega (arith, ap (λ (x : ℕ). r * x) (eval-zeros n r))
 
 eval-shift : (c : ℕ) (h : List ℕ) (r : ℕ) → eval (shift c h) r + r ^ length h * lastOf c h ≡ c + r * eval h r
 eval-shift c [] r = rw pow-zero (omega arith)
@@ -56,6 +50,7 @@ eval-shift c (a ∷ h) r =
 
 -- the rests at a congruent point have a congruent value
 pub eval-rests : {p : ℕ} (f : List ℕ) (r t : ℕ) → Eqv p r t → Eqv p (eval f r) (eval (mods p f) t)
+unfolding mapN
 eval-rests [] r t e = ≈refl
 eval-rests {p} (a ∷ f) r t e =
     grw (≈kit, e, eval-rests f r t e) (≈sym (grw (≈kit, ≈mod {p = p} a) ≈refl))
@@ -86,7 +81,7 @@ module _ {p : ℕ} (pos : 0 < p) where
 
   -- the value of a product is the product of the values
   pub eval-prod : (f g : List ℕ) (r : ℕ) → Eqv p (r ^ length g + 1) 0 → Eqv p (eval (prod p f g) r) (eval f r * eval g r)
-  eval-prod [] g r e = ≈eq (rw eval-zerosOf (omega arith))
+  eval-prod [] g r e = ≈eq (rw eval-zeros (omega arith))
   eval-prod (a ∷ f) g r e =
       ≈trans
       (eval-map2 _ a 1 (λ x y. ≈trans (≈mod _) (≈eq (omega arith))) g (mulx p (prod p f g))

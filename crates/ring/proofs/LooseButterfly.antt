@@ -32,16 +32,16 @@ module _ {p : ℕ} (pos : 0 < p) where
       let e : t % p ≡ (w * (y % p)) % p = h .same ∙ times-rest p w y in
       record {
         sum-is = sum-rest x t ∙ ap (λ (r : ℕ). (x % p + r) % p) e;
-        rest-is = minus-rest 2 x t (omega (arith, h .low)) ∙ ap (λ (r : ℕ). (x % p + (p - r)) % p) e;
+        diff-is = minus-rest 2 x t (omega (arith, h .low)) ∙ ap (λ (r : ℕ). (x % p + (p - r)) % p) e;
         sum-low = omega (arith, h .low);
-        rest-low = omega arith;
+        diff-low = omega arith;
       }
 
   pub gentleman-sande : (n w x y t : ℕ) → x ≤ n * p → Loose p 2 ((w * (y + (n * p - x))) % p) t → GentlemanSande p w x y (x + y) t
   gentleman-sande n w x y t l h =
       record {
         sum-is = sum-rest x y;
-        rest-is = h .same ∙ times-rest p w (y + (n * p - x)) ∙ ap (λ (r : ℕ). (w * r) % p) (minus-rest n y x l);
+        diff-is = h .same ∙ times-rest p w (y + (n * p - x)) ∙ ap (λ (r : ℕ). (w * r) % p) (minus-rest n y x l);
         sum-low = omega arith;
-        rest-low = h .low;
+        diff-low = h .low;
       }

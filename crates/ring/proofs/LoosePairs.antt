@@ -12,7 +12,7 @@ use Rattle.ring.specs.Loose.{Loose, LooseList, Stepped}
 use Rattle.ring.proofs.Cong.{times-rest}
 use Rattle.ring.proofs.Sums.{below-at, below-set, below-wider, below-append}
 use Rattle.ring.proofs.Places.{length-mods, mods-set, mods-at}
-use Rattle.ring.proofs.Pairs.{Paired, paired-start, paired-more, paired-end, Each, each-start, each-more, each-end, map2-scale}
+use Rattle.ring.proofs.Pairs.{Paired, paired-start, paired-more, paired-end, Each, each-start, each-more, each-end, map2-mapN}
 
 -- ---- two halves: the rests are made by h1 and h2, and a bound m, p at the least, becomes g m
 
@@ -112,5 +112,5 @@ module _ (p f n : ℕ) (A : List ℕ) where
         record {
           low = subst (Below (n * p)) (take-all i a l) (s .front);
           same =
-              each-end _ (mods p A) (mods p A) i (mods p a) (s .rests) (omega (arith, l, length-mods p a)) refl ∙ map2-scale p f (mods p A);
+              each-end _ (mods p A) (mods p A) i (mods p a) (s .rests) (omega (arith, l, length-mods p a)) refl ∙ map2-mapN (λ (x : ℕ). (f * x) % p) (mods p A);
         }

@@ -1,12 +1,15 @@
 -- What is done to each element of a list (mapN), and rounding (000, 2.2): step by step, in parts, lengths and bounds.
-use mathlib.Core.Path.{_≡_, refl, ap, _∙_}
+use mathlib.Core.Path.{_≡_, refl, sym, ap, ap₂, _∙_}
 use mathlib.Core.List.{List, [], _∷_, _++_}
 use Prim.Native.Nat.{ℕ, zero, suc, _+_, _-_, _*_, _/_, _%_, _^_, _<_}
 use native.Mathlib.Nat.{mod-lt}
 use lib.Dec.{lit<}
-use lib.ListN.{length, take, drop}
+use lib.ListN.{length, take, drop, getD, set}
+use Rattle.hash.specs.Lists.{table}
+use Rattle.hash.proofs.Table.{table-none, table-next}
 use Rattle.ring.specs.Words.{q, zipTo, Residues, Words}
-use Rattle.ring.specs.Round.{mapN, rounded, scaledT}
+use Rattle.ring.specs.Poly.{mapN}
+use Rattle.ring.specs.Round.{rounded, scaledT}
 use Rattle.ring.proofs.Pairs.{below-mapN}
 
 -- ---- one list, and two
@@ -51,6 +54,32 @@ module _ (f : ℕ → ℕ) where
   map-drop zero xs = refl
   map-drop (suc n) [] = refl
   map-drop (suc n) (x ∷ xs) = map-drop n xs
+
+  pub map-set : (xs : List ℕ) (i v : ℕ) → mapN f (set xs i v) ≡ set (mapN f xs) i (f v)
+  unfolding mapN
+  map-set [] i v = refl
+  map-set (x ∷ xs) zero v = refl
+  map-set (x ∷ xs) (suc i) v = ap (λ (t : List ℕ). f x ∷ t) (map-set xs i v)
+
+  pub map-at : f 0 ≡ 0 → (xs : List ℕ) (i : ℕ) → getD (mapN f xs) i 0 ≡ f (getD xs i 0)
+  unfolding mapN
+  map-at e [] i = sym e
+  map-at e (x ∷ xs) zero = refl
+  map-at e (x ∷ xs) (suc i) = map-at e xs i
+
+  pub map-table : (g : ℕ → ℕ) (n : ℕ) → mapN f (table g n) ≡ table (λ (i : ℕ). f (g i)) n
+  map-table g zero = ap (mapN f) (table-none g) ∙ map-none f ∙ sym (table-none (λ (i : ℕ). f (g i)))
+  map-table g (suc n) =
+      ap (mapN f) (table-next g n)
+      ∙ map-append (table g n) (g n ∷ [])
+      ∙ ap₂ _++_ (map-table g n) (map-next f (g n) [] ∙ ap (λ (t : List ℕ). f (g n) ∷ t) (map-none f))
+      ∙ sym (table-next (λ (i : ℕ). f (g i)) n)
+
+  -- .. after another
+  pub map-map : (g h : ℕ → ℕ) → ((x : ℕ) → f (g x) ≡ h x) → (xs : List ℕ) → mapN f (mapN g xs) ≡ mapN h xs
+  unfolding mapN
+  map-map g h e [] = refl
+  map-map g h e (x ∷ xs) = cc (e x, map-map g h e xs)
 
 -- ---- rounding and scaling
 

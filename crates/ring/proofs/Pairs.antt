@@ -1,16 +1,15 @@
 -- Loops over lists in place: over two halves side by side, with h1 x y and h2 x y for the entries x and y at each place; and over one list.
 use mathlib.Core.Path.{_≡_, refl, ap, sym, _∙_, subst}
 use mathlib.Core.List.{List, [], _∷_, _++_}
-use Prim.Native.Nat.{ℕ, zero, suc, _+_, _*_, _%_, _<_, _≤_}
-use native.Mathlib.Nat.{not-suc-le-zero, zero-add, suc-add, mod-lt}
+use Prim.Native.Nat.{ℕ, zero, suc, _+_, _*_, _<_, _≤_}
+use native.Mathlib.Nat.{not-suc-le-zero, zero-add, suc-add}
 use native.Mathlib.Numerals.{add-one}
 use native.Mathlib.Omega.{arith}
-use lib.ListN.{length, take, drop, getD, set, length-append, length-set, length-drop, List·getD-append, take-append-drop}
+use lib.ListN.{length, take, drop, getD, set, length-set, length-drop, List·getD-append, take-append-drop}
 use lib.Seq.{set-append-left, getD-append-add, length-take-le, take-all, take-suc, take-suc-set}
 use Rattle.ring.specs.Words.{Below, zipTo}
-use Rattle.ring.specs.Poly.{map2}
-use Rattle.ring.specs.Residue.{halves, mods, scale}
-use Rattle.ring.specs.Round.{mapN, rounded}
+use Rattle.ring.specs.Poly.{mapN, map2}
+use Rattle.ring.specs.Residue.{halves}
 use Rattle.ring.proofs.Sums.{below-at}
 
 -- h at the first i places, and zs after
@@ -21,7 +20,7 @@ done h (suc i) (x ∷ xs) [] zs = zs
 done h (suc i) (x ∷ xs) (y ∷ ys) [] = []
 done h (suc i) (x ∷ xs) (y ∷ ys) (z ∷ zs) = h x y ∷ done h i xs ys zs
 
-pub length-done : (h : ℕ → ℕ → ℕ) (i : ℕ) (xs ys zs : List ℕ) → length (done h i xs ys zs) ≡ length zs
+length-done : (h : ℕ → ℕ → ℕ) (i : ℕ) (xs ys zs : List ℕ) → length (done h i xs ys zs) ≡ length zs
 length-done h zero xs ys zs = refl
 length-done h (suc i) [] ys zs = refl
 length-done h (suc i) (x ∷ xs) [] zs = refl
@@ -57,27 +56,22 @@ set-append-right [] ys i v = rw zero-add
 set-append-right (x ∷ xs) ys i v =
     ap (λ (n : ℕ). set (x ∷ (xs ++ ys)) n v) (suc-add (length xs) i) ∙ ap (λ (t : List ℕ). x ∷ t) (set-append-right xs ys i v)
 
-abbrev pub mixed : (ℕ → ℕ → ℕ) → (ℕ → ℕ → ℕ) → ℕ → List ℕ → List ℕ → List ℕ
+abbrev mixed : (ℕ → ℕ → ℕ) → (ℕ → ℕ → ℕ) → ℕ → List ℕ → List ℕ → List ℕ
 mixed h1 h2 i xs ys = done h1 i xs ys xs ++ done h2 i xs ys ys
 
 module _ (h1 h2 : ℕ → ℕ → ℕ) (xs ys : List ℕ) (n : ℕ) (ex : length xs ≡ n) (ey : length ys ≡ n) where
-  pub length-mixed : (i : ℕ) → length (mixed h1 h2 i xs ys) ≡ 2 * n
-  length-mixed i =
-      length-append (done h1 i xs ys xs) (done h2 i xs ys ys)
-      ∙ omega (arith, length-done h1 i xs ys xs, length-done h2 i xs ys ys)
-
-  pub mixed-lo : (i : ℕ) → i < n → getD (mixed h1 h2 i xs ys) i 0 ≡ getD xs i 0
+  mixed-lo : (i : ℕ) → i < n → getD (mixed h1 h2 i xs ys) i 0 ≡ getD xs i 0
   mixed-lo i l =
       List·getD-append (done h1 i xs ys xs) (done h2 i xs ys ys) 0 i (omega (arith, length-done h1 i xs ys xs))
       ∙ done-here h1 i xs ys xs
 
-  pub mixed-hi : (i : ℕ) → getD (mixed h1 h2 i xs ys) (n + i) 0 ≡ getD ys i 0
+  mixed-hi : (i : ℕ) → getD (mixed h1 h2 i xs ys) (n + i) 0 ≡ getD ys i 0
   mixed-hi i =
       ap (λ (m : ℕ). getD (mixed h1 h2 i xs ys) (m + i) 0) (sym (length-done h1 i xs ys xs ∙ ex))
       ∙ getD-append-add (done h1 i xs ys xs) (done h2 i xs ys ys) i 0
       ∙ done-here h2 i xs ys ys
 
-  pub mixed-more : (i v w : ℕ) → i < n → v ≡ h1 (getD xs i 0) (getD ys i 0) → w ≡ h2 (getD xs i 0) (getD ys i 0)
+  mixed-more : (i v w : ℕ) → i < n → v ≡ h1 (getD xs i 0) (getD ys i 0) → w ≡ h2 (getD xs i 0) (getD ys i 0)
       → set (set (mixed h1 h2 i xs ys) i v) (n + i) w ≡ mixed h1 h2 (i + 1) xs ys
   mixed-more i v w l ev ew =
       let A : List ℕ = done h1 i xs ys xs in
@@ -94,7 +88,7 @@ module _ (h1 h2 : ℕ → ℕ → ℕ) (xs ys : List ℕ) (n : ℕ) (ex : length
         done-more h2 i xs ys ys (omega arith) (omega arith) (omega arith),
       )
 
-  pub mixed-all : mixed h1 h2 n xs ys ≡ map2 h1 xs ys ++ map2 h2 xs ys
+  mixed-all : mixed h1 h2 n xs ys ≡ map2 h1 xs ys ++ map2 h2 xs ys
   mixed-all =
       cc (ex, done-all h1 xs ys xs (omega arith) refl, done-all h2 xs ys ys (omega arith) (omega arith))
 
@@ -115,10 +109,10 @@ module _ (h1 h2 : ℕ → ℕ → ℕ) (n : ℕ) (A : List ℕ) (e : length A �
   paired-start = record { upto = omega arith; long = e; is = sym (take-append-drop n A) }
 
   module _ (i : ℕ) (a : List ℕ) (s : Paired h1 h2 n A i a) (l : i < n) where
-    pub at-lo : getD a i 0 ≡ getD (take n A) i 0
+    at-lo : getD a i 0 ≡ getD (take n A) i 0
     at-lo = ap (λ (t : List ℕ). getD t i 0) (s .is) ∙ mixed-lo h1 h2 (take n A) (drop n A) n lo hi i l
 
-    pub at-hi : getD a (n + i) 0 ≡ getD (drop n A) i 0
+    at-hi : getD a (n + i) 0 ≡ getD (drop n A) i 0
     at-hi = ap (λ (t : List ℕ). getD t (n + i) 0) (s .is) ∙ mixed-hi h1 h2 (take n A) (drop n A) n lo hi i
 
     pub paired-more : (v w : ℕ) → v ≡ h1 (getD a i 0) (getD a (n + i) 0) → w ≡ h2 (getD a i 0) (getD a (n + i) 0)
@@ -147,7 +141,7 @@ pub each-start : (h : ℕ → ℕ → ℕ) (A B : List ℕ) → Each h A B 0 A
 each-start h A B = record { upto = omega arith; long = refl; is = refl }
 
 module _ (h : ℕ → ℕ → ℕ) (A B : List ℕ) (i : ℕ) (a : List ℕ) (s : Each h A B i a) where
-  pub each-at : getD a i 0 ≡ getD A i 0
+  each-at : getD a i 0 ≡ getD A i 0
   each-at = ap (λ (t : List ℕ). getD t i 0) (s .is) ∙ done-here h i A B A
 
   pub each-low : (p : ℕ) → 0 < p → Below p A → getD a i 0 < p
@@ -167,14 +161,6 @@ module _ (h : ℕ → ℕ → ℕ) (A B : List ℕ) (i : ℕ) (a : List ℕ) (s 
       s .is ∙ ap (λ (k : ℕ). done h k A B A) q ∙ done-all h A B A e refl
 
 -- what such a loop makes, in the words of the definitions
-pub map2-mods : (p : ℕ) (A : List ℕ) → map2 (λ (x : ℕ) (y : ℕ). x % p) A A ≡ mods p A
-map2-mods p [] = refl
-map2-mods p (x ∷ A) = ap (λ (t : List ℕ). x % p ∷ t) (map2-mods p A)
-
-pub map2-scale : (p s : ℕ) (A : List ℕ) → map2 (λ (x : ℕ) (y : ℕ). (s * x) % p) A A ≡ scale p s A
-map2-scale p s [] = refl
-map2-scale p s (x ∷ A) = ap (λ (t : List ℕ). (s * x) % p ∷ t) (map2-scale p s A)
-
 pub map2-mapN : (f : ℕ → ℕ) (A : List ℕ) → map2 (λ (x : ℕ) (y : ℕ). f x) A A ≡ mapN f A
 unfolding mapN
 map2-mapN f [] = refl
@@ -200,7 +186,3 @@ take-turn s X i v h g e w =
 
 pub take-end : (s X : List ℕ) (i : ℕ) → length s ≤ i → length X ≤ i → take i s ≡ take i X → s ≡ X
 take-end s X i h g e = sym (take-all i s h) ∙ e ∙ take-all i X g
-
-pub rounded-low : (v m x : ℕ) → rounded v (suc m) x < suc m
-unfolding rounded
-rounded-low v m x = mod-lt _ (omega arith)

@@ -9,15 +9,16 @@ use Rattle.hash.specs.Lists.{table}
 use Rattle.hash.proofs.Paste.{table-same}
 use Rattle.ring.specs.Words.{q, Residues}
 use Rattle.ring.specs.Poly.{eval, map2, prod}
-use Rattle.ring.specs.Residue.{rev, prime, gen, over512, rootOf, timesp, mods, fwd, bwd, backOne}
+use Rattle.ring.specs.Residue.{rev, prime, gen, over512, zeta, timesp, mods, fwd, bwd, backOne}
 use Rattle.ring.specs.Transform.{g, root, ntt, intt, pointwise, mul}
 use Rattle.ring.proofs.Cong.{Eqv, ≈sym, ≈trans, ≈mod, ≈pow}
 use Rattle.ring.proofs.Eval.{eval-rests}
-use Rattle.ring.proofs.Places.{residues-mods, residues-scale, mods-table}
+use Rattle.ring.proofs.Mapped.{map-table}
+use Rattle.ring.proofs.Places.{residues-mods, residues-scale}
 use Rattle.ring.proofs.Values.{evals, evals-table, fwd-eval, fwd-prod}
 use Rattle.ring.proofs.Inverse.{residues-bwd, undone, onto}
 use Rattle.ring.proofs.Tables.{prime-pos, roots-at, top-at, mirror-top, over-at, point, leaves}
-use Rattle.ring.proofs.Crt.{rest, mods-times, mods-prod, mods-crt-false, mods-crt-true}
+use Rattle.ring.proofs.Crt.{each-prime, mods-times, mods-prod, mods-crt-false, mods-crt-true}
 
 -- ---- modulo one prime, 512 residues
 
@@ -25,23 +26,23 @@ module _ (s : Bool) (f : List ℕ) (r : Residues (prime s) 512 f) where
   pub back-residues : Residues (prime s) 512 (backOne s f)
   unfolding backOne
   back-residues =
-      residues-scale (prime-pos s) (over512 s) (bwd (prime s) (rootOf s) 9 1 f) (residues-bwd (prime-pos s) (rootOf s) 9 1 f r .long)
+      residues-scale (prime-pos s) (over512 s) (bwd (prime s) (zeta s) 9 1 f) (residues-bwd (prime-pos s) (zeta s) 9 1 f r .long)
 
-  pub back-forth : backOne s (fwd (prime s) (rootOf s) 9 1 f) ≡ f
+  pub back-forth : backOne s (fwd (prime s) (zeta s) 9 1 f) ≡ f
   unfolding backOne
   back-forth = undone (roots-at s) 9 f r (lit≤ tt) mirror-top (over512 s) (over-at s)
 
-  pub forth-back : fwd (prime s) (rootOf s) 9 1 (backOne s f) ≡ f
+  pub forth-back : fwd (prime s) (zeta s) 9 1 (backOne s f) ≡ f
   unfolding backOne
   forth-back = onto (roots-at s) 9 f r (lit≤ tt) mirror-top (over512 s) (over-at s)
 
   -- the values at the points
-  forth-values : fwd (prime s) (rootOf s) 9 1 f ≡ table (λ (i : ℕ). eval f (point s i) % prime s) 512
+  forth-values : fwd (prime s) (zeta s) 9 1 f ≡ table (λ (i : ℕ). eval f (point s i) % prime s) 512
   forth-values =
       fwd-eval (roots-at s) 9 1 f r (lit< tt) (lit≤ tt) ∙ ap (evals (prime s) f) (leaves s) ∙ evals-table (prime s) f (point s) 512
 
   pub forth-prod : (h : List ℕ) → Residues (prime s) 512 h
-      → fwd (prime s) (rootOf s) 9 1 (prod (prime s) f h) ≡ map2 (timesp (prime s)) (fwd (prime s) (rootOf s) 9 1 f) (fwd (prime s) (rootOf s) 9 1 h)
+      → fwd (prime s) (zeta s) 9 1 (prod (prime s) f h) ≡ map2 (timesp (prime s)) (fwd (prime s) (zeta s) 9 1 f) (fwd (prime s) (zeta s) 9 1 h)
   forth-prod h t = fwd-prod (roots-at s) 9 f h r t (lit≤ tt) (top-at s)
 
 -- ---- rests of those modulo q
@@ -53,18 +54,18 @@ g-rest true = record { same = refl }
 root-rest : (s : Bool) (i : ℕ) → Eqv (prime s) (root i) (point s i)
 unfolding root point
 root-rest s i =
-    ≈trans (rest s (≈mod (g ^ (2 * rev 9 i + 1)))) (≈trans (≈pow (g-rest s) (2 * rev 9 i + 1)) (≈sym (≈mod (gen s ^ (2 * rev 9 i + 1)))))
+    ≈trans (each-prime s (≈mod (g ^ (2 * rev 9 i + 1)))) (≈trans (≈pow (g-rest s) (2 * rev 9 i + 1)) (≈sym (≈mod (gen s ^ (2 * rev 9 i + 1)))))
 
-pub ntt-rest : (s : Bool) (f : List ℕ) → length f ≡ 512 → mods (prime s) (ntt f) ≡ fwd (prime s) (rootOf s) 9 1 (mods (prime s) f)
+pub ntt-rest : (s : Bool) (f : List ℕ) → length f ≡ 512 → mods (prime s) (ntt f) ≡ fwd (prime s) (zeta s) 9 1 (mods (prime s) f)
 unfolding ntt
 ntt-rest s f e =
-    mods-table (prime s) (λ (i : ℕ). eval f (root i) % q) 512
+    map-table (λ (x : ℕ). x % prime s) (λ (i : ℕ). eval f (root i) % q) 512
     ∙ table-same (λ (i : ℕ). eval f (root i) % q % prime s) (λ (i : ℕ). eval (mods (prime s) f) (point s i) % prime s) 512
     (λ (i : ℕ) (l : i < 512). value i .same)
     ∙ sym (forth-values s (mods (prime s) f) (residues-mods (prime-pos s) f e))
   where
     value : (i : ℕ) → Eqv (prime s) (eval f (root i) % q) (eval (mods (prime s) f) (point s i))
-    value i = ≈trans (rest s (≈mod (eval f (root i)))) (eval-rests f (root i) (point s i) (root-rest s i))
+    value i = ≈trans (each-prime s (≈mod (eval f (root i)))) (eval-rests f (root i) (point s i) (root-rest s i))
 
 -- the inverse modulo each prime
 pub back-rest : (s : Bool) (x : List ℕ) → length x ≡ 512 → Residues (prime s) 512 (backOne s (mods (prime s) x))

@@ -9,9 +9,9 @@ use native.Mathlib.Numerals.{add-one}
 use native.Mathlib.Omega.{arith}
 use borrow.Author.Tests.{ltb-true, lt-ltb, le-ltb}
 use lib.Dec.{ltb, lit<}
-use lib.ListN.{length, take, drop, getD, set, replicate, length-append, length-drop, length-replicate, drop-of-length-le}
+use lib.ListN.{length, take, drop, getD, set, length-append, length-drop, length-replicate, drop-of-length-le}
 use lib.Seq.{drop-cons, ext-getD, length-take-le}
-use Rattle.hash.specs.Lists.{pick}
+use Rattle.hash.specs.Lists.{pick, zeros}
 use Rattle.ring.specs.Words.{q, addq, subq, zipTo, addW, subW, Below, allBelow, Residues, Words, Linear}
 
 -- ---- one word
@@ -84,7 +84,7 @@ module _ (p : ℕ) where
   below-wider m l [] h = tt
   below-wider m l (x ∷ xs) h = (omega (arith, l, h .0), below-wider m l xs (h .1))
 
-  pub below-zeros : 0 < p → (n : ℕ) → Below p (replicate n 0)
+  pub below-zeros : 0 < p → (n : ℕ) → Below p (zeros n)
   below-zeros pos zero = tt
   below-zeros pos (suc n) = (pos, below-zeros pos n)
 
@@ -185,7 +185,7 @@ words-add xs ys h = record { long = length-zip addq xs ys ∙ h .long; low = bel
 pub words-sub : {n : ℕ} (xs ys : List ℕ) → Words n xs → Words n (subW xs ys)
 words-sub xs ys h = record { long = length-zip subq xs ys ∙ h .long; low = below-zip q subq subq-lt xs ys (h .low) }
 
-pub words-zeros : (n : ℕ) → Words n (replicate n 0)
+pub words-zeros : (n : ℕ) → Words n (zeros n)
 words-zeros n = record { long = length-replicate {A = ℕ} n 0; low = below-zeros q (lit< tt) n }
 
 pub addW-comm : (xs ys : List ℕ) → length xs ≡ length ys → addW xs ys ≡ addW ys xs
@@ -202,7 +202,7 @@ addW-assoc (x ∷ xs) [] zs e g = absurd (omega arith)
 addW-assoc (x ∷ xs) (y ∷ ys) [] e g = absurd (omega arith)
 addW-assoc (x ∷ xs) (y ∷ ys) (z ∷ zs) e g = cc (addq-assoc x y z, addW-assoc xs ys zs (omega arith) (omega arith))
 
-pub addW-zero : (xs : List ℕ) → Below q xs → addW (replicate (length xs) 0) xs ≡ xs
+pub addW-zero : (xs : List ℕ) → Below q xs → addW (zeros (length xs)) xs ≡ xs
 unfolding zipTo
 addW-zero [] h = refl
 addW-zero (x ∷ xs) h = cc (addq-zero x (h .0), addW-zero xs (h .1))
@@ -213,7 +213,7 @@ addW-subW [] ys h g = refl
 addW-subW (x ∷ xs) [] h g = refl
 addW-subW (x ∷ xs) (y ∷ ys) h g = cc (sub-addq x y (h .0) (g .0), addW-subW xs ys (h .1) (g .1))
 
-pub addW-twice : (xs : List ℕ) → Below q xs → xs ≡ addW xs xs → xs ≡ replicate (length xs) 0
+pub addW-twice : (xs : List ℕ) → Below q xs → xs ≡ addW xs xs → xs ≡ zeros (length xs)
 unfolding zipTo
 addW-twice [] h e = refl
 addW-twice (x ∷ xs) h e =
@@ -228,17 +228,17 @@ module _ {n : ℕ} where
   pub add-assoc : (xs ys zs : List ℕ) → Words n xs → Words n ys → Words n zs → addW (addW xs ys) zs ≡ addW xs (addW ys zs)
   add-assoc xs ys zs h g k = addW-assoc xs ys zs (h .long ∙ sym (g .long)) (g .long ∙ sym (k .long))
 
-  pub add-zero-left : (xs : List ℕ) → Words n xs → addW (replicate n 0) xs ≡ xs
-  add-zero-left xs h = ap (λ (m : ℕ). addW (replicate m 0) xs) (sym (h .long)) ∙ addW-zero xs (h .low)
+  pub add-zero-left : (xs : List ℕ) → Words n xs → addW (zeros n) xs ≡ xs
+  add-zero-left xs h = ap (λ (m : ℕ). addW (zeros m) xs) (sym (h .long)) ∙ addW-zero xs (h .low)
 
-  pub add-zero-right : (xs : List ℕ) → Words n xs → addW xs (replicate n 0) ≡ xs
-  add-zero-right xs h = add-comm xs (replicate n 0) h (words-zeros n) ∙ add-zero-left xs h
+  pub add-zero-right : (xs : List ℕ) → Words n xs → addW xs (zeros n) ≡ xs
+  add-zero-right xs h = add-comm xs (zeros n) h (words-zeros n) ∙ add-zero-left xs h
 
   pub add-sub : (xs ys : List ℕ) → Words n xs → Words n ys → addW (subW xs ys) ys ≡ xs
   add-sub xs ys h g = addW-subW xs ys (h .low) (g .low)
 
-  pub twice-zero : (xs : List ℕ) → Words n xs → xs ≡ addW xs xs → xs ≡ replicate n 0
-  twice-zero xs h e = addW-twice xs (h .low) e ∙ ap (λ (m : ℕ). replicate m 0) (h .long)
+  pub twice-zero : (xs : List ℕ) → Words n xs → xs ≡ addW xs xs → xs ≡ zeros n
+  twice-zero xs h e = addW-twice xs (h .low) e ∙ ap (λ (m : ℕ). zeros m) (h .long)
 
   -- (a + b) + (c + d) = (a + c) + (b + d)
   pub add-swap : (a b c d : List ℕ) → Words n a → Words n b → Words n c → Words n d
@@ -252,8 +252,8 @@ module _ {n : ℕ} where
       cc
 
 -- a linear map of 0
-pub linear-zero : {w v : ℕ} {F : List ℕ → List ℕ} → Linear w v F → F (replicate w 0) ≡ replicate v 0
+pub linear-zero : {w v : ℕ} {F : List ℕ → List ℕ} → Linear w v F → F (zeros w) ≡ zeros v
 linear-zero {w} {v} {F} L =
-    let z : Words w (replicate w 0) = words-zeros w in
-    twice-zero (F (replicate w 0)) (L .words (replicate w 0) z)
-    (ap F (sym (add-zero-left (replicate w 0) z)) ∙ L .adds (replicate w 0) (replicate w 0) z z)
+    let z : Words w (zeros w) = words-zeros w in
+    twice-zero (F (zeros w)) (L .words (zeros w) z)
+    (ap F (sym (add-zero-left (zeros w) z)) ∙ L .adds (zeros w) (zeros w) z z)

@@ -6,10 +6,10 @@ use native.Mathlib.Nat.{not-suc-le-zero, mod-lt}
 use native.Mathlib.Omega.{arith}
 use lib.Dec.{T, eqb, eqb→eq, ltb, lit<}
 use lib.ListN.{getD}
-use Rattle.hash.specs.Lists.{table}
+use Rattle.hash.specs.Lists.{table, pick}
 use Rattle.hash.proofs.Computed.{below, at}
 use Rattle.hash.proofs.Table.{getD-table}
-use Rattle.ring.specs.Residue.{rev, prime, gen, over512, power, rootOf, powers}
+use Rattle.ring.specs.Residue.{rev, prime, gen, over512, power, zeta, powers}
 use Rattle.ring.proofs.Cong.{Eqv}
 use Rattle.ring.proofs.Values.{Roots, pts}
 
@@ -18,13 +18,13 @@ prime-pos false = lit< tt
 prime-pos true = lit< tt
 
 -- the table of powers, and its entries
-pub powers-at : (s : Bool) (k : ℕ) → k < 512 → getD (powers s) k 0 ≡ rootOf s k
+pub powers-at : (s : Bool) (k : ℕ) → k < 512 → getD (powers s) k 0 ≡ zeta s k
 unfolding powers
-powers-at s k h = getD-table (rootOf s) 512 k h
+powers-at s k h = getD-table (zeta s) 512 k h
 
-pub root-low : (s : Bool) (k : ℕ) → rootOf s k < prime s
+pub zeta-low : (s : Bool) (k : ℕ) → zeta s k < prime s
 unfolding power
-root-low s k = mod-lt _ (prime-pos s)
+zeta-low s k = mod-lt _ (prime-pos s)
 
 -- ---- the nodes
 
@@ -32,14 +32,10 @@ root-low s k = mod-lt _ (prime-pos s)
 abbrev pub node : ℕ → ℕ → ℕ → ℕ
 node p g k = g ^ rev 10 k % p
 
-abbrev choose : Bool → ℕ → ℕ → ℕ
-choose true a b = a
-choose false a b = b
-
 -- the node that mirrors k on its level
 mir : ℕ → ℕ → ℕ
 mir zero k = 1
-mir (suc b) k = choose (ltb k 2) 1 (2 * mir b (k / 2) + (1 - k % 2))
+mir (suc b) k = pick (ltb k 2) 1 (2 * mir b (k / 2) + (1 - k % 2))
 
 pub mirrored : ℕ → ℕ
 mirrored k = mir 10 k
@@ -124,7 +120,7 @@ mirror-right : T (below t-mirror-right 511)
 unfolding below mir mirrored
 mirror-right = tt
 
-pub roots-at : (s : Bool) → Roots (prime s) 512 (rootOf s) (node (prime s) (gen s)) mirrored
+pub roots-at : (s : Bool) → Roots (prime s) 512 (zeta s) (node (prime s) (gen s)) mirrored
 roots-at false = roots-of 16515073 12686483 511 (lit< tt) square1 left1 right1 mirror1 mirror-left mirror-right
 roots-at true = roots-of 33292289 11827776 511 (lit< tt) square2 left2 right2 mirror2 mirror-left mirror-right
 

@@ -9,7 +9,7 @@ use lib.ListN.{length}
 use Rattle.hash.proofs.Paste.{table-same}
 use Rattle.ring.specs.Words.{q, addq, addW, Words, Linear}
 use Rattle.ring.specs.Poly.{eval, map2}
-use Rattle.ring.specs.Residue.{prime, rootOf, mods, timesp, fwd, backOne, crtOf}
+use Rattle.ring.specs.Residue.{prime, zeta, mods, timesp, fwd, backOne, crtOf}
 use Rattle.ring.specs.Transform.{root, ntt, intt, pointwise, mul}
 use Rattle.ring.proofs.Cong.{Eqv, ≈refl, ≈sym, ≈trans, ≈eq, ≈mod, ≈kit}
 use Rattle.ring.proofs.Sums.{words-add}
@@ -18,7 +18,7 @@ use Rattle.ring.proofs.Eval.{residues-prod}
 use Rattle.ring.proofs.Tables.{prime-pos}
 use Rattle.ring.proofs.Crt.{crt-is, below-crt, crt-mods, lists-by-rests}
 use Rattle.ring.proofs.Rests.{back-forth, forth-back, forth-prod, back-rest, ntt-rest, intt-rest, pointwise-rest, mul-rest}
-use Rattle.ring.proofs.Additive.{eval-sum, zip-table, times-sums, prod-sum}
+use Rattle.ring.proofs.Additive.{eval-sum, zip-table, prod-sum}
 
 -- ---- words
 
@@ -48,7 +48,7 @@ pointwise-words a b ha hb = residues-map2 (timesp q) (λ (x : ℕ) (y : ℕ). mo
 
 -- the transform from those modulo the primes
 pub ntt-by-rests : (f : List ℕ) → length f ≡ 512
-    → map2 crtOf (fwd (prime true) (rootOf true) 9 1 (mods (prime true) f)) (fwd (prime false) (rootOf false) 9 1 (mods (prime false) f)) ≡ ntt f
+    → map2 crtOf (fwd (prime true) (zeta true) 9 1 (mods (prime true) f)) (fwd (prime false) (zeta false) 9 1 (mods (prime false) f)) ≡ ntt f
 ntt-by-rests f e =
     maps crtOf (sym (ntt-rest true f e)) (sym (ntt-rest false f e)) ∙ crt-mods (ntt f) (ntt-words f .low)
 
@@ -76,7 +76,7 @@ pub ntt-intt : (x : List ℕ) → Words 512 x → ntt (intt x) ≡ x
 ntt-intt x h =
     lists-by-rests (ntt (intt x)) x (ntt-words (intt x) .low) (h .low)
     (λ (s : Bool).
-    ntt-rest s (intt x) (intt-words x h .long) ∙ ap (fwd (prime s) (rootOf s) 9 1) (intt-rest s x (h .long))
+    ntt-rest s (intt x) (intt-words x h .long) ∙ ap (fwd (prime s) (zeta s) 9 1) (intt-rest s x (h .long))
     ∙ forth-back s (mods (prime s) x) (residues-mods (prime-pos s) x (h .long)))
 
 -- ---- products
@@ -86,7 +86,7 @@ ntt-mul f h wf wh =
     lists-by-rests (ntt (mul f h)) (pointwise (ntt f) (ntt h)) (ntt-words (mul f h) .low)
     (pointwise-words (ntt f) (ntt h) (ntt-words f .long) (ntt-words h .long) .low)
     (λ (s : Bool).
-    ntt-rest s (mul f h) (mul-words f h (wh .long) .long) ∙ ap (fwd (prime s) (rootOf s) 9 1) (mul-rest s f h)
+    ntt-rest s (mul f h) (mul-words f h (wh .long) .long) ∙ ap (fwd (prime s) (zeta s) 9 1) (mul-rest s f h)
     ∙ forth-prod s (mods (prime s) f) (residues-mods (prime-pos s) f (wf .long)) (mods (prime s) h) (residues-mods (prime-pos s) h (wh .long))
     ∙ sym (pointwise-rest s (ntt f) (ntt h) ∙ maps (timesp (prime s)) (ntt-rest s f (wf .long)) (ntt-rest s h (wh .long))))
 
@@ -121,9 +121,6 @@ intt-sum x y wx wy =
     ntt-sum (intt x) (intt y) vx vy ∙ cc (ntt-intt x wx, ntt-intt y wy) in
     ap intt (sym e) ∙ intt-ntt (addW (intt x) (intt y)) (words-add (intt x) (intt y) vx)
 
-pub ntt-linear : Linear 512 512 ntt
-ntt-linear = record { words = λ (f : List ℕ) (w : Words 512 f). ntt-words f; adds = ntt-sum }
-
 pub intt-linear : Linear 512 512 intt
 intt-linear = record { words = intt-words; adds = intt-sum }
 
@@ -133,12 +130,4 @@ mul-linear a =
     record {
       words = λ (x : List ℕ) (w : Words 512 x). mul-words a x (w .long);
       adds = λ (x : List ℕ) (y : List ℕ) (w : Words 512 x) (v : Words 512 y). prod-sum a x y (w .long ∙ sym (v .long));
-    }
-
-pub pointwise-linear : (a : List ℕ) → length a ≡ 512 → Linear 512 512 (pointwise a)
-unfolding pointwise
-pointwise-linear a e =
-    record {
-      words = λ (x : List ℕ) (w : Words 512 x). pointwise-words a x e (w .long);
-      adds = λ (x : List ℕ) (y : List ℕ) (w : Words 512 x) (v : Words 512 y). times-sums a x y (w .long ∙ sym (v .long));
     }

@@ -17,18 +17,18 @@ pub record LooseList (p n : ℕ) (xs rs : List ℕ) : Type 0 where
   pub same : mods p rs ≡ xs
 
 -- a butterfly of the transform (Cooley and Tukey): x + w y and x - w y, each at most two primes above x
-pub record CooleyTukey (p w x y sum rest : ℕ) : Type 0 where
+pub record CooleyTukey (p w x y sum diff : ℕ) : Type 0 where
   pub sum-is : sum % p ≡ up p w (x % p) (y % p)
-  pub rest-is : rest % p ≡ down p w (x % p) (y % p)
+  pub diff-is : diff % p ≡ down p w (x % p) (y % p)
   pub sum-low : sum ≤ x + 2 * p
-  pub rest-low : rest ≤ x + 2 * p
+  pub diff-low : diff ≤ x + 2 * p
 
 -- a butterfly of the inverse (Gentleman and Sande): x + y as it is, and w (y - x) below two primes
-pub record GentlemanSande (p w x y sum rest : ℕ) : Type 0 where
+pub record GentlemanSande (p w x y sum diff : ℕ) : Type 0 where
   pub sum-is : sum % p ≡ join p (x % p) (y % p)
-  pub rest-is : rest % p ≡ part p w (x % p) (y % p)
+  pub diff-is : diff % p ≡ part p w (x % p) (y % p)
   pub sum-low : sum ≤ x + y
-  pub rest-low : rest < 2 * p
+  pub diff-low : diff < 2 * p
 
 -- b is made of a: F of its rests, and if the entries of a are below m, p at the least, those of b are below g m
 pub record Stepped (p : ℕ) (F : List ℕ → List ℕ) (g : ℕ → ℕ) (a b : List ℕ) : Type 0 where

@@ -2,12 +2,12 @@
 -- No layer above cites this file.
 use mathlib.Core.Path.{_≡_}
 use mathlib.Core.Bool.{Bool, true, false}
-use mathlib.Core.List.{List, [], _∷_, _++_}
+use mathlib.Core.List.{List, _++_}
 use Prim.Native.Nat.{ℕ, zero, suc, _+_, _*_, _-_, _%_, _/_, _^_, _≤_}
 use lib.ListN.{length, take, drop}
 use Rattle.hash.specs.Lists.{table}
 use Rattle.ring.specs.Words.{Below}
-use Rattle.ring.specs.Poly.{map2}
+use Rattle.ring.specs.Poly.{mapN, map2}
 
 -- the lowest b bits of k, in reverse (2.7.1)
 unfoldable pub rev : ℕ → ℕ → ℕ
@@ -32,11 +32,11 @@ over512 true = 33227265
 unfoldable pub power : ℕ → ℕ → ℕ → ℕ
 power p g k = g ^ rev 9 k % p
 
-abbrev pub rootOf : Bool → ℕ → ℕ
-rootOf s k = power (prime s) (gen s) k
+abbrev pub zeta : Bool → ℕ → ℕ
+zeta s k = power (prime s) (gen s) k
 
 unfoldable pub powers : Bool → List ℕ
-powers s = table (rootOf s) 512
+powers s = table (zeta s) 512
 
 -- a + w b and a - w b
 abbrev pub up : ℕ → ℕ → ℕ → ℕ → ℕ
@@ -72,19 +72,17 @@ bwd p z (suc d) j f =
 
 -- each entry times s; the rests modulo p; products place by place
 abbrev pub scale : ℕ → ℕ → List ℕ → List ℕ
-scale p s [] = []
-scale p s (a ∷ f) = (s * a) % p ∷ scale p s f
+scale p s f = mapN (λ (a : ℕ). (s * a) % p) f
 
 abbrev pub mods : ℕ → List ℕ → List ℕ
-mods p [] = []
-mods p (a ∷ f) = a % p ∷ mods p f
+mods p f = mapN (λ (a : ℕ). a % p) f
 
 abbrev pub timesp : ℕ → ℕ → ℕ → ℕ
 timesp p a b = (a * b) % p
 
 -- the inverse transform modulo one prime
 unfoldable pub backOne : Bool → List ℕ → List ℕ
-backOne s f = scale (prime s) (over512 s) (bwd (prime s) (rootOf s) 9 1 f)
+backOne s f = scale (prime s) (over512 s) (bwd (prime s) (zeta s) 9 1 f)
 
 -- the number below q with the least residue r1 modulo q1, and congruent to r2 modulo q2
 abbrev pub crtOf : ℕ → ℕ → ℕ

@@ -1,15 +1,11 @@
 -- Rounding to the moduli q_t = 125 and q_w = 31 (000, 2.2), centred values, and residues of signed numbers.
-use mathlib.Core.Bool.{Bool, true, false}
 use mathlib.Core.List.{List, [], _∷_}
 use Prim.Native.Nat.{ℕ, suc, _+_, _-_, _*_, _/_, _%_, _^_}
 use lib.Dec.{leb}
 use lib.IntN.{ℤ, pos, negsuc, negℤ}
+use Rattle.hash.specs.Lists.{pick}
 use Rattle.ring.specs.Words.{q}
-
--- f at each element
-unfoldable pub mapN : (ℕ → ℕ) → List ℕ → List ℕ
-mapN f [] = []
-mapN f (x ∷ xs) = f x ∷ mapN f xs
+use Rattle.ring.specs.Poly.{mapN}
 
 -- rounding by v bits to the modulus m: add 2^(v - 1), drop v bits, reduce by m
 unfoldable pub rounded : ℕ → ℕ → ℕ → ℕ
@@ -27,12 +23,8 @@ abbrev pub scaledT : List ℕ → List ℕ
 scaledT f = mapN (λ (x : ℕ). x * 2 ^ 42 % q) f
 
 -- the centred value for an odd modulus m, from -(m / 2) to m / 2, both ends included
-abbrev choose : Bool → ℤ → ℤ → ℤ
-choose true a b = a
-choose false a b = b
-
 unfoldable pub centred : ℕ → ℕ → ℤ
-centred m x = choose (leb x (m / 2)) (pos x) (negℤ (pos (m - x)))
+centred m x = pick (leb x (m / 2)) (pos x) (negℤ (pos (m - x)))
 
 -- the least residue of a signed number
 unfoldable pub residue : ℕ → ℤ → ℕ

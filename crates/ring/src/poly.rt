@@ -13,7 +13,8 @@ use crate::residue::mul;
 use crate::residue::narrow;
 use crate::residue::reduce;
 
-const Q: u64 = 549824583172097;
+// The modulus q (000, Tables 2 to 4).
+pub const Q: u64 = 549824583172097;
 
 // The transform.
 pub fn ntt(f: [u64; 512]) -> [u64; 512]

@@ -1,25 +1,30 @@
 // Inside the layer: polynomials modulo one prime of q (000, 2.7.2), in place. One code for both primes; `second` says which.
-// From `rests` to `combined` residues are loose (02, #109).
+// From `reduce_all` to `combined` residues are loose (02, #109).
 ghost use mathlib.Core.Path.{_≡_};
 ghost use Prim.Native.Nat.{ℕ, _+_, _*_, _-_, _%_, _<_, _≤_};
 ghost use lib.ListN.{length};
 ghost use Rattle.ring.specs.Words.{q, Below, Residues};
 ghost use Rattle.ring.specs.Poly.{map2};
-ghost use Rattle.ring.specs.Residue.{prime, rootOf, over512, powers, up, down, join, part, halves, fwd, bwd, scale, mods, backOne, crtOf, Block};
+ghost use Rattle.ring.specs.Residue.{prime, zeta, over512, powers, up, down, join, part, halves, fwd, bwd, scale, mods, backOne, crtOf, Block};
 ghost use Rattle.ring.specs.Loose.{Loose, LooseList, CooleyTukey, GentlemanSande, Stepped, forthRange, backRange};
 use crate::powers::powers;
+
+// The two primes, q = q1 q2 (000, 2.7.2).
+const Q1: u64 = 16515073;
+
+const Q2: u64 = 33292289;
 
 // The two results of a butterfly.
 struct Pair {
     sum: u64,
-    rest: u64,
+    diff: u64,
 }
 
 // The prime itself.
 fn modulus(second: bool) -> u64
     ensures { λ r. ⌜ r ≡ prime second ⌝ }
 {
-    if second { 33292289 } else { 16515073 }
+    if second { Q2 } else { Q1 }
 }
 
 // 1 / 512 modulo the prime.
@@ -33,7 +38,7 @@ fn inverse(second: bool) -> u64
 pub fn reduce(second: bool, x: u64) -> u64
     ensures { λ r. ⌜ r ≡ x % prime second ⌝ }
 {
-    if second { x % 33292289 } else { x % 16515073 }
+    if second { x % Q2 } else { x % Q1 }
 }
 
 // The least residue of what is below twice the prime: compiled to a conditional move, with no jump.
@@ -100,30 +105,30 @@ fn mul_wide(second: bool, w: u64, y: u64) -> u64
 // x + w y and x - w y, not reduced.
 fn cross(second: bool, w: u64, x: u64, y: u64) -> Pair
     requires { ⌜ (w < prime second) × (x < 32 * prime second) × (y < 32 * prime second) ⌝ }
-    ensures { λ r. ⌜ CooleyTukey (prime second) w x y (r .sum) (r .rest) ⌝ }
+    ensures { λ r. ⌜ CooleyTukey (prime second) w x y (r .sum) (r .diff) ⌝ }
 {
     let t = mul_wide(second, w, y);
     Pair {
         sum: x + t,
-        rest: x + (2 * modulus(second) - t),
+        diff: x + (2 * modulus(second) - t),
     }
 }
 
 // x + y, not reduced, and w (y - x): the way back, but for a factor 2.
 fn back(second: bool, w: u64, x: u64, y: u64) -> Pair
     requires { ⌜ (w < prime second) × (x < 16 * prime second) × (y < 16 * prime second) ⌝ }
-    ensures { λ r. ⌜ GentlemanSande (prime second) w x y (r .sum) (r .rest) ⌝ }
+    ensures { λ r. ⌜ GentlemanSande (prime second) w x y (r .sum) (r .diff) ⌝ }
 {
     Pair {
         sum: x + y,
-        rest: mul_wide(second, w, y + (16 * modulus(second) - x)),
+        diff: mul_wide(second, w, y + (16 * modulus(second) - x)),
     }
 }
 
 // The factor at node k of the tree of halves.
 fn zeta(second: bool, z: &[u64; 512], k: usize) -> u64
     requires { ⌜ (now z ≡ powers second) × (k < 512) ⌝ }
-    ensures { λ r. ⌜ r ≡ rootOf second k ⌝ }
+    ensures { λ r. ⌜ r ≡ zeta second k ⌝ }
 {
     z[k]
 }
@@ -137,7 +142,7 @@ fn split(second: bool, a: &mut [u64], h: usize, w: u64)
     while i < h {
         let r = cross(second, w, a[i], a[h + i]);
         a[i] = r.sum;
-        a[h + i] = r.rest;
+        a[h + i] = r.diff;
         i += 1;
     }
 }
@@ -151,7 +156,7 @@ fn merge(second: bool, a: &mut [u64], h: usize, w: u64)
     while i < h {
         let r = back(second, w, a[i], a[h + i]);
         a[i] = r.sum;
-        a[h + i] = r.rest;
+        a[h + i] = r.diff;
         i += 1;
     }
 }
@@ -182,39 +187,39 @@ fn level(second: bool, a: &mut [u64], h: usize, w: u64, d: usize)
 // The last two levels of the transform, a block of four at node k.
 fn last(second: bool, z: &[u64; 512], a: &mut [u64], k: usize)
     requires { ⌜ (now z ≡ powers second) × Block (forthRange 2 * prime second) 2 k (now a) ⌝ }
-    ensures { λ _. ⌜ LooseList (prime second) (forthRange 0) (fwd (prime second) (rootOf second) 2 k (mods (prime second) (now (a .entry)))) (now (a .exit)) ⌝ }
+    ensures { λ _. ⌜ LooseList (prime second) (forthRange 0) (fwd (prime second) (zeta second) 2 k (mods (prime second) (now (a .entry)))) (now (a .exit)) ⌝ }
 {
     let w = zeta(second, z, k);
     let s = cross(second, w, a[0], a[2]);
     let t = cross(second, w, a[1], a[3]);
     let u = cross(second, zeta(second, z, 2 * k), s.sum, t.sum);
-    let v = cross(second, zeta(second, z, 2 * k + 1), s.rest, t.rest);
+    let v = cross(second, zeta(second, z, 2 * k + 1), s.diff, t.diff);
     a[0] = u.sum;
-    a[1] = u.rest;
+    a[1] = u.diff;
     a[2] = v.sum;
-    a[3] = v.rest;
+    a[3] = v.diff;
 }
 
 // The first two levels of the inverse. k is the node that mirrors the block's.
 fn first(second: bool, z: &[u64; 512], a: &mut [u64], k: usize)
     requires { ⌜ (now z ≡ powers second) × Block (prime second) 2 k (now a) ⌝ }
-    ensures { λ _. ⌜ LooseList (prime second) (backRange 2) (bwd (prime second) (rootOf second) 2 k (mods (prime second) (now (a .entry)))) (now (a .exit)) ⌝ }
+    ensures { λ _. ⌜ LooseList (prime second) (backRange 2) (bwd (prime second) (zeta second) 2 k (mods (prime second) (now (a .entry)))) (now (a .exit)) ⌝ }
 {
     let s = back(second, zeta(second, z, 2 * k + 1), a[0], a[1]);
     let t = back(second, zeta(second, z, 2 * k), a[2], a[3]);
     let w = zeta(second, z, k);
     let u = back(second, w, s.sum, t.sum);
-    let v = back(second, w, s.rest, t.rest);
+    let v = back(second, w, s.diff, t.diff);
     a[0] = u.sum;
     a[1] = v.sum;
-    a[2] = u.rest;
-    a[3] = v.rest;
+    a[2] = u.diff;
+    a[3] = v.diff;
 }
 
 // The transform of a block of 2^d entries at node k.
 fn transform(second: bool, z: &[u64; 512], a: &mut [u64], k: usize, d: usize)
     requires { ⌜ (now z ≡ powers second) × (2 ≤ d) × (d ≤ 9) × Block (forthRange d * prime second) d k (now a) ⌝ }
-    ensures { λ _. ⌜ LooseList (prime second) (forthRange 0) (fwd (prime second) (rootOf second) d k (mods (prime second) (now (a .entry)))) (now (a .exit)) ⌝ }
+    ensures { λ _. ⌜ LooseList (prime second) (forthRange 0) (fwd (prime second) (zeta second) d k (mods (prime second) (now (a .entry)))) (now (a .exit)) ⌝ }
 {
     if 2 < d {
         let h = a.len() / 2;
@@ -230,7 +235,7 @@ fn transform(second: bool, z: &[u64; 512], a: &mut [u64], k: usize, d: usize)
 // The inverse of the transform of a block of 2^d entries, but for a factor 2^d. k is the node that mirrors the block's.
 fn invert(second: bool, z: &[u64; 512], a: &mut [u64], k: usize, d: usize)
     requires { ⌜ (now z ≡ powers second) × (2 ≤ d) × (d ≤ 9) × Block (prime second) d k (now a) ⌝ }
-    ensures { λ _. ⌜ LooseList (prime second) (backRange d) (bwd (prime second) (rootOf second) d k (mods (prime second) (now (a .entry)))) (now (a .exit)) ⌝ }
+    ensures { λ _. ⌜ LooseList (prime second) (backRange d) (bwd (prime second) (zeta second) d k (mods (prime second) (now (a .entry)))) (now (a .exit)) ⌝ }
 {
     if 2 < d {
         let h = a.len() / 2;
@@ -243,8 +248,8 @@ fn invert(second: bool, z: &[u64; 512], a: &mut [u64], k: usize, d: usize)
     }
 }
 
-// The rests of a.
-fn rests(second: bool, a: &mut [u64])
+// The entries of a modulo the prime.
+fn reduce_all(second: bool, a: &mut [u64])
     ensures { λ _. ⌜ now (a .exit) ≡ mods (prime second) (now (a .entry)) ⌝ }
 {
     let mut i = 0;
@@ -257,9 +262,9 @@ fn rests(second: bool, a: &mut [u64])
 // The coefficients a, transformed.
 pub fn forward(second: bool, a: &mut [u64])
     requires { ⌜ length (now a) ≡ 512 ⌝ }
-    ensures { λ _. ⌜ LooseList (prime second) 32 (fwd (prime second) (rootOf second) 9 1 (mods (prime second) (now (a .entry)))) (now (a .exit)) ⌝ }
+    ensures { λ _. ⌜ LooseList (prime second) 32 (fwd (prime second) (zeta second) 9 1 (mods (prime second) (now (a .entry)))) (now (a .exit)) ⌝ }
 {
-    rests(second, a);
+    reduce_all(second, a);
     let z = powers(second);
     transform(second, &z, a, 1, 9);
 }
@@ -269,7 +274,7 @@ pub fn backward(second: bool, a: &mut [u64])
     requires { ⌜ length (now a) ≡ 512 ⌝ }
     ensures { λ _. ⌜ LooseList (prime second) 32 (backOne second (mods (prime second) (now (a .entry)))) (now (a .exit)) ⌝ }
 {
-    rests(second, a);
+    reduce_all(second, a);
     let z = powers(second);
     invert(second, &z, a, 1, 9);
     scaled(second, a, inverse(second));
@@ -280,8 +285,8 @@ pub fn combine(r2: u64, r1: u64) -> u64
     requires { ⌜ (r2 < 32 * 33292289) × (r1 < 16515073) ⌝ }
     ensures { λ r. ⌜ (r ≡ crtOf r2 r1) × (r < q) ⌝ }
 {
-    let t = ((r2 + (33292289 - r1)) * 520194) % 33292289;
-    r1 + 16515073 * t
+    let t = ((r2 + (Q2 - r1)) * 520194) % Q2;
+    r1 + Q1 * t
 }
 
 // From residues modulo the second prime, in a, and modulo the first, in b, to the numbers below q: here they are made least.

@@ -4,11 +4,9 @@ ghost use Prim.Native.Nat.{_*_, _≤_};
 ghost use lib.ListN.{length};
 ghost use Rattle.ring.specs.Words.{Words};
 ghost use Rattle.ring.specs.Uniform.{Gathered, sampledOf, sampleQ, heldOf};
+use crate::poly::Q;
 use crate::poly::copy_into;
 use hash::num::least;
-
-// The modulus q (000, Tables 2 to 4).
-const Q: u64 = 549824583172097;
 
 // A polynomial of 512 words below q, and whether the draws filled it: where they did not, it is zero.
 pub struct Sampled {

@@ -7,11 +7,11 @@ use native.Mathlib.Omega.{arith}
 use lib.ListN.{length}
 use Rattle.ring.specs.Words.{q, addW, Below}
 use Rattle.sharing.specs.Blocks.{block, build}
-use Rattle.sharing.specs.Region.{sub, Wrote}
-use Rattle.sharing.specs.Encoding.{Generator, skip, zeroNo, addRep}
+use Rattle.sharing.specs.Region.{span, Wrote}
+use Rattle.sharing.specs.Encoding.{Generator, skip, zeroAt, addRep}
 use Rattle.sharing.specs.Noise.{noiseHeader, sampleU}
 use Rattle.sharing.proofs.Lists.{inside, block-words, build-add, blocks-all}
-use Rattle.sharing.proofs.Regions.{sub-words, wrote-value, wrote-turn, wrote-end}
+use Rattle.sharing.proofs.Regions.{span-words, wrote-value, wrote-turn, wrote-end}
 use Rattle.sharing.proofs.Totals.{skip-none}
 use Rattle.sharing.proofs.Turns.{block-rest, rep-start, rep-turn}
 
@@ -19,19 +19,19 @@ use Rattle.sharing.proofs.Turns.{block-rest, rep-start, rep-turn}
 abbrev pub added : (ℕ → List ℕ) → List ℕ → ℕ → List ℕ
 added f X j = addW (block 512 j X) (f j)
 
-module _ (f : ℕ → List ℕ) (d at j : ℕ) (s₀ s : List ℕ) (u : Wrote 0 at (j * 512) (build j (added f (sub s₀ at (d * 512)))) s₀ s) where
-  pub added-turn : (t : List ℕ) → j < d → Wrote 0 (at + j * 512) 512 (addW (sub s (at + j * 512) 512) (f j)) s t
-      → Wrote 0 at ((j + 1) * 512) (build (j + 1) (added f (sub s₀ at (d * 512)))) s₀ t
+module _ (f : ℕ → List ℕ) (d at j : ℕ) (s₀ s : List ℕ) (u : Wrote 0 at (j * 512) (build j (added f (span s₀ at (d * 512)))) s₀ s) where
+  pub added-turn : (t : List ℕ) → j < d → Wrote 0 (at + j * 512) 512 (addW (span s (at + j * 512) 512) (f j)) s t
+      → Wrote 0 at ((j + 1) * 512) (build (j + 1) (added f (span s₀ at (d * 512)))) s₀ t
   added-turn t l v =
-      let g = added f (sub s₀ at (d * 512)) in
+      let g = added f (span s₀ at (d * 512)) in
       let e = block-rest 0 512 d at j s₀ s l (build j g) (omega arith) u in
       wrote-turn 512 j g (omega arith) u (wrote-value (ap (λ (x : List ℕ). addW x (f j)) e) v)
 
   pub added-end : ((i : ℕ) → i < d → length (f i) ≡ 512) → at + d * 512 ≤ length s₀ → Below q s₀ → j ≡ d
-      → Wrote 0 at (d * 512) (addW (sub s₀ at (d * 512)) (build d f)) s₀ s
+      → Wrote 0 at (d * 512) (addW (span s₀ at (d * 512)) (build d f)) s₀ s
   added-end lf h b e =
-      let X = sub s₀ at (d * 512) in
-      let w = sub-words s₀ at (d * 512) h b in
+      let X = span s₀ at (d * 512) in
+      let w = span-words s₀ at (d * 512) h b in
       let m : build d (added f X) ≡ addW X (build d f) =
       build-add 512 d (λ (i : ℕ). block 512 i X) f (λ (i : ℕ) (l : i < d). block-words d i X w l .long) lf
       ∙ ap (λ (x : List ℕ). addW x (build d f)) (blocks-all 512 d X (w .long)) in
@@ -39,9 +39,9 @@ module _ (f : ℕ → List ℕ) (d at j : ℕ) (s₀ s : List ℕ) (u : Wrote 0 
 
 -- one repetition
 pub rep-once : (G : Generator) (d : ℕ) (g : G .State) (n at : ℕ) (f : ℕ → List ℕ) (s₀ t t′ : List ℕ) → Below q s₀
-    → Wrote n at (d * 512) (addW (sub s₀ at (d * 512)) (f 0)) s₀ t
-    → Wrote n at (d * 512) (addW (sub t at (d * 512)) (zeroNo G d 0 g)) t t′
-    → Wrote n at (d * 512) (addRep G d g 1 f (sub s₀ at (d * 512))) s₀ t′
+    → Wrote n at (d * 512) (addW (span s₀ at (d * 512)) (f 0)) s₀ t
+    → Wrote n at (d * 512) (addW (span t at (d * 512)) (zeroAt G d 0 g)) t t′
+    → Wrote n at (d * 512) (addRep G d g 1 f (span s₀ at (d * 512))) s₀ t′
 rep-once G d g n at f s₀ t t′ b v w =
     rep-turn G d g g n at 0 f s₀ s₀ t t′ (sym (skip-none G d g)) (rep-start G d g n at f s₀ b) v w
 

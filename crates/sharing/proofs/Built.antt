@@ -8,23 +8,24 @@ use lib.IntN.{ℤ}
 use lib.ListN.{length, getD, take, drop, getD-replicate}
 use lib.Seq.{drop-drop}
 use Rattle.ring.specs.Words.{addW, zipTo, Words}
-use Rattle.ring.specs.Round.{mapN, residues}
+use Rattle.ring.specs.Poly.{mapN}
+use Rattle.ring.specs.Round.{residues}
 use Rattle.ring.proofs.Mapped.{map-none, map-append, map-take, map-drop}
 use Rattle.ring.proofs.Reduced.{take-residues, drop-residues}
 use Rattle.ring.proofs.Sums.{zip-take, zip-drop}
-use Rattle.sharing.specs.Blocks.{zeros, block, build, sumOf, sumN, total, totals, each}
-use Rattle.sharing.specs.Region.{sub}
+use Rattle.hash.specs.Lists.{zeros}
+use Rattle.sharing.specs.Blocks.{block, build, sumOf, sumN, total, totals, each}
+use Rattle.sharing.specs.Region.{span}
 use Rattle.sharing.proofs.Lists.{words-build, blocks-all}
-use Rattle.sharing.proofs.Regions.{length-sub, block-sub}
+use Rattle.sharing.proofs.Regions.{length-span, block-span}
 
 -- zeros at a place
 pub zeros-at : (n i : ℕ) → i < n → getD (zeros n) i 0 ≡ 0
-unfolding zeros
 zeros-at n i h = getD-replicate {A = ℕ} n i 0 0 h
 
 -- ---- a block as a part, and blocks of blocks
 
-pub block-is : (w i : ℕ) (xs : List ℕ) → block w i xs ≡ sub xs (i * w) w
+pub block-is : (w i : ℕ) (xs : List ℕ) → block w i xs ≡ span xs (i * w) w
 unfolding block
 block-is w i xs = refl
 
@@ -33,13 +34,13 @@ pub part-block : (w i : ℕ) (xs : List ℕ) → take (i * w + w - i * w) (drop 
 part-block w i xs = let e : i * w + w - i * w ≡ w = omega arith in ap (λ (m : ℕ). take m (drop (i * w) xs)) e ∙ sym (block-is w i xs)
 
 pub length-block : (w i : ℕ) (xs : List ℕ) → i * w + w ≤ length xs → length (block w i xs) ≡ w
-length-block w i xs h = ap (λ (l : List ℕ). length l) (block-is w i xs) ∙ length-sub xs (i * w) w h
+length-block w i xs h = ap (λ (l : List ℕ). length l) (block-is w i xs) ∙ length-span xs (i * w) w h
 
 -- block j of the d that block i is; block i behind the first m
 pub block-of : (w d i j : ℕ) (xs : List ℕ) → j < d → block w j (block (d * w) i xs) ≡ block w (i * d + j) xs
 block-of w d i j xs h =
     let e : i * (d * w) + j * w ≡ (i * d + j) * w = omega arith in
-    ap (block w j) (block-is (d * w) i xs) ∙ block-sub w d j xs (i * (d * w)) h ∙ ap (λ (n : ℕ). sub xs n w) e ∙ sym (block-is w (i * d + j) xs)
+    ap (block w j) (block-is (d * w) i xs) ∙ block-span w d j xs (i * (d * w)) h ∙ ap (λ (n : ℕ). span xs n w) e ∙ sym (block-is w (i * d + j) xs)
 
 pub block-behind : (w m i : ℕ) (xs : List ℕ) → block w i (drop (m * w) xs) ≡ block w (m + i) xs
 block-behind w m i xs =

@@ -79,11 +79,6 @@ later-is (suc zero) g h = refl
 later-is (suc (suc n)) g h =
     ap (maskMoved 512) (later-is (suc n) g (omega arith)) ∙ moved-add (suc n * 512) g 512 ∙ ap (λ k. maskMoved k g) (omega arith)
 
-pub later-moved : (n k : ℕ) (g : MaskGen) → later masks n (maskMoved k g) ≡ maskMoved (k + n * 512) g
-unfolding later
-later-moved zero k g = ap (λ k. maskMoved k g) (omega arith)
-later-moved (suc n) k g = ap (maskMoved 512) (later-moved n k g) ∙ moved-add (k + n * 512) g 512 ∙ ap (λ k. maskMoved k g) (omega arith)
-
 -- the words of n polynomials
 words-later : (n : ℕ) (g : MaskGen) → maskWords 512 (later masks n g) ≡ maskWords 512 (maskMoved (n * 512) g)
 unfolding later

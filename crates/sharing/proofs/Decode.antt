@@ -7,20 +7,21 @@ use native.Mathlib.Nat.{add-zero, add-suc}
 use native.Mathlib.Omega.{arith}
 use lib.ListN.{length, getD, getD-replicate, length-replicate}
 use Rattle.ring.specs.Words.{q, addq, addW, Words, Linear}
-use Rattle.ring.proofs.Sums.{addq-rest, residues-append, length-zip, zip-at, words-add, add-assoc, add-swap, linear-zero}
-use Rattle.sharing.specs.Blocks.{zeros, block, build, sumOf, sumN, total, totals}
-use Rattle.sharing.proofs.Lists.{zeros-words, add-zeros-left, add-zeros-right, block-words, block-add, block-left, block-right, build-ext, words-build, block-build, build-add, build-zeros}
+use Rattle.ring.proofs.Sums.{addq-rest, residues-append, length-zip, zip-at, words-add, add-assoc, add-swap, words-zeros, add-zero-left, add-zero-right, linear-zero}
+use Rattle.hash.specs.Lists.{zeros}
+use Rattle.sharing.specs.Blocks.{block, build, sumOf, sumN, total, totals}
+use Rattle.sharing.proofs.Lists.{block-words, block-add, block-left, block-right, build-ext, words-build, block-build, build-add, build-zeros}
 
 -- ---- sums
 
 pub length-sum : (w n : ℕ) (f : ℕ → List ℕ) → length (sumOf w n f) ≡ w
-unfolding sumOf zeros
+unfolding sumOf
 length-sum w zero f = length-replicate {A = ℕ} w 0
 length-sum w (suc n) f = length-zip addq (sumOf w n f) (f n) ∙ length-sum w n f
 
 pub words-sum : (w n : ℕ) (f : ℕ → List ℕ) → Words w (sumOf w n f)
 unfolding sumOf
-words-sum w zero f = zeros-words w
+words-sum w zero f = words-zeros w
 words-sum w (suc n) f = words-add (sumOf w n f) (f n) (words-sum w n f)
 
 pub sum-ext : (w n : ℕ) (f g : ℕ → List ℕ) → ((i : ℕ) → i < n → f i ≡ g i) → sumOf w n f ≡ sumOf w n g
@@ -31,7 +32,7 @@ sum-ext w (suc n) f g h = cc (sum-ext w n f g (λ (i : ℕ) (l : i < n). h i (om
 pub sum-add : {w : ℕ} (n : ℕ) (f g : ℕ → List ℕ) → ((i : ℕ) → i < n → Words w (f i)) → ((i : ℕ) → i < n → Words w (g i))
     → sumOf w n (λ (i : ℕ). addW (f i) (g i)) ≡ addW (sumOf w n f) (sumOf w n g)
 unfolding sumOf
-sum-add {w} zero f g h k = sym (add-zeros-left (zeros w) (zeros-words w))
+sum-add {w} zero f g h k = sym (add-zero-left (zeros w) (words-zeros w))
 sum-add {w} (suc n) f g h k =
     let h′ : (i : ℕ) → i < n → Words w (f i) = λ (i : ℕ) (l : i < n). h i (omega arith) in
     let k′ : (i : ℕ) → i < n → Words w (g i) = λ (i : ℕ) (l : i < n). k i (omega arith) in
@@ -43,7 +44,7 @@ pub sum-split : {w : ℕ} (a b : ℕ) (f : ℕ → List ℕ) → ((i : ℕ) → 
     → sumOf w (a + b) f ≡ addW (sumOf w a f) (sumOf w b (λ (j : ℕ). f (a + j)))
 unfolding sumOf
 sum-split {w} a zero f h =
-    ap (λ (m : ℕ). sumOf w m f) (add-zero a) ∙ sym (add-zeros-right (sumOf w a f) (words-sum w a f))
+    ap (λ (m : ℕ). sumOf w m f) (add-zero a) ∙ sym (add-zero-right (sumOf w a f) (words-sum w a f))
 sum-split {w} a (suc b) f h =
     ap (λ (m : ℕ). sumOf w m f) (add-suc a b)
     ∙ ap (λ (t : List ℕ). addW t (f (a + b))) (sum-split a b f (λ (i : ℕ) (l : i < a + b). h i (omega arith)))
@@ -62,14 +63,10 @@ sum-rows w d (suc l) F h =
 
 -- ---- maps that keep sums
 
-pub linear-zeros : {w v : ℕ} {F : List ℕ → List ℕ} → Linear w v F → F (zeros w) ≡ zeros v
-unfolding zeros
-linear-zeros L = linear-zero L
-
 pub linear-sum : {w v : ℕ} {F : List ℕ → List ℕ} → Linear w v F → (n : ℕ) (f : ℕ → List ℕ) → ((i : ℕ) → i < n → Words w (f i))
     → F (sumOf w n f) ≡ sumOf v n (λ (i : ℕ). F (f i))
 unfolding sumOf
-linear-sum L zero f h = linear-zeros L
+linear-sum L zero f h = linear-zero L
 linear-sum {w} {v} {F} L (suc n) f h =
     L .adds (sumOf w n f) (f n) (words-sum w n f) (h n (omega arith))
     ∙ ap (λ (t : List ℕ). addW t (F (f n))) (linear-sum L n f (λ (i : ℕ) (l : i < n). h i (omega arith)))
@@ -81,15 +78,6 @@ linear-then {w} {v} {u} {F} {G} L M =
       words = λ (xs : List ℕ) (h : Words w xs). M .words (F xs) (L .words xs h);
       adds = λ (xs ys : List ℕ) (h : Words w xs) (k : Words w ys).
           ap G (L .adds xs ys h k) ∙ M .adds (F xs) (F ys) (L .words xs h) (L .words ys k);
-    }
-
-pub linear-add : {w v : ℕ} {F G : List ℕ → List ℕ} → Linear w v F → Linear w v G → Linear w v (λ (xs : List ℕ). addW (F xs) (G xs))
-linear-add {w} {v} {F} {G} L M =
-    record {
-      words = λ (xs : List ℕ) (h : Words w xs). words-add (F xs) (G xs) (L .words xs h);
-      adds = λ (xs ys : List ℕ) (h : Words w xs) (k : Words w ys).
-          cc (L .adds xs ys h k, M .adds xs ys h k)
-          ∙ add-swap (F xs) (F ys) (G xs) (G ys) (L .words xs h) (L .words ys k) (M .words xs h) (M .words ys k);
     }
 
 -- the sum of n, and n one behind the other
@@ -153,11 +141,6 @@ unfolding totals
 totals-words n d xs =
     words-build n (λ (i : ℕ). total d (block (d * 512) i xs)) (λ (i : ℕ) (l : i < n). total-words d (block (d * 512) i xs))
 
-pub totals-linear : (n d : ℕ) → Linear (n * (d * 512)) (n * 512) (totals n d)
-unfolding totals
-totals-linear n d =
-    linear-build n (λ (i : ℕ) (xs : List ℕ). total d (block (d * 512) i xs)) (λ (i : ℕ) (l : i < n). linear-then (block-linear n i l) (total-linear d))
-
 pub totals-build : (n d : ℕ) (f : ℕ → List ℕ) → ((i : ℕ) → i < n → length (f i) ≡ d * 512)
     → totals n d (build n f) ≡ build n (λ (i : ℕ). total d (f i))
 unfolding totals
@@ -174,7 +157,7 @@ block-totals n d i xs l =
 
 pub sum-at : (w n : ℕ) (f : ℕ → List ℕ) → ((i : ℕ) → i < n → length (f i) ≡ w) → (x : ℕ) → x < w
     → getD (sumOf w n f) x 0 ≡ sumN n (λ (j : ℕ). getD (f j) x 0) % q
-unfolding sumOf sumN zeros
+unfolding sumOf sumN
 sum-at w zero f h x l = getD-replicate {A = ℕ} w x 0 0 l
 sum-at w (suc n) f h x l =
     let r : getD (sumOf w n f) x 0 ≡ sumN n (λ (j : ℕ). getD (f j) x 0) % q =

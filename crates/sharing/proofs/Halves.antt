@@ -10,10 +10,10 @@ use lib.Seq.{length-take-le, take-at, drop-at}
 use Rattle.hash.specs.Params.{orderIndex, ShareCount}
 use Rattle.hash.proofs.Computed.{below, at}
 use Rattle.hash.proofs.Rows.{order-le, count-power, count-half}
-use Rattle.sharing.specs.Blocks.{zeros}
+use Rattle.hash.specs.Lists.{zeros}
 use Rattle.sharing.specs.Region.{put}
 use Rattle.sharing.specs.Encoding.{Generator, pairs, later, polys, zeroAfter, zeroEncoding}
-use Rattle.sharing.proofs.Regions.{put-seam, length-sub}
+use Rattle.sharing.proofs.Regions.{put-seam, length-span}
 
 -- ---- half a share count
 
@@ -58,7 +58,7 @@ module _ (d : ℕ) (hf : Half d) (s : List ℕ) (len : length s ≡ d * 512) whe
     len-right =
         let t = hf .twice in
         rw len-rest
-        (length-sub (l ++ drop (d / 2 * 512) s) (d / 2 * 512) (d / 2 * 512) (rw (length-append, length-drop) (omega arith)))
+        (length-span (l ++ drop (d / 2 * 512) s) (d / 2 * 512) (d / 2 * 512) (rw (length-append, length-drop) (omega arith)))
 
     pub joined : (r : List ℕ) → put (l ++ drop (d / 2 * 512) s) (d / 2 * 512) (length (l ++ drop (d / 2 * 512) s) - d / 2 * 512) r ≡ l ++ r
     joined r =

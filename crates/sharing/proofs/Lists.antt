@@ -8,23 +8,9 @@ use native.Mathlib.Omega.{arith}
 use lib.ListN.{length, take, drop, getD, replicate, length-append, length-drop, replicate-append-replicate}
 use lib.Seq.{take-append-le, drop-append-le, take-add, take-all, drop-at, drop-append-add, getD-take, getD-drop, length-take-le}
 use Rattle.ring.specs.Words.{q, addq, addW, Words}
-use Rattle.ring.proofs.Sums.{below-take, below-drop, residues-append, zip-drop, zip-take, zip-append, zip-none, length-zip, words-zeros, add-zero-left, add-zero-right}
-use Rattle.sharing.specs.Blocks.{zeros, block, build}
-
--- ---- zeros
-
-pub zeros-words : (n : ℕ) → Words n (zeros n)
-unfolding zeros
-zeros-words n = words-zeros n
-
-module _ {n : ℕ} where
-  pub add-zeros-left : (xs : List ℕ) → Words n xs → addW (zeros n) xs ≡ xs
-  unfolding zeros
-  add-zeros-left xs h = add-zero-left xs h
-
-  pub add-zeros-right : (xs : List ℕ) → Words n xs → addW xs (zeros n) ≡ xs
-  unfolding zeros
-  add-zeros-right xs h = add-zero-right xs h
+use Rattle.ring.proofs.Sums.{below-take, below-drop, residues-append, zip-drop, zip-take, zip-append, zip-none, length-zip}
+use Rattle.hash.specs.Lists.{zeros}
+use Rattle.sharing.specs.Blocks.{block, build}
 
 -- ---- blocks
 
@@ -134,7 +120,7 @@ add-blocks w n xs ys h =
     ∙ blocks-all w n (addW xs ys) (length-zip addq xs ys ∙ h)
 
 pub build-zeros : (w n : ℕ) → build n (λ (j : ℕ). zeros w) ≡ zeros (n * w)
-unfolding build zeros
+unfolding build
 build-zeros w zero = sym (ap (λ (k : ℕ). replicate {A = ℕ} k 0) (zero-mul w))
 build-zeros w (suc n) =
     ap (λ (t : List ℕ). t ++ replicate w 0) (build-zeros w n) ∙ replicate-append-replicate {A = ℕ} (n * w) w 0

@@ -4,7 +4,8 @@ use mathlib.Core.List.{List}
 use Prim.Native.Nat.{ℕ, _+_}
 use native.Mathlib.Numerals.{add-one}
 use Rattle.ring.specs.Words.{addW}
-use Rattle.sharing.specs.Blocks.{zeros, sumOf}
+use Rattle.hash.specs.Lists.{zeros}
+use Rattle.sharing.specs.Blocks.{sumOf}
 
 -- s is the sum so far, x what is added
 pub sum-start : (w : ℕ) (f : ℕ → List ℕ) → zeros w ≡ sumOf w 0 f

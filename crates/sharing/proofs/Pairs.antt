@@ -8,9 +8,9 @@ use lib.ListN.{length, take, drop, length-append, length-drop, take-append-drop}
 use lib.Seq.{length-take-le, drop-at}
 use Rattle.ring.specs.Words.{q, addq, subq, zipTo, addW, subW, Below, Words}
 use Rattle.ring.proofs.Sums.{addq-lt, subq-lt, below-take, below-drop, below-append, below-zip, zip-none, length-zip, zip-append}
-use Rattle.sharing.specs.Region.{sub, put}
+use Rattle.sharing.specs.Region.{span, put}
 use Rattle.sharing.specs.Encoding.{Generator, pairs, later, polys}
-use Rattle.sharing.proofs.Regions.{sub-left, sub-right, put-left, put-right, put-seam}
+use Rattle.sharing.proofs.Regions.{span-left, span-right, put-left, put-right, put-seam}
 use Rattle.sharing.proofs.Totals.{polys-words, polys-none, polys-more}
 
 -- ---- a list added or subtracted block by block
@@ -30,13 +30,13 @@ module _ (f : ℕ → ℕ → ℕ) where
 
   -- a block of k words more
   pub zip-put : (xs m y : List ℕ) (n k : ℕ) → length m ≡ n → length y ≡ k → n + k ≤ length xs
-      → put (zipTo f xs m) n k (zipTo f (sub (zipTo f xs m) n k) y) ≡ zipTo f xs (m ++ y)
+      → put (zipTo f xs m) n k (zipTo f (span (zipTo f xs m) n k) y) ≡ zipTo f xs (m ++ y)
   zip-put xs m y n k hm hy h =
       let A = zipTo f (take n xs) m in
       let W = drop n xs in
       let a : length A ≡ n = length-zip f (take n xs) m ∙ length-take-le n xs (omega arith) in
       let w : k ≤ length W = rw length-drop (omega arith) in
-      ap (λ (t : List ℕ). put t n k (zipTo f (sub t n k) y)) (zip-front xs m n hm (omega arith))
+      ap (λ (t : List ℕ). put t n k (zipTo f (span t n k) y)) (zip-front xs m n hm (omega arith))
       ∙ ap (λ (t : List ℕ). put (A ++ W) n k (zipTo f (take k t) y)) (drop-at A W n a)
       ∙ put-seam A W n k (zipTo f (take k W) y) a
       ∙ ap (λ (t : List ℕ). A ++ t) (sym (zip-front W y k hy w))
@@ -62,23 +62,23 @@ below-pairs l r m h g =
 
 -- a turn: the block at n is added on the left, then subtracted on the right
 pub pairs-left : (l r m y : List ℕ) (n k : ℕ) → length m ≡ n → length y ≡ k → n + k ≤ length l
-    → put (pairs l r m) n k (addW (sub (pairs l r m) n k) y) ≡ addW l (m ++ y) ++ subW r m
+    → put (pairs l r m) n k (addW (span (pairs l r m) n k) y) ≡ addW l (m ++ y) ++ subW r m
 unfolding pairs
 pairs-left l r m y n k hm hy h =
     let z = length-zip addq l m in
-    let e : sub (addW l m ++ subW r m) n k ≡ sub (addW l m) n k = sub-left (addW l m) (subW r m) n k (omega arith) in
+    let e : span (addW l m ++ subW r m) n k ≡ span (addW l m) n k = span-left (addW l m) (subW r m) n k (omega arith) in
     rw e
-    (put-left (addW l m) (subW r m) n k (addW (sub (addW l m) n k) y) (omega arith)
+    (put-left (addW l m) (subW r m) n k (addW (span (addW l m) n k) y) (omega arith)
     ∙ ap (λ (t : List ℕ). t ++ subW r m) (zip-put addq l m y n k hm hy h))
 
 pub pairs-right : (l r m y : List ℕ) (a n k : ℕ) → length l ≡ a → length m ≡ n → length y ≡ k → n + k ≤ length r
-    → put (addW l (m ++ y) ++ subW r m) (a + n) k (subW (sub (addW l (m ++ y) ++ subW r m) (a + n) k) y) ≡ pairs l r (m ++ y)
+    → put (addW l (m ++ y) ++ subW r m) (a + n) k (subW (span (addW l (m ++ y) ++ subW r m) (a + n) k) y) ≡ pairs l r (m ++ y)
 unfolding pairs
 pairs-right l r m y a n k hl hm hy h =
     let z : length (addW l (m ++ y)) ≡ a = length-zip addq l (m ++ y) ∙ hl in
-    let e : sub (addW l (m ++ y) ++ subW r m) (a + n) k ≡ sub (subW r m) n k = sub-right (addW l (m ++ y)) (subW r m) a n k z in
+    let e : span (addW l (m ++ y) ++ subW r m) (a + n) k ≡ span (subW r m) n k = span-right (addW l (m ++ y)) (subW r m) a n k z in
     rw e
-    (put-right (addW l (m ++ y)) (subW r m) a n k (subW (sub (subW r m) n k) y) z
+    (put-right (addW l (m ++ y)) (subW r m) a n k (subW (span (subW r m) n k) y) z
     ∙ ap (λ (t : List ℕ). addW l (m ++ y) ++ t) (zip-put subq r m y n k hm hy h))
 
 -- ---- the loop over h pairs of polynomials: s₀ is the buffer where it begins, x the generator there
@@ -117,14 +117,14 @@ module _ (G : Generator) (words : (g : G .State) → Words 512 (G .poly g)) (s�
 
   -- s at the turn, p the polynomial drawn, t and u the buffer after the sum and the difference
   module _ (j : ℕ) (lt : j < h) (s p t : List ℕ) (es : s ≡ masked G s₀ h x j) (ep : p ≡ G .poly (later G j x))
-      (et : t ≡ put s (j * 512) 512 (addW (sub s (j * 512) 512) p)) where
+      (et : t ≡ put s (j * 512) 512 (addW (span s (j * 512) 512) p)) where
     len-p : length p ≡ 512
     len-p = ap length ep ∙ words (later G j x) .long
 
     mid : t ≡ addW (take (h * 512) s₀) (polys G j x ++ p) ++ subW (drop (h * 512) s₀) (polys G j x)
     mid =
         let a = len-left in
-        et ∙ ap (λ (l : List ℕ). put l (j * 512) 512 (addW (sub l (j * 512) 512) p)) es
+        et ∙ ap (λ (l : List ℕ). put l (j * 512) 512 (addW (span l (j * 512) 512) p)) es
         ∙ pairs-left (take (h * 512) s₀) (drop (h * 512) s₀) (polys G j x) p (j * 512) 512 (polys-words G words j x .long) len-p (omega arith)
 
     pub masked-mid : Words (h * 512 + h * 512) t
@@ -140,12 +140,12 @@ module _ (G : Generator) (words : (g : G .State) → Words 512 (G .poly g)) (s�
               (below-zip q subq subq-lt (drop (h * 512) s₀) (polys G j x) low-right));
         }
 
-    pub masked-turn : (u : List ℕ) → u ≡ put t (h * 512 + j * 512) 512 (subW (sub t (h * 512 + j * 512) 512) p) → u ≡ masked G s₀ h x (j + 1)
+    pub masked-turn : (u : List ℕ) → u ≡ put t (h * 512 + j * 512) 512 (subW (span t (h * 512 + j * 512) 512) p) → u ≡ masked G s₀ h x (j + 1)
     masked-turn u eu =
         let b = len-right in
         let L = take (h * 512) s₀ in
         let R = drop (h * 512) s₀ in
-        eu ∙ ap (λ (l : List ℕ). put l (h * 512 + j * 512) 512 (subW (sub l (h * 512 + j * 512) 512) p)) mid
+        eu ∙ ap (λ (l : List ℕ). put l (h * 512 + j * 512) 512 (subW (span l (h * 512 + j * 512) 512) p)) mid
         ∙ pairs-right L R (polys G j x) p (h * 512) (j * 512) 512 len-left (polys-words G words j x .long) len-p (omega arith)
         ∙ ap (λ (m : List ℕ). pairs L R (polys G j x ++ m)) ep
         ∙ ap (pairs L R) (sym (polys-more G j x))

@@ -1,4 +1,4 @@
--- Regions of a list: what `sub` reads of a list into which `put` wrote, and the laws of `Wrote`, by which the steps on one buffer are
+-- Regions of a list: what `span` reads of a list into which `put` wrote, and the laws of `Wrote`, by which the steps on one buffer are
 -- joined. A loop over blocks has `Wrote` as its invariant, with the region growing: wrote-start, wrote-turn, wrote-end.
 use mathlib.Core.Path.{_≡_, refl, sym, ap, _∙_}
 use mathlib.Core.List.{List, [], _∷_, _++_, append-assoc}
@@ -6,47 +6,44 @@ use Prim.Native.Nat.{ℕ, zero, suc, _+_, _-_, _*_, _≤_, _<_}
 use native.Mathlib.Nat.{zero-mul}
 use native.Mathlib.Numerals.{add-one}
 use native.Mathlib.Omega.{arith}
-use lib.ListN.{length, take, drop, getD, length-append, length-drop, take-append-drop}
-use lib.Seq.{length-take-le, take-append-le, drop-append-le, take-append-add, drop-append-add, take-at, drop-at, take-take, drop-drop, take-add, getD-take, getD-drop}
+use lib.ListN.{length, take, drop, length-append, length-drop, take-append-drop}
+use lib.Seq.{length-take-le, take-append-le, drop-append-le, take-append-add, drop-append-add, take-at, drop-at, take-take, drop-drop, take-add}
 use Rattle.ring.specs.Words.{q, Below, Words}
 use Rattle.ring.proofs.Sums.{below-take, below-drop, below-append}
 use Rattle.sharing.specs.Blocks.{block, build}
-use Rattle.sharing.specs.Region.{sub, put, Wrote, Kept}
+use Rattle.sharing.specs.Region.{span, put, Wrote, Kept}
 use Rattle.sharing.proofs.Lists.{inside}
 
 -- ---- a region read, and a region written
 
-pub length-sub : (xs : List ℕ) (a k : ℕ) → a + k ≤ length xs → length (sub xs a k) ≡ k
-length-sub xs a k h = length-take-le k (drop a xs) (rw length-drop (omega arith))
+pub length-span : (xs : List ℕ) (a k : ℕ) → a + k ≤ length xs → length (span xs a k) ≡ k
+length-span xs a k h = length-take-le k (drop a xs) (rw length-drop (omega arith))
 
 pub length-put : (xs : List ℕ) (a k : ℕ) (ys : List ℕ) → a + k ≤ length xs → length ys ≡ k → length (put xs a k ys) ≡ length xs
 length-put xs a k ys h e =
     let f = length-take-le a xs (omega arith) in
     simp (length-append, length-drop, f, e) (omega arith)
 
-pub below-sub : (xs : List ℕ) (a k : ℕ) → Below q xs → Below q (sub xs a k)
-below-sub xs a k h = below-take q k (drop a xs) (below-drop q a xs h)
+pub below-span : (xs : List ℕ) (a k : ℕ) → Below q xs → Below q (span xs a k)
+below-span xs a k h = below-take q k (drop a xs) (below-drop q a xs h)
 
 pub below-put : (xs : List ℕ) (a k : ℕ) (ys : List ℕ) → Below q xs → Below q ys → Below q (put xs a k ys)
 below-put xs a k ys h g =
     below-append q (take a xs) (ys ++ drop k (drop a xs)) (below-take q a xs h)
     (below-append q ys (drop k (drop a xs)) g (below-drop q k (drop a xs) (below-drop q a xs h)))
 
-pub sub-words : (xs : List ℕ) (a k : ℕ) → a + k ≤ length xs → Below q xs → Words k (sub xs a k)
-sub-words xs a k h b = record { long = length-sub xs a k h; low = below-sub xs a k b }
-
-pub sub-at : (xs : List ℕ) (a k i : ℕ) → i < k → getD (sub xs a k) i 0 ≡ getD xs (a + i) 0
-sub-at xs a k i h = getD-take k (drop a xs) i 0 h ∙ getD-drop a xs i 0
+pub span-words : (xs : List ℕ) (a k : ℕ) → a + k ≤ length xs → Below q xs → Words k (span xs a k)
+span-words xs a k h b = record { long = length-span xs a k h; low = below-span xs a k b }
 
 -- the region that was put
-pub sub-put : (xs : List ℕ) (a k : ℕ) (ys : List ℕ) → a + k ≤ length xs → length ys ≡ k → sub (put xs a k ys) a k ≡ ys
-sub-put xs a k ys h e =
+pub span-put : (xs : List ℕ) (a k : ℕ) (ys : List ℕ) → a + k ≤ length xs → length ys ≡ k → span (put xs a k ys) a k ≡ ys
+span-put xs a k ys h e =
     ap (take k) (drop-at (take a xs) (ys ++ drop k (drop a xs)) a (length-take-le a xs (omega arith)))
     ∙ take-at ys (drop k (drop a xs)) k e
 
 -- a region before the one that was put
-pub sub-before : (xs : List ℕ) (a k : ℕ) (ys : List ℕ) (b m : ℕ) → a ≤ length xs → b + m ≤ a → sub (put xs a k ys) b m ≡ sub xs b m
-sub-before xs a k ys b m h g =
+pub span-before : (xs : List ℕ) (a k : ℕ) (ys : List ℕ) (b m : ℕ) → a ≤ length xs → b + m ≤ a → span (put xs a k ys) b m ≡ span xs b m
+span-before xs a k ys b m h g =
     let l = length-take-le a xs h in
     let e : drop b (put xs a k ys) ≡ drop b (take a xs) ++ (ys ++ drop k (drop a xs)) =
     drop-append-le b (take a xs) (ys ++ drop k (drop a xs)) (omega arith) in
@@ -66,22 +63,10 @@ drop-put xs a k ys b h e =
     ∙ ap (drop b) (drop-at (take a xs ++ ys) (drop k (drop a xs)) (a + k) l ∙ drop-drop k a xs)
     ∙ drop-drop b (a + k) xs
 
-pub sub-after : (xs : List ℕ) (a k : ℕ) (ys : List ℕ) (b m : ℕ) → a + k ≤ length xs → length ys ≡ k → a + k ≤ b → sub (put xs a k ys) b m ≡ sub xs b m
-sub-after xs a k ys b m h e g =
+pub span-after : (xs : List ℕ) (a k : ℕ) (ys : List ℕ) (b m : ℕ) → a + k ≤ length xs → length ys ≡ k → a + k ≤ b → span (put xs a k ys) b m ≡ span xs b m
+span-after xs a k ys b m h e g =
     let n : b ≡ a + k + (b - (a + k)) = omega arith in
     rw n (ap (take m) (drop-put xs a k ys (b - (a + k)) h e))
-
--- a region put twice, and one put back as it was
-pub put-put : (xs : List ℕ) (a k : ℕ) (ys zs : List ℕ) → a + k ≤ length xs → length ys ≡ k → put (put xs a k ys) a k zs ≡ put xs a k zs
-put-put xs a k ys zs h e =
-    let f = length-take-le a xs (omega arith) in
-    let t : take a (put xs a k ys) ≡ take a xs = take-at (take a xs) (ys ++ drop k (drop a xs)) a f in
-    let d : drop k (drop a (put xs a k ys)) ≡ drop k (drop a xs) =
-    ap (drop k) (drop-at (take a xs) (ys ++ drop k (drop a xs)) a f) ∙ drop-at ys (drop k (drop a xs)) k e in
-    rw (t, d)
-
-pub put-sub : (xs : List ℕ) (a k : ℕ) → put xs a k (sub xs a k) ≡ xs
-put-sub xs a k = ap (λ (l : List ℕ). take a xs ++ l) (take-append-drop k (drop a xs)) ∙ take-append-drop a xs
 
 -- what a part that was lent leaves: e - a is k, and the part's last list is known
 pub put-back : (xs : List ℕ) (a : ℕ) {n k : ℕ} {ys zs : List ℕ} → n ≡ k → ys ≡ zs → put xs a n ys ≡ put xs a k zs
@@ -98,8 +83,8 @@ put-left us vs a k ys h =
     ap (drop k) (drop-append-le a us vs (omega arith)) ∙ drop-append-le k (drop a us) vs (rw length-drop (omega arith)) in
     rw (take-append-le a us vs (omega arith), d) (simp append-assoc)
 
-pub sub-left : (us vs : List ℕ) (a k : ℕ) → a + k ≤ length us → sub (us ++ vs) a k ≡ sub us a k
-sub-left us vs a k h =
+pub span-left : (us vs : List ℕ) (a k : ℕ) → a + k ≤ length us → span (us ++ vs) a k ≡ span us a k
+span-left us vs a k h =
     ap (take k) (drop-append-le a us vs (omega arith)) ∙ take-append-le k (drop a us) vs (rw length-drop (omega arith))
 
 pub put-right : (us vs : List ℕ) (a n k : ℕ) (ys : List ℕ) → length us ≡ a → put (us ++ vs) (a + n) k ys ≡ us ++ put vs n k ys
@@ -109,29 +94,23 @@ put-right us vs a n k ys e =
     let d : drop (a + n) (us ++ vs) ≡ drop n vs = ap (λ (j : ℕ). drop (j + n) (us ++ vs)) (sym e) ∙ drop-append-add us vs n in
     rw (t, d) (append-assoc us (take n vs) (ys ++ drop k (drop n vs)))
 
-pub sub-right : (us vs : List ℕ) (a n k : ℕ) → length us ≡ a → sub (us ++ vs) (a + n) k ≡ sub vs n k
-sub-right us vs a n k e = ap (take k) (ap (λ (j : ℕ). drop (j + n) (us ++ vs)) (sym e) ∙ drop-append-add us vs n)
+pub span-right : (us vs : List ℕ) (a n k : ℕ) → length us ≡ a → span (us ++ vs) (a + n) k ≡ span vs n k
+span-right us vs a n k e = ap (take k) (ap (λ (j : ℕ). drop (j + n) (us ++ vs)) (sym e) ∙ drop-append-add us vs n)
 
 -- ---- a region of a region
 
-sub-take : (j b k : ℕ) (l : List ℕ) → b + j ≤ k → take j (drop b (take k l)) ≡ take j (drop b l)
-sub-take j zero k l h = take-take j k l (omega arith)
-sub-take j (suc b) zero l h = absurd (omega arith)
-sub-take j (suc b) (suc k) [] h = refl
-sub-take j (suc b) (suc k) (x ∷ l) h = sub-take j b k l (omega arith)
+span-take : (j b k : ℕ) (l : List ℕ) → b + j ≤ k → take j (drop b (take k l)) ≡ take j (drop b l)
+span-take j zero k l h = take-take j k l (omega arith)
+span-take j (suc b) zero l h = absurd (omega arith)
+span-take j (suc b) (suc k) [] h = refl
+span-take j (suc b) (suc k) (x ∷ l) h = span-take j b k l (omega arith)
 
-pub sub-sub : (xs : List ℕ) (a k b j : ℕ) → b + j ≤ k → sub (sub xs a k) b j ≡ sub xs (a + b) j
-sub-sub xs a k b j h = sub-take j b k (drop a xs) h ∙ ap (take j) (drop-drop b a xs)
+pub span-span : (xs : List ℕ) (a k b j : ℕ) → b + j ≤ k → span (span xs a k) b j ≡ span xs (a + b) j
+span-span xs a k b j h = span-take j b k (drop a xs) h ∙ ap (take j) (drop-drop b a xs)
 
-pub block-sub : (w n i : ℕ) (xs : List ℕ) (a : ℕ) → i < n → block w i (sub xs a (n * w)) ≡ sub xs (a + i * w) w
+pub block-span : (w n i : ℕ) (xs : List ℕ) (a : ℕ) → i < n → block w i (span xs a (n * w)) ≡ span xs (a + i * w) w
 unfolding block
-block-sub w n i xs a h = sub-sub xs a (n * w) (i * w) w (inside i n w h)
-
--- share j of sharing i of a vector
-pub block-block : (d l i j : ℕ) (xs : List ℕ) (a : ℕ) → i < l → j < d
-    → block 512 j (block (d * 512) i (sub xs a (l * (d * 512)))) ≡ sub xs (a + i * (d * 512) + j * 512) 512
-block-block d l i j xs a h g =
-    ap (block 512 j) (block-sub (d * 512) l i xs a h) ∙ block-sub 512 d j xs (a + i * (d * 512)) g
+block-span w n i xs a h = span-span xs a (n * w) (i * w) w (inside i n w h)
 
 -- ---- Wrote
 
@@ -139,9 +118,9 @@ pub wrote-put : (a m : ℕ) (X xs ys : List ℕ) → a + m ≤ length xs → len
     → Wrote 0 a m X xs ys
 wrote-put a m X xs ys h l bx bX e =
     record {
-      new = ap (λ (t : List ℕ). sub t a m) e ∙ sub-put xs a m X h l;
-      front = λ (b j : ℕ) (z : 0 ≤ b) (k : b + j ≤ a). ap (λ (t : List ℕ). sub t b j) e ∙ sub-before xs a m X b j (omega arith) k;
-      behind = λ (b j : ℕ) (z : 0 ≤ b) (k : a + m ≤ b). ap (λ (t : List ℕ). sub t b j) e ∙ sub-after xs a m X b j h l k;
+      new = ap (λ (t : List ℕ). span t a m) e ∙ span-put xs a m X h l;
+      front = λ (b j : ℕ) (z : 0 ≤ b) (k : b + j ≤ a). ap (λ (t : List ℕ). span t b j) e ∙ span-before xs a m X b j (omega arith) k;
+      behind = λ (b j : ℕ) (z : 0 ≤ b) (k : a + m ≤ b). ap (λ (t : List ℕ). span t b j) e ∙ span-after xs a m X b j h l k;
       long = ap length e ∙ length-put xs a m X h l;
       low = rw e (below-put xs a m X bx bX);
     }
@@ -164,10 +143,10 @@ wrote-wide {n} {k} {a} {m} h w =
 pub wrote-next : {n a m k : ℕ} {X Y xs ys zs : List ℕ} → n ≤ a → Wrote n a m X xs ys → Wrote n (a + m) k Y ys zs
     → Wrote n a (m + k) (X ++ Y) xs zs
 wrote-next {n} {a} {m} {k} {X} {Y} {xs} {ys} {zs} h v w =
-    let e : sub zs a (m + k) ≡ sub zs a m ++ take k (drop m (drop a zs)) = take-add m k (drop a zs) in
+    let e : span zs a (m + k) ≡ span zs a m ++ take k (drop m (drop a zs)) = take-add m k (drop a zs) in
     let f : drop m (drop a zs) ≡ drop (a + m) zs = drop-drop m a zs in
-    let g : sub zs a m ≡ sub ys a m = w .front a m h (omega arith) in
-    let p : sub ys a m ≡ X = v .new in
+    let g : span zs a m ≡ span ys a m = w .front a m h (omega arith) in
+    let p : span ys a m ≡ X = v .new in
     let r : take k (drop (a + m) zs) ≡ Y = w .new in
     record {
       new = cc (e, f, g, p, r);

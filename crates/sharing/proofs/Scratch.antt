@@ -5,7 +5,7 @@ use Prim.Native.Nat.{ℕ, zero, suc, _+_, _*_}
 use native.Mathlib.Nat.{add-zero, add-suc, zero-mul}
 use native.Mathlib.Numerals.{add-one}
 use native.Mathlib.Omega.{arith}
-use Rattle.sharing.specs.Encoding.{Generator, skip, zeroNo, lastZero}
+use Rattle.sharing.specs.Encoding.{Generator, skip, zeroAt, lastZero}
 use Rattle.sharing.proofs.Totals.{zero-later, zero-here}
 
 module _ (G : Generator) (d : ℕ) where
@@ -17,12 +17,12 @@ module _ (G : Generator) (d : ℕ) where
   pub last-start : (r : ℕ) (g : G .State) (xs : List ℕ) → xs ≡ lastZero G d g (0 * r) xs
   last-start r g xs = last-none g xs ∙ ap (λ (k : ℕ). lastZero G d g k xs) (sym (zero-mul r))
 
-  pub last-one : (g : G .State) (xs : List ℕ) → zeroNo G d 0 g ≡ lastZero G d g 1 xs
+  pub last-one : (g : G .State) (xs : List ℕ) → zeroAt G d 0 g ≡ lastZero G d g 1 xs
   unfolding lastZero
   last-one g xs = refl
 
   -- one more, behind n of them
-  pub last-next : (n : ℕ) (g x : G .State) (xs z : List ℕ) → x ≡ skip G d n g → z ≡ zeroNo G d 0 x → z ≡ lastZero G d g (n + 1) xs
+  pub last-next : (n : ℕ) (g x : G .State) (xs z : List ℕ) → x ≡ skip G d n g → z ≡ zeroAt G d 0 x → z ≡ lastZero G d g (n + 1) xs
   unfolding lastZero
   last-next n g x xs z e f = f ∙ zero-here G d n g x e ∙ ap (λ (k : ℕ). lastZero G d g k xs) (sym (add-one n))
 
@@ -32,7 +32,7 @@ module _ (G : Generator) (d : ℕ) where
   unfolding lastZero
   last-add n zero g x xs ys zs e f h = h ∙ f ∙ ap (λ (k : ℕ). lastZero G d g k xs) (sym (add-zero n))
   last-add n (suc r) g x xs ys zs e f h =
-      h ∙ ap (zeroNo G d r) e ∙ zero-later G d n r g ∙ ap (λ (k : ℕ). lastZero G d g k xs) (sym (add-suc n r))
+      h ∙ ap (zeroAt G d r) e ∙ zero-later G d n r g ∙ ap (λ (k : ℕ). lastZero G d g k xs) (sym (add-suc n r))
 
   -- a turn of a loop with r in each
   pub last-turn : (i r : ℕ) (g x : G .State) (xs ys zs : List ℕ) → x ≡ skip G d (i * r) g → ys ≡ lastZero G d g (i * r) xs

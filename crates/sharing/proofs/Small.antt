@@ -1,4 +1,4 @@
--- Samples cut from a buffer: where they lie, and the span of their u bits, u from 1 to 48 (000, Algorithm 7).
+-- Samples cut from a buffer: where they lie, and 2 ^ u for u bits, u from 1 to 48 (000, Algorithm 7).
 use mathlib.Core.Path.{_≡_, sym, ap, _∙_}
 use mathlib.Core.List.{List}
 use Prim.Native.Nat.{ℕ, suc, _+_, _-_, _*_, _/_, _%_, _^_, _≤_, _<_}
@@ -43,21 +43,21 @@ module _ (xs ys : List ℕ) (n : ℕ) (A : State) (h : n ≤ length xs) (e : ys 
       let z : n - 0 ≡ n = omega arith in
       take-at ys (postOf 0 (n - 0) xs) (n - 0) long ∙ e ∙ ap (table (stream A)) (mid-len 0 n xs h ∙ z)
 
--- ---- the span of u bits
+-- ---- 2 ^ u
 
 module _ (u : ℕ) (pos : 1 ≤ u) (low : u ≤ 48) where
   -- 1 << u, its half, and its bound
   pub shifted : (1 * 2 ^ u) % 2 ^ 64 ≡ 2 ^ u
   shifted = shl-exact 1 u 64 (lit< tt) (omega arith) ∙ one-mul (2 ^ u)
 
-  pub half-span : 2 ^ u / 2 ≡ 2 ^ (u - 1)
-  half-span =
+  pub half-power : 2 ^ u / 2 ≡ 2 ^ (u - 1)
+  half-power =
       let e : u ≡ suc (u - 1) = omega arith in
       let d : 2 ^ suc (u - 1) / 2 ≡ 2 ^ (u - 1) = omega arith in
       ap (λ k. 2 ^ k / 2) e ∙ d
 
-  pub span-le : 2 ^ u ≤ 2 ^ 48
-  span-le = pow-mono low
+  pub power-le : 2 ^ u ≤ 2 ^ 48
+  power-le = pow-mono low
 
   pub rest-lt : (x : ℕ) → x % 2 ^ u < 2 ^ u
   rest-lt x = mod-lt x (pow-pos u)

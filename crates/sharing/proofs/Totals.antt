@@ -6,16 +6,14 @@ use Prim.Native.Nat.{ℕ, zero, suc, _+_, _*_, _^_, _<_}
 use native.Mathlib.Nat.{add-zero, add-suc}
 use native.Mathlib.Numerals.{add-one}
 use native.Mathlib.Omega.{arith}
-use lib.ListN.{length}
 use Rattle.hash.specs.Params.{orderIndex}
 use Rattle.ring.specs.Words.{addW, subW, Words, Linear}
-use Rattle.ring.specs.Transform.{ntt, intt, pointwise, mul}
-use Rattle.ring.proofs.Sums.{residues-append, words-add, words-sub, add-comm, add-assoc, add-sub}
-use Rattle.ring.proofs.Theorems.{ntt-linear, intt-linear, pointwise-linear, mul-linear}
-use Rattle.sharing.specs.Blocks.{zeros, block, build, sumOf, total, totals, each}
-use Rattle.sharing.specs.Encoding.{Generator, pairs, later, polys, zeroAfter, zeroEncoding, skip, zeroNo, addRep, addNoise, zeroVector, refreshed}
-use Rattle.sharing.proofs.Lists.{zeros-words, add-zeros-left, add-zeros-right, block-words, build-ext, words-build, block-build, build-zeros}
-use Rattle.sharing.proofs.Decode.{words-sum, linear-zeros, linear-sum, linear-then, linear-build, block-linear, total-words, total-linear, total-build, total-append, totals-build}
+use Rattle.ring.proofs.Sums.{linear-zero, add-zero-right, add-zero-left, words-zeros, residues-append, words-add, words-sub, add-comm, add-assoc, add-sub}
+use Rattle.hash.specs.Lists.{zeros}
+use Rattle.sharing.specs.Blocks.{block, build, sumOf, total, totals, each}
+use Rattle.sharing.specs.Encoding.{Generator, pairs, later, polys, zeroAfter, zeroEncoding, skip, zeroAt, addRep, addNoise, zeroVector, refreshed}
+use Rattle.sharing.proofs.Lists.{block-words, build-ext, words-build, block-build}
+use Rattle.sharing.proofs.Decode.{words-sum, linear-sum, linear-then, linear-build, block-linear, total-words, total-linear, total-build, total-append, totals-build}
 
 -- ---- a map that keeps sums, at each share
 
@@ -34,28 +32,9 @@ each-total d {F} L xs h =
     total-build d (λ (j : ℕ). F (block 512 j xs)) (λ (j : ℕ) (l : j < d). L .words (block 512 j xs) (b j l) .long)
     ∙ sym (linear-sum L d (λ (j : ℕ). block 512 j xs) b)
 
--- the transform, its inverse, and a product with a
-module _ (d : ℕ) (xs : List ℕ) (h : Words (d * 512) xs) where
-  pub total-ntt : total d (each d ntt xs) ≡ ntt (total d xs)
-  total-ntt = each-total d ntt-linear xs h
-
-  pub total-intt : total d (each d intt xs) ≡ intt (total d xs)
-  total-intt = each-total d intt-linear xs h
-
-  pub total-pointwise : (a : List ℕ) → length a ≡ 512 → total d (each d (pointwise a) xs) ≡ pointwise a (total d xs)
-  total-pointwise a e = each-total d (pointwise-linear a e) xs h
-
-  pub total-mul : (a : List ℕ) → total d (each d (mul a) xs) ≡ mul a (total d xs)
-  total-mul a = each-total d (mul-linear a) xs h
-
 -- ---- the generator, polynomial by polynomial and zero encoding by zero encoding
 
 module _ (G : Generator) where
-  pub later-add : (n m : ℕ) (g : G .State) → later G m (later G n g) ≡ later G (n + m) g
-  unfolding later
-  later-add n zero g = ap (λ (k : ℕ). later G k g) (sym (add-zero n))
-  later-add n (suc m) g = ap (G .next) (later-add n m g) ∙ ap (λ (k : ℕ). later G k g) (sym (add-suc n m))
-
   pub later-none : (g : G .State) → later G 0 g ≡ g
   unfolding later
   later-none g = refl
@@ -88,16 +67,16 @@ module _ (G : Generator) where
     skip-next i g x y e f = f ∙ ap (skip G d 1) e ∙ skip-add i 1 g
 
     -- zero encodings from a later state
-    pub zero-later : (n m : ℕ) (g : G .State) → zeroNo G d m (skip G d n g) ≡ zeroNo G d (n + m) g
-    unfolding zeroNo
+    pub zero-later : (n m : ℕ) (g : G .State) → zeroAt G d m (skip G d n g) ≡ zeroAt G d (n + m) g
+    unfolding zeroAt
     zero-later n m g = ap (zeroEncoding G (orderIndex d)) (skip-add n m g)
 
-    pub zero-here : (i : ℕ) (g x : G .State) → x ≡ skip G d i g → zeroNo G d 0 x ≡ zeroNo G d i g
-    zero-here i g x e = ap (zeroNo G d 0) e ∙ zero-later i 0 g ∙ ap (λ (n : ℕ). zeroNo G d n g) (add-zero i)
+    pub zero-here : (i : ℕ) (g x : G .State) → x ≡ skip G d i g → zeroAt G d 0 x ≡ zeroAt G d i g
+    zero-here i g x e = ap (zeroAt G d 0) e ∙ zero-later i 0 g ∙ ap (λ (n : ℕ). zeroAt G d n g) (add-zero i)
 
     -- number 0 is Algorithm 12 from here
-    pub zero-first : (g : G .State) → zeroNo G d 0 g ≡ zeroEncoding G (orderIndex d) g
-    unfolding zeroNo skip
+    pub zero-first : (g : G .State) → zeroAt G d 0 g ≡ zeroEncoding G (orderIndex d) g
+    unfolding zeroAt skip
     zero-first g = refl
 
     pub skip-first : (g : G .State) → skip G d 1 g ≡ zeroAfter G (orderIndex d) g
@@ -113,7 +92,7 @@ module _ (G : Generator) (low : (g : G .State) → Words 512 (G .poly g)) where
 
   pub zero-words : (h : ℕ) (g : G .State) → Words (2 ^ h * 512) (zeroEncoding G h g)
   unfolding zeroEncoding pairs
-  zero-words zero g = zeros-words 512
+  zero-words zero g = words-zeros 512
   zero-words (suc h) g =
       let x = zeroEncoding G h g in
       let y = zeroEncoding G h (zeroAfter G h g) in
@@ -125,7 +104,7 @@ module _ (G : Generator) (low : (g : G .State) → Words 512 (G .poly g)) where
   -- x + m and y - m together are x + y
   pub zero-total : (h : ℕ) (g : G .State) → total (2 ^ h) (zeroEncoding G h g) ≡ zeros 512
   unfolding zeroEncoding pairs
-  zero-total zero g = linear-zeros (total-linear 1)
+  zero-total zero g = linear-zero (total-linear 1)
   zero-total (suc h) g =
       let x = zeroEncoding G h g in
       let y = zeroEncoding G h (zeroAfter G h g) in
@@ -142,7 +121,7 @@ module _ (G : Generator) (low : (g : G .State) → Words 512 (G .poly g)) where
       total-append (2 ^ h) (2 ^ h) (addW x m) (subW y m) wl wr in
       let e2 : total (2 ^ h) (addW x m) ≡ addW (total (2 ^ h) x) (total (2 ^ h) m) = total-linear (2 ^ h) .adds x m wx wm in
       let e3 : total (2 ^ h) x ≡ zeros 512 = zero-total h g in
-      let e4 : addW (zeros 512) (total (2 ^ h) m) ≡ total (2 ^ h) m = add-zeros-left (total (2 ^ h) m) tm in
+      let e4 : addW (zeros 512) (total (2 ^ h) m) ≡ total (2 ^ h) m = add-zero-left (total (2 ^ h) m) tm in
       let e5 : addW (total (2 ^ h) m) (total (2 ^ h) (subW y m)) ≡ addW (total (2 ^ h) (subW y m)) (total (2 ^ h) m) =
       add-comm (total (2 ^ h) m) (total (2 ^ h) (subW y m)) tm tr in
       let e6 : total (2 ^ h) (addW (subW y m) m) ≡ addW (total (2 ^ h) (subW y m)) (total (2 ^ h) m) =
@@ -152,23 +131,23 @@ module _ (G : Generator) (low : (g : G .State) → Words 512 (G .poly g)) where
       ap (λ (n : ℕ). total n (addW x m ++ subW y m)) p ∙ cc
 
   module _ (d : ℕ) (power : d ≡ 2 ^ orderIndex d) where
-    pub zeroNo-words : (n : ℕ) (g : G .State) → Words (d * 512) (zeroNo G d n g)
-    unfolding zeroNo
-    zeroNo-words n g =
+    pub zeroAt-words : (n : ℕ) (g : G .State) → Words (d * 512) (zeroAt G d n g)
+    unfolding zeroAt
+    zeroAt-words n g =
         subst (λ (m : ℕ). Words (m * 512) (zeroEncoding G (orderIndex d) (skip G d n g))) (sym power)
         (zero-words (orderIndex d) (skip G d n g))
 
-    pub zeroNo-total : (n : ℕ) (g : G .State) → total d (zeroNo G d n g) ≡ zeros 512
-    unfolding zeroNo
-    zeroNo-total n g =
+    pub zeroAt-total : (n : ℕ) (g : G .State) → total d (zeroAt G d n g) ≡ zeros 512
+    unfolding zeroAt
+    zeroAt-total n g =
         ap (λ (m : ℕ). total m (zeroEncoding G (orderIndex d) (skip G d n g))) power ∙ zero-total (orderIndex d) (skip G d n g)
 
     -- refreshing keeps the sum
-    pub refresh-total : (n : ℕ) (g : G .State) (xs : List ℕ) → Words (d * 512) xs → total d (addW xs (zeroNo G d n g)) ≡ total d xs
+    pub refresh-total : (n : ℕ) (g : G .State) (xs : List ℕ) → Words (d * 512) xs → total d (addW xs (zeroAt G d n g)) ≡ total d xs
     refresh-total n g xs h =
-        total-linear d .adds xs (zeroNo G d n g) h (zeroNo-words n g)
-        ∙ ap (λ (t : List ℕ). addW (total d xs) t) (zeroNo-total n g)
-        ∙ add-zeros-right (total d xs) (total-words d xs)
+        total-linear d .adds xs (zeroAt G d n g) h (zeroAt-words n g)
+        ∙ ap (λ (t : List ℕ). addW (total d xs) t) (zeroAt-total n g)
+        ∙ add-zero-right (total d xs) (total-words d xs)
 
     -- ---- repeated noise
 
@@ -176,13 +155,13 @@ module _ (G : Generator) (low : (g : G .State) → Words 512 (G .poly g)) where
     unfolding addRep
     rep-words g zero f xs h = h
     rep-words g (suc t) f xs h =
-        words-add (addW (addRep G d g t f xs) (f t)) (zeroNo G d t g) (words-add (addRep G d g t f xs) (f t) (rep-words g t f xs h))
+        words-add (addW (addRep G d g t f xs) (f t)) (zeroAt G d t g) (words-add (addRep G d g t f xs) (f t) (rep-words g t f xs h))
 
     -- AddRepNoise adds the total
     pub rep-total : (g : G .State) (r : ℕ) (f : ℕ → List ℕ) (xs : List ℕ) → Words (d * 512) xs → ((t : ℕ) → t < r → Words (d * 512) (f t))
         → total d (addRep G d g r f xs) ≡ addW (total d xs) (sumOf 512 r (λ (t : ℕ). total d (f t)))
     unfolding addRep sumOf
-    rep-total g zero f xs h k = sym (add-zeros-right (total d xs) (total-words d xs))
+    rep-total g zero f xs h k = sym (add-zero-right (total d xs) (total-words d xs))
     rep-total g (suc t) f xs h k =
         let x = addRep G d g t f xs in
         let s = sumOf 512 t (λ (t : ℕ). total d (f t)) in
@@ -199,19 +178,19 @@ module _ (G : Generator) (low : (g : G .State) → Words 512 (G .poly g)) where
       part : (i : ℕ) → i < m → Words (d * 512) (block (d * 512) i xs)
       part i l = block-words m i xs wx l
 
-      renewed : (i : ℕ) → i < m → Words (d * 512) (addW (block (d * 512) i xs) (zeroNo G d i g))
-      renewed i l = words-add (block (d * 512) i xs) (zeroNo G d i g) (part i l)
+      renewed : (i : ℕ) → i < m → Words (d * 512) (addW (block (d * 512) i xs) (zeroAt G d i g))
+      renewed i l = words-add (block (d * 512) i xs) (zeroAt G d i g) (part i l)
 
       pub refreshed-words : Words (m * (d * 512)) (refreshed G d g m xs)
       unfolding refreshed
-      refreshed-words = words-build m (λ (i : ℕ). addW (block (d * 512) i xs) (zeroNo G d i g)) renewed
+      refreshed-words = words-build m (λ (i : ℕ). addW (block (d * 512) i xs) (zeroAt G d i g)) renewed
 
       -- refreshing keeps the sums
       pub refreshed-totals : totals m d (refreshed G d g m xs) ≡ totals m d xs
       unfolding refreshed totals
       refreshed-totals =
-          totals-build m d (λ (i : ℕ). addW (block (d * 512) i xs) (zeroNo G d i g)) (λ (i : ℕ) (l : i < m). renewed i l .long)
-          ∙ build-ext m (λ (i : ℕ). total d (addW (block (d * 512) i xs) (zeroNo G d i g))) (λ (i : ℕ). total d (block (d * 512) i xs))
+          totals-build m d (λ (i : ℕ). addW (block (d * 512) i xs) (zeroAt G d i g)) (λ (i : ℕ) (l : i < m). renewed i l .long)
+          ∙ build-ext m (λ (i : ℕ). total d (addW (block (d * 512) i xs) (zeroAt G d i g))) (λ (i : ℕ). total d (block (d * 512) i xs))
           (λ (i : ℕ) (l : i < m). refresh-total i g (block (d * 512) i xs) (part i l))
 
       module _ (r : ℕ) (f : ℕ → ℕ → List ℕ) where
@@ -237,15 +216,8 @@ module _ (G : Generator) (low : (g : G .State) → Words 512 (G .poly g)) where
     module _ (g : G .State) (m : ℕ) where
       pub zeroVector-words : Words (m * (d * 512)) (zeroVector G d g m)
       unfolding zeroVector
-      zeroVector-words = words-build m (λ (i : ℕ). zeroNo G d i g) (λ (i : ℕ) (l : i < m). zeroNo-words i g)
+      zeroVector-words = words-build m (λ (i : ℕ). zeroAt G d i g) (λ (i : ℕ) (l : i < m). zeroAt-words i g)
 
-      pub zeroVector-block : (i : ℕ) → i < m → block (d * 512) i (zeroVector G d g m) ≡ zeroNo G d i g
+      pub zeroVector-block : (i : ℕ) → i < m → block (d * 512) i (zeroVector G d g m) ≡ zeroAt G d i g
       unfolding zeroVector
-      zeroVector-block i l = block-build (d * 512) m i (λ (i : ℕ). zeroNo G d i g) (λ (j : ℕ) (h : j < m). zeroNo-words j g .long) l
-
-      pub zeroVector-totals : totals m d (zeroVector G d g m) ≡ zeros (m * 512)
-      unfolding zeroVector
-      zeroVector-totals =
-          totals-build m d (λ (i : ℕ). zeroNo G d i g) (λ (i : ℕ) (l : i < m). zeroNo-words i g .long)
-          ∙ build-ext m (λ (i : ℕ). total d (zeroNo G d i g)) (λ (i : ℕ). zeros 512) (λ (i : ℕ) (l : i < m). zeroNo-total i g)
-          ∙ build-zeros 512 m
+      zeroVector-block i l = block-build (d * 512) m i (λ (i : ℕ). zeroAt G d i g) (λ (j : ℕ) (h : j < m). zeroAt-words j g .long) l

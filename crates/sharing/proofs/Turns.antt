@@ -9,100 +9,100 @@ use lib.ListN.{length}
 use Rattle.ring.specs.Words.{q, addW, Below, Words}
 use Rattle.ring.proofs.Sums.{words-add}
 use Rattle.sharing.specs.Blocks.{block, build, total, totals}
-use Rattle.sharing.specs.Region.{sub, put, Wrote}
-use Rattle.sharing.specs.Encoding.{Generator, skip, zeroNo, addRep, addNoise, zeroVector, refreshed}
+use Rattle.sharing.specs.Region.{span, put, Wrote}
+use Rattle.sharing.specs.Encoding.{Generator, skip, zeroAt, addRep, addNoise, zeroVector, refreshed}
 use Rattle.sharing.proofs.Lists.{inside, add-blocks}
 use Rattle.sharing.proofs.Totals.{skip-add, zero-here}
-use Rattle.sharing.proofs.Regions.{sub-words, block-sub, wrote-put, wrote-value, wrote-wide, wrote-over, wrote-scratch, wrote-turn, wrote-end}
+use Rattle.sharing.proofs.Regions.{span-words, block-span, wrote-put, wrote-value, wrote-wide, wrote-over, wrote-scratch, wrote-turn, wrote-end}
 
 -- block i of the region is still the old one, in a loop that has reached it, and in one that writes behind it
 module _ (n w m at i : ℕ) (s₀ s : List ℕ) (l : i < m) where
-  pub block-rest : (X : List ℕ) → n ≤ at → Wrote n at (i * w) X s₀ s → sub s (at + i * w) w ≡ block w i (sub s₀ at (m * w))
-  block-rest X h u = u .behind (at + i * w) w (omega arith) (omega arith) ∙ sym (block-sub w m i s₀ at l)
+  pub block-rest : (X : List ℕ) → n ≤ at → Wrote n at (i * w) X s₀ s → span s (at + i * w) w ≡ block w i (span s₀ at (m * w))
+  block-rest X h u = u .behind (at + i * w) w (omega arith) (omega arith) ∙ sym (block-span w m i s₀ at l)
 
-  pub source : (to k : ℕ) (X : List ℕ) → n ≤ at → at + m * w ≤ to → Wrote n to k X s₀ s → sub s (at + i * w) w ≡ block w i (sub s₀ at (m * w))
+  pub source : (to k : ℕ) (X : List ℕ) → n ≤ at → at + m * w ≤ to → Wrote n to k X s₀ s → span s (at + i * w) w ≡ block w i (span s₀ at (m * w))
   source to k X h g u =
       let o : i * w + w ≤ m * w = inside i m w l in
-      u .front (at + i * w) w (omega arith) (omega arith) ∙ sym (block-sub w m i s₀ at l)
+      u .front (at + i * w) w (omega arith) (omega arith) ∙ sym (block-span w m i s₀ at l)
 
 -- ---- F at each block in place
 
 pub map-turn : (F : List ℕ → List ℕ) (n w m at i : ℕ) (s₀ s t : List ℕ) → n ≤ at → i < m
-    → Wrote n at (i * w) (build i (λ (j : ℕ). F (block w j (sub s₀ at (m * w))))) s₀ s
-    → Wrote n (at + i * w) w (F (sub s (at + i * w) w)) s t
-    → Wrote n at ((i + 1) * w) (build (i + 1) (λ (j : ℕ). F (block w j (sub s₀ at (m * w))))) s₀ t
+    → Wrote n at (i * w) (build i (λ (j : ℕ). F (block w j (span s₀ at (m * w))))) s₀ s
+    → Wrote n (at + i * w) w (F (span s (at + i * w) w)) s t
+    → Wrote n at ((i + 1) * w) (build (i + 1) (λ (j : ℕ). F (block w j (span s₀ at (m * w))))) s₀ t
 map-turn F n w m at i s₀ s t h l u v =
-    let f : ℕ → List ℕ = λ (j : ℕ). F (block w j (sub s₀ at (m * w))) in
+    let f : ℕ → List ℕ = λ (j : ℕ). F (block w j (span s₀ at (m * w))) in
     wrote-turn w i f h u (wrote-value (ap F (block-rest n w m at i s₀ s l (build i f) h u)) v)
 
 -- ---- the sums of m sharings at `at`, written behind them
 
 pub decode-turn : (n d m at to i : ℕ) (s₀ s t : List ℕ) → n ≤ at → at + m * (d * 512) ≤ to → i < m
-    → Wrote n to (i * 512) (build i (λ (j : ℕ). total d (block (d * 512) j (sub s₀ at (m * (d * 512)))))) s₀ s
-    → Wrote n (to + i * 512) 512 (total d (sub s (at + i * (d * 512)) (d * 512))) s t
-    → Wrote n to ((i + 1) * 512) (build (i + 1) (λ (j : ℕ). total d (block (d * 512) j (sub s₀ at (m * (d * 512)))))) s₀ t
+    → Wrote n to (i * 512) (build i (λ (j : ℕ). total d (block (d * 512) j (span s₀ at (m * (d * 512)))))) s₀ s
+    → Wrote n (to + i * 512) 512 (total d (span s (at + i * (d * 512)) (d * 512))) s t
+    → Wrote n to ((i + 1) * 512) (build (i + 1) (λ (j : ℕ). total d (block (d * 512) j (span s₀ at (m * (d * 512)))))) s₀ t
 decode-turn n d m at to i s₀ s t h g l u v =
-    let f : ℕ → List ℕ = λ (j : ℕ). total d (block (d * 512) j (sub s₀ at (m * (d * 512)))) in
+    let f : ℕ → List ℕ = λ (j : ℕ). total d (block (d * 512) j (span s₀ at (m * (d * 512)))) in
     wrote-turn 512 i f (omega arith) u
     (wrote-value (ap (total d) (source n (d * 512) m at i s₀ s l to (i * 512) (build i f) h g u)) v)
 
 pub decode-end : (n d m at to i : ℕ) (s₀ s : List ℕ) → i ≡ m
-    → Wrote n to (i * 512) (build i (λ (j : ℕ). total d (block (d * 512) j (sub s₀ at (m * (d * 512)))))) s₀ s
-    → Wrote n to (m * 512) (totals m d (sub s₀ at (m * (d * 512)))) s₀ s
+    → Wrote n to (i * 512) (build i (λ (j : ℕ). total d (block (d * 512) j (span s₀ at (m * (d * 512)))))) s₀ s
+    → Wrote n to (m * 512) (totals m d (span s₀ at (m * (d * 512)))) s₀ s
 unfolding totals
-decode-end n d m at to i s₀ s e u = wrote-end 512 (λ (j : ℕ). total d (block (d * 512) j (sub s₀ at (m * (d * 512))))) e u
+decode-end n d m at to i s₀ s e u = wrote-end 512 (λ (j : ℕ). total d (block (d * 512) j (span s₀ at (m * (d * 512))))) e u
 
 -- ---- the sharing in the scratch added to the one at `at`, share by share
 
 abbrev pub scratched : ℕ → ℕ → List ℕ → ℕ → List ℕ
-scratched d at s₀ j = addW (block 512 j (sub s₀ at (d * 512))) (block 512 j (sub s₀ 0 (d * 512)))
+scratched d at s₀ j = addW (block 512 j (span s₀ at (d * 512))) (block 512 j (span s₀ 0 (d * 512)))
 
 module _ (d at : ℕ) (s₀ : List ℕ) (h : d * 512 ≤ at) (g : at + d * 512 ≤ length s₀) where
   pub scratch-turn : (j : ℕ) (s t p : List ℕ) → j < d → Wrote 0 at (j * 512) (build j (scratched d at s₀)) s₀ s
-      → p ≡ sub s (j * 512) 512 → t ≡ put s (at + j * 512) 512 (addW (sub s (at + j * 512) 512) p)
+      → p ≡ span s (j * 512) 512 → t ≡ put s (at + j * 512) 512 (addW (span s (at + j * 512) 512) p)
       → Wrote 0 at ((j + 1) * 512) (build (j + 1) (scratched d at s₀)) s₀ t
   scratch-turn j s t p l u e v =
       let n : length s ≡ length s₀ = u .long in
-      let a : sub s (at + j * 512) 512 ≡ block 512 j (sub s₀ at (d * 512)) =
+      let a : span s (at + j * 512) 512 ≡ block 512 j (span s₀ at (d * 512)) =
       block-rest 0 512 d at j s₀ s l (build j (scratched d at s₀)) (omega arith) u in
-      let b : sub s (0 + j * 512) 512 ≡ block 512 j (sub s₀ 0 (d * 512)) =
+      let b : span s (0 + j * 512) 512 ≡ block 512 j (span s₀ 0 (d * 512)) =
       source 0 512 d 0 j s₀ s l at (j * 512) (build j (scratched d at s₀)) (omega arith) (omega arith) u in
       let z : 0 + j * 512 ≡ j * 512 = omega arith in
-      let x : addW (sub s (at + j * 512) 512) p ≡ scratched d at s₀ j = cc (a, b, z, e) in
-      let w : Words 512 (addW (sub s (at + j * 512) 512) p) =
-      words-add (sub s (at + j * 512) 512) p (sub-words s (at + j * 512) 512 (omega arith) (u .low)) in
+      let x : addW (span s (at + j * 512) 512) p ≡ scratched d at s₀ j = cc (a, b, z, e) in
+      let w : Words 512 (addW (span s (at + j * 512) 512) p) =
+      words-add (span s (at + j * 512) 512) p (span-words s (at + j * 512) 512 (omega arith) (u .low)) in
       wrote-turn 512 j (scratched d at s₀) (omega arith) u
-      (wrote-value x (wrote-put (at + j * 512) 512 (addW (sub s (at + j * 512) 512) p) s t (omega arith) (w .long) (u .low) (w .low) v))
+      (wrote-value x (wrote-put (at + j * 512) 512 (addW (span s (at + j * 512) 512) p) s t (omega arith) (w .long) (u .low) (w .low) v))
 
   pub scratch-end : (j : ℕ) (s : List ℕ) → j ≡ d → Below q s₀ → Wrote 0 at (j * 512) (build j (scratched d at s₀)) s₀ s
-      → Wrote 0 at (d * 512) (addW (sub s₀ at (d * 512)) (sub s₀ 0 (d * 512))) s₀ s
+      → Wrote 0 at (d * 512) (addW (span s₀ at (d * 512)) (span s₀ 0 (d * 512))) s₀ s
   scratch-end j s e b u =
-      wrote-value (add-blocks 512 d (sub s₀ at (d * 512)) (sub s₀ 0 (d * 512)) (sub-words s₀ at (d * 512) g b .long))
+      wrote-value (add-blocks 512 d (span s₀ at (d * 512)) (span s₀ 0 (d * 512)) (span-words s₀ at (d * 512) g b .long))
       (wrote-end 512 (scratched d at s₀) e u)
 
 -- a refresh: the zero encoding Z into the scratch, then added
 pub refresh-made : (d at : ℕ) (Z s₀ s₁ s₂ : List ℕ) → d * 512 ≤ at → Wrote 0 0 (d * 512) Z s₀ s₁
-    → Wrote 0 at (d * 512) (addW (sub s₁ at (d * 512)) (sub s₁ 0 (d * 512))) s₁ s₂
-    → Wrote (d * 512) at (d * 512) (addW (sub s₀ at (d * 512)) Z) s₀ s₂
+    → Wrote 0 at (d * 512) (addW (span s₁ at (d * 512)) (span s₁ 0 (d * 512))) s₁ s₂
+    → Wrote (d * 512) at (d * 512) (addW (span s₀ at (d * 512)) Z) s₀ s₂
 refresh-made d at Z s₀ s₁ s₂ h v w =
-    let a : sub s₁ at (d * 512) ≡ sub s₀ at (d * 512) = v .behind at (d * 512) (omega arith) (omega arith) in
-    let b : sub s₁ 0 (d * 512) ≡ Z = v .new in
-    let e : addW (sub s₁ at (d * 512)) (sub s₁ 0 (d * 512)) ≡ addW (sub s₀ at (d * 512)) Z = cc (a, b) in
+    let a : span s₁ at (d * 512) ≡ span s₀ at (d * 512) = v .behind at (d * 512) (omega arith) (omega arith) in
+    let b : span s₁ 0 (d * 512) ≡ Z = v .new in
+    let e : addW (span s₁ at (d * 512)) (span s₁ 0 (d * 512)) ≡ addW (span s₀ at (d * 512)) Z = cc (a, b) in
     wrote-scratch (omega arith) (omega arith) v (wrote-wide (omega arith) (wrote-value e w))
 
 -- .. which stays in the scratch
 pub refresh-kept : (d at : ℕ) (Z Y s₀ s₁ s₂ : List ℕ) → d * 512 ≤ at → Wrote 0 0 (d * 512) Z s₀ s₁ → Wrote 0 at (d * 512) Y s₁ s₂
-    → sub s₂ 0 (d * 512) ≡ Z
+    → span s₂ 0 (d * 512) ≡ Z
 refresh-kept d at Z Y s₀ s₁ s₂ h v w = w .front 0 (d * 512) (omega arith) (omega arith) ∙ v .new
 
 -- ---- steps with zero encodings: g is the generator where the loop begins, x before the turn
 
 module _ (G : Generator) (d : ℕ) where
   abbrev pub encoded : G .State → ℕ → List ℕ
-  encoded g i = zeroNo G d i g
+  encoded g i = zeroAt G d i g
 
   abbrev pub renewed : G .State → List ℕ → ℕ → List ℕ
-  renewed g X i = addW (block (d * 512) i X) (zeroNo G d i g)
+  renewed g X i = addW (block (d * 512) i X) (zeroAt G d i g)
 
   abbrev pub noised : G .State → ℕ → (ℕ → ℕ → List ℕ) → List ℕ → ℕ → List ℕ
   noised g r f X i = addRep G d (skip G d (i * r) g) r (f i) (block (d * 512) i X)
@@ -114,22 +114,22 @@ module _ (G : Generator) (d : ℕ) where
 
   -- the repetitions at one sharing
   pub rep-start : (g : G .State) (n at : ℕ) (f : ℕ → List ℕ) (s₀ : List ℕ) → Below q s₀
-      → Wrote n at (d * 512) (addRep G d g 0 f (sub s₀ at (d * 512))) s₀ s₀
+      → Wrote n at (d * 512) (addRep G d g 0 f (span s₀ at (d * 512))) s₀ s₀
   unfolding addRep
   rep-start g n at f s₀ h = record { new = refl; front = λ b j l m. refl; behind = λ b j l m. refl; long = refl; low = h }
 
   pub rep-turn : (g x : G .State) (n at i : ℕ) (f : ℕ → List ℕ) (s₀ s t t′ : List ℕ) → x ≡ skip G d i g
-      → Wrote n at (d * 512) (addRep G d g i f (sub s₀ at (d * 512))) s₀ s
-      → Wrote n at (d * 512) (addW (sub s at (d * 512)) (f i)) s t
-      → Wrote n at (d * 512) (addW (sub t at (d * 512)) (zeroNo G d 0 x)) t t′
-      → Wrote n at (d * 512) (addRep G d g (i + 1) f (sub s₀ at (d * 512))) s₀ t′
+      → Wrote n at (d * 512) (addRep G d g i f (span s₀ at (d * 512))) s₀ s
+      → Wrote n at (d * 512) (addW (span s at (d * 512)) (f i)) s t
+      → Wrote n at (d * 512) (addW (span t at (d * 512)) (zeroAt G d 0 x)) t t′
+      → Wrote n at (d * 512) (addRep G d g (i + 1) f (span s₀ at (d * 512))) s₀ t′
   unfolding addRep
   rep-turn g x n at i f s₀ s t t′ e u v w =
-      let X = sub s₀ at (d * 512) in
-      let a : sub t at (d * 512) ≡ addW (sub s at (d * 512)) (f i) = v .new in
-      let b : sub s at (d * 512) ≡ addRep G d g i f X = u .new in
-      let z : zeroNo G d 0 x ≡ zeroNo G d i g = zero-here G d i g x e in
-      let r : addRep G d g (i + 1) f X ≡ addW (addW (addRep G d g i f X) (f i)) (zeroNo G d i g) =
+      let X = span s₀ at (d * 512) in
+      let a : span t at (d * 512) ≡ addW (span s at (d * 512)) (f i) = v .new in
+      let b : span s at (d * 512) ≡ addRep G d g i f X = u .new in
+      let z : zeroAt G d 0 x ≡ zeroAt G d i g = zero-here G d i g x e in
+      let r : addRep G d g (i + 1) f X ≡ addW (addW (addRep G d g i f X) (f i)) (zeroAt G d i g) =
       ap (λ (k : ℕ). addRep G d g k f X) (add-one i) in
       wrote-over u (wrote-over v (wrote-value (cc (a, b, z, r)) w))
 
@@ -142,27 +142,27 @@ module _ (G : Generator) (d : ℕ) where
   -- over m sharings
   module _ (n m at i : ℕ) (g x : G .State) (s₀ s : List ℕ) (h : n ≤ at) where
     pub encode-turn : (t : List ℕ) → x ≡ skip G d i g → Wrote n at (i * (d * 512)) (build i (encoded g)) s₀ s
-        → Wrote n (at + i * (d * 512)) (d * 512) (zeroNo G d 0 x) s t
+        → Wrote n (at + i * (d * 512)) (d * 512) (zeroAt G d 0 x) s t
         → Wrote n at ((i + 1) * (d * 512)) (build (i + 1) (encoded g)) s₀ t
     encode-turn t e u v = wrote-turn (d * 512) i (encoded g) h u (wrote-value (zero-here G d i g x e) v)
 
     pub refresh-turn : (t : List ℕ) → i < m → x ≡ skip G d i g
-        → Wrote n at (i * (d * 512)) (build i (renewed g (sub s₀ at (m * (d * 512))))) s₀ s
-        → Wrote n (at + i * (d * 512)) (d * 512) (addW (sub s (at + i * (d * 512)) (d * 512)) (zeroNo G d 0 x)) s t
-        → Wrote n at ((i + 1) * (d * 512)) (build (i + 1) (renewed g (sub s₀ at (m * (d * 512))))) s₀ t
+        → Wrote n at (i * (d * 512)) (build i (renewed g (span s₀ at (m * (d * 512))))) s₀ s
+        → Wrote n (at + i * (d * 512)) (d * 512) (addW (span s (at + i * (d * 512)) (d * 512)) (zeroAt G d 0 x)) s t
+        → Wrote n at ((i + 1) * (d * 512)) (build (i + 1) (renewed g (span s₀ at (m * (d * 512))))) s₀ t
     refresh-turn t l e u v =
-        let X = sub s₀ at (m * (d * 512)) in
-        let a : zeroNo G d 0 x ≡ zeroNo G d i g = zero-here G d i g x e in
-        let b : sub s (at + i * (d * 512)) (d * 512) ≡ block (d * 512) i X = block-rest n (d * 512) m at i s₀ s l (build i (renewed g X)) h u in
+        let X = span s₀ at (m * (d * 512)) in
+        let a : zeroAt G d 0 x ≡ zeroAt G d i g = zero-here G d i g x e in
+        let b : span s (at + i * (d * 512)) (d * 512) ≡ block (d * 512) i X = block-rest n (d * 512) m at i s₀ s l (build i (renewed g X)) h u in
         wrote-turn (d * 512) i (renewed g X) h u (wrote-value (cc (a, b)) v)
 
     pub noise-turn : (r : ℕ) (f : ℕ → ℕ → List ℕ) (t : List ℕ) → i < m → x ≡ skip G d (i * r) g
-        → Wrote n at (i * (d * 512)) (build i (noised g r f (sub s₀ at (m * (d * 512))))) s₀ s
-        → Wrote n (at + i * (d * 512)) (d * 512) (addRep G d x r (f i) (sub s (at + i * (d * 512)) (d * 512))) s t
-        → Wrote n at ((i + 1) * (d * 512)) (build (i + 1) (noised g r f (sub s₀ at (m * (d * 512))))) s₀ t
+        → Wrote n at (i * (d * 512)) (build i (noised g r f (span s₀ at (m * (d * 512))))) s₀ s
+        → Wrote n (at + i * (d * 512)) (d * 512) (addRep G d x r (f i) (span s (at + i * (d * 512)) (d * 512))) s t
+        → Wrote n at ((i + 1) * (d * 512)) (build (i + 1) (noised g r f (span s₀ at (m * (d * 512))))) s₀ t
     noise-turn r f t l e u v =
-        let X = sub s₀ at (m * (d * 512)) in
-        let b : sub s (at + i * (d * 512)) (d * 512) ≡ block (d * 512) i X = block-rest n (d * 512) m at i s₀ s l (build i (noised g r f X)) h u in
+        let X = span s₀ at (m * (d * 512)) in
+        let b : span s (at + i * (d * 512)) (d * 512) ≡ block (d * 512) i X = block-rest n (d * 512) m at i s₀ s l (build i (noised g r f X)) h u in
         wrote-turn (d * 512) i (noised g r f X) h u (wrote-value (cc (e, b)) v)
 
     -- the loop is over
@@ -171,12 +171,12 @@ module _ (G : Generator) (d : ℕ) where
       unfolding zeroVector
       encode-end u = wrote-end (d * 512) (encoded g) e u
 
-      pub refresh-end : Wrote n at (i * (d * 512)) (build i (renewed g (sub s₀ at (m * (d * 512))))) s₀ s
-          → Wrote n at (m * (d * 512)) (refreshed G d g m (sub s₀ at (m * (d * 512)))) s₀ s
+      pub refresh-end : Wrote n at (i * (d * 512)) (build i (renewed g (span s₀ at (m * (d * 512))))) s₀ s
+          → Wrote n at (m * (d * 512)) (refreshed G d g m (span s₀ at (m * (d * 512)))) s₀ s
       unfolding refreshed
-      refresh-end u = wrote-end (d * 512) (renewed g (sub s₀ at (m * (d * 512)))) e u
+      refresh-end u = wrote-end (d * 512) (renewed g (span s₀ at (m * (d * 512)))) e u
 
-      pub noise-end : (r : ℕ) (f : ℕ → ℕ → List ℕ) → Wrote n at (i * (d * 512)) (build i (noised g r f (sub s₀ at (m * (d * 512))))) s₀ s
-          → Wrote n at (m * (d * 512)) (addNoise G d g m r f (sub s₀ at (m * (d * 512)))) s₀ s
+      pub noise-end : (r : ℕ) (f : ℕ → ℕ → List ℕ) → Wrote n at (i * (d * 512)) (build i (noised g r f (span s₀ at (m * (d * 512))))) s₀ s
+          → Wrote n at (m * (d * 512)) (addNoise G d g m r f (span s₀ at (m * (d * 512)))) s₀ s
       unfolding addNoise
-      noise-end r f u = wrote-end (d * 512) (noised g r f (sub s₀ at (m * (d * 512)))) e u
+      noise-end r f u = wrote-end (d * 512) (noised g r f (span s₀ at (m * (d * 512)))) e u

@@ -2,11 +2,9 @@
 -- its sharings, one behind the other. So every value is one flat list, as the code's buffers are.
 use mathlib.Core.List.{List, [], _++_}
 use Prim.Native.Nat.{ℕ, zero, suc, _+_, _*_}
-use lib.ListN.{take, drop, replicate}
+use lib.ListN.{take, drop}
+use Rattle.hash.specs.Lists.{zeros}
 use Rattle.ring.specs.Words.{addW}
-
-unfoldable pub zeros : ℕ → List ℕ
-zeros n = replicate n 0
 
 -- block i of xs, in blocks of w
 unfoldable pub block : ℕ → ℕ → List ℕ → List ℕ

@@ -3,7 +3,8 @@ use mathlib.Core.List.{List, _++_}
 use Prim.Native.Nat.{ℕ, zero, suc, _*_, _^_}
 use Rattle.hash.specs.Params.{orderIndex}
 use Rattle.ring.specs.Words.{addW, subW}
-use Rattle.sharing.specs.Blocks.{zeros, block, build}
+use Rattle.hash.specs.Lists.{zeros}
+use Rattle.sharing.specs.Blocks.{block, build}
 
 -- a generator: the next polynomial of 512 masking words, and the state behind it (01: masking generator)
 pub record Generator : Type 1 where
@@ -39,18 +40,18 @@ module _ (G : Generator) where
   skip d zero g = g
   skip d (suc n) g = zeroAfter (orderIndex d) (skip d n g)
 
-  unfoldable pub zeroNo : ℕ → ℕ → G .State → List ℕ
-  zeroNo d n g = zeroEncoding (orderIndex d) (skip d n g)
+  unfoldable pub zeroAt : ℕ → ℕ → G .State → List ℕ
+  zeroAt d n g = zeroEncoding (orderIndex d) (skip d n g)
 
   -- what the scratch holds behind n zero encodings, xs before them: the last one, or xs where there is none
   unfoldable pub lastZero : ℕ → G .State → ℕ → List ℕ → List ℕ
   lastZero d g zero xs = xs
-  lastZero d g (suc n) xs = zeroNo d n g
+  lastZero d g (suc n) xs = zeroAt d n g
 
   -- Algorithm 8 at one polynomial, r repetitions: f t is the noise of repetition t for all shares; a refresh after each
   unfoldable pub addRep : ℕ → G .State → ℕ → (ℕ → List ℕ) → List ℕ → List ℕ
   addRep d g zero f xs = xs
-  addRep d g (suc t) f xs = addW (addW (addRep d g t f xs) (f t)) (zeroNo d t g)
+  addRep d g (suc t) f xs = addW (addW (addRep d g t f xs) (f t)) (zeroAt d t g)
 
   -- and at m polynomials
   unfoldable pub addNoise : ℕ → G .State → ℕ → ℕ → (ℕ → ℕ → List ℕ) → List ℕ → List ℕ
@@ -58,7 +59,7 @@ module _ (G : Generator) where
 
   -- m zero encodings; m sharings refreshed (Algorithm 11)
   unfoldable pub zeroVector : ℕ → G .State → ℕ → List ℕ
-  zeroVector d g m = build m (λ (i : ℕ). zeroNo d i g)
+  zeroVector d g m = build m (λ (i : ℕ). zeroAt d i g)
 
   unfoldable pub refreshed : ℕ → G .State → ℕ → List ℕ → List ℕ
-  refreshed d g m xs = build m (λ (i : ℕ). addW (block (d * 512) i xs) (zeroNo d i g))
+  refreshed d g m xs = build m (λ (i : ℕ). addW (block (d * 512) i xs) (zeroAt d i g))

@@ -6,20 +6,20 @@ use lib.ListN.{length, take, drop}
 use Rattle.ring.specs.Words.{q, Below}
 
 -- the k words from a on; xs with those k replaced by ys, as a part lent as `&mut s[a..a + k]` comes back
-abbrev pub sub : List ℕ → ℕ → ℕ → List ℕ
-sub xs a k = take k (drop a xs)
+abbrev pub span : List ℕ → ℕ → ℕ → List ℕ
+span xs a k = take k (drop a xs)
 
 abbrev pub put : List ℕ → ℕ → ℕ → List ℕ → List ℕ
 put xs a k ys = take a xs ++ (ys ++ drop k (drop a xs))
 
 -- ys is xs with X in the m words from a on; of the first n words, which are scratch, nothing is said
 pub record Wrote (n a m : ℕ) (X xs ys : List ℕ) : Type 0 where
-  pub new : sub ys a m ≡ X
-  pub front : (b j : ℕ) → n ≤ b → b + j ≤ a → sub ys b j ≡ sub xs b j
-  pub behind : (b j : ℕ) → n ≤ b → a + m ≤ b → sub ys b j ≡ sub xs b j
+  pub new : span ys a m ≡ X
+  pub front : (b j : ℕ) → n ≤ b → b + j ≤ a → span ys b j ≡ span xs b j
+  pub behind : (b j : ℕ) → n ≤ b → a + m ≤ b → span ys b j ≡ span xs b j
   pub long : length ys ≡ length xs
   pub low : Below q ys
 
 -- what lies between n and m is in ys as in xs
 pub record Kept (n m : ℕ) (xs ys : List ℕ) : Type 0 where
-  pub same : (b j : ℕ) → n ≤ b → b + j ≤ m → sub ys b j ≡ sub xs b j
+  pub same : (b j : ℕ) → n ≤ b → b + j ≤ m → span ys b j ≡ span xs b j

@@ -4,6 +4,7 @@ ghost use Prim.Native.Nat.{_+_, _*_};
 ghost use lib.ListN.{getD, length};
 ghost use Rattle.hash.specs.Keccak.{lanes};
 ghost use Rattle.sharing.specs.Masks.{heldAt, maskWord, maskWords, maskMoved, maskStart, drawn};
+use ring::poly::Q;
 
 // A state of SHAKE256, its lanes in the order of FIPS 202, 3.1.2, and the place of the next word in its block, taken modulo 17.
 pub struct MaskGen {
@@ -98,7 +99,7 @@ fn step(g: MaskGen) -> Drawn
     let l = g.lanes;
     let place = g.at;
     let at = place % 17;
-    let word = l[at] % 549824583172097;
+    let word = l[at] % Q;
     if at == 16 {
         return Drawn {
             word: word,

@@ -5,6 +5,7 @@ ghost use lib.ListN.{length};
 ghost use Rattle.hash.specs.Lists.{table};
 ghost use Rattle.ring.specs.Words.{Words};
 ghost use Rattle.sharing.specs.Noise.{width, signedLow, sampleAt, sampleU};
+use ring::poly::Q;
 
 // The low u bits of x as a signed number, modulo q.
 fn signed_low(x: u64, u: usize) -> u64
@@ -13,11 +14,7 @@ fn signed_low(x: u64, u: usize) -> u64
 {
     let m: u64 = 1 << u;
     let y = x % m;
-    if y < m / 2 {
-        y
-    } else {
-        549824583172097 - (m - y)
-    }
+    if y < m / 2 { y } else { Q - (m - y) }
 }
 
 // 512 samples of w bytes.

@@ -3,8 +3,8 @@ ghost use mathlib.Core.Path.{_≡_};
 ghost use Prim.Native.Nat.{_+_, _≤_};
 ghost use lib.ListN.{length};
 ghost use Rattle.ring.specs.Words.{q, addW, subW, Below, Words};
-ghost use Rattle.sharing.specs.Blocks.{zeros};
-ghost use Rattle.sharing.specs.Region.{sub, put, Wrote};
+ghost use Rattle.hash.specs.Lists.{zeros};
+ghost use Rattle.sharing.specs.Region.{span, put, Wrote};
 use ring::poly::add_into;
 use ring::poly::copy_into;
 use ring::poly::sub_into;
@@ -12,7 +12,7 @@ use ring::poly::sub_into;
 // The polynomial at `at`.
 pub fn load(s: &[u64], at: usize) -> [u64; 512]
     requires { ⌜ (at + 512 ≤ length (now s)) × Below q (now s) ⌝ }
-    ensures { λ r. ⌜ (r ≡ sub (now (s .entry)) at 512) × Words 512 r ⌝ }
+    ensures { λ r. ⌜ (r ≡ span (now (s .entry)) at 512) × Words 512 r ⌝ }
 {
     let e = at + 512;
     let mut p = [0u64; 512];
@@ -41,7 +41,7 @@ pub fn clear(s: &mut [u64])
 // p added to the polynomial at `at`.
 pub fn add_at(s: &mut [u64], at: usize, p: &[u64; 512])
     requires { ⌜ (at + 512 ≤ length (now s)) × Below q (now s) × Below q (now p) ⌝ }
-    ensures { λ _. ⌜ now (s .exit) ≡ put (now (s .entry)) at 512 (addW (sub (now (s .entry)) at 512) (now (p .entry))) ⌝ }
+    ensures { λ _. ⌜ now (s .exit) ≡ put (now (s .entry)) at 512 (addW (span (now (s .entry)) at 512) (now (p .entry))) ⌝ }
 {
     let e = at + 512;
     add_into(&mut s[at..e], p);
@@ -50,7 +50,7 @@ pub fn add_at(s: &mut [u64], at: usize, p: &[u64; 512])
 // p subtracted from it.
 pub fn sub_at(s: &mut [u64], at: usize, p: &[u64; 512])
     requires { ⌜ (at + 512 ≤ length (now s)) × Below q (now s) × Below q (now p) ⌝ }
-    ensures { λ _. ⌜ now (s .exit) ≡ put (now (s .entry)) at 512 (subW (sub (now (s .entry)) at 512) (now (p .entry))) ⌝ }
+    ensures { λ _. ⌜ now (s .exit) ≡ put (now (s .entry)) at 512 (subW (span (now (s .entry)) at 512) (now (p .entry))) ⌝ }
 {
     let e = at + 512;
     sub_into(&mut s[at..e], p);

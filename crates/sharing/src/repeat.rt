@@ -6,7 +6,7 @@ ghost use lib.ListN.{length};
 ghost use Rattle.hash.specs.Params.{ShareCount};
 ghost use Rattle.ring.specs.Words.{q, addW, Below};
 ghost use Rattle.sharing.specs.Blocks.{block};
-ghost use Rattle.sharing.specs.Region.{sub, Wrote};
+ghost use Rattle.sharing.specs.Region.{span, Wrote};
 ghost use Rattle.sharing.specs.Encoding.{skip, lastZero, addRep, addNoise};
 ghost use Rattle.sharing.specs.Masks.{masks};
 ghost use Rattle.sharing.specs.Noise.{noiseHeader, sampleU, seedNoise, explicitNoise};
@@ -30,7 +30,7 @@ fn add_sample_at(
 )
     requires { ⌜ (at + 512 ≤ length (now s)) × Below q (now s) × ((i * p .rep + p .rep) * p .shares * (p .kappa / 8) ≤ length (now seeds)) ⌝ }
     requires { ⌜ (t < p .rep) × (j < p .shares) × (p .rep < 256) × (i < 256) × (p .shares < 256) × (1 ≤ u) × (u ≤ 48) ⌝ }
-    ensures { λ _. ⌜ Wrote 0 at 512 (addW (sub (now (s .entry)) at 512) (sampleU (noiseHeader t i j) (block (p .kappa / 8) ((i * p .rep + t) * p .shares + j) (now (seeds .entry))) u)) (now (s .entry)) (now (s .exit)) ⌝ }
+    ensures { λ _. ⌜ Wrote 0 at 512 (addW (span (now (s .entry)) at 512) (sampleU (noiseHeader t i j) (block (p .kappa / 8) ((i * p .rep + t) * p .shares + j) (now (seeds .entry))) u)) (now (s .entry)) (now (s .exit)) ⌝ }
 {
     let d = p.shares;
     let rep = p.rep;
@@ -47,7 +47,7 @@ fn add_sample_at(
 fn add_samples_at(s: &mut [u64], at: usize, p: Params, u: usize, i: usize, t: usize, seeds: &[u8])
     requires { ⌜ (at + p .shares * 512 ≤ length (now s)) × Below q (now s) × ((i * p .rep + p .rep) * p .shares * (p .kappa / 8) ≤ length (now seeds)) ⌝ }
     requires { ⌜ (t < p .rep) × (p .rep < 256) × (i < 256) × (p .shares < 256) × (1 ≤ u) × (u ≤ 48) ⌝ }
-    ensures { λ _. ⌜ Wrote 0 at (p .shares * 512) (addW (sub (now (s .entry)) at (p .shares * 512)) (seedNoise (p .shares) (p .rep) u (p .kappa / 8) (now (seeds .entry)) i t)) (now (s .entry)) (now (s .exit)) ⌝ }
+    ensures { λ _. ⌜ Wrote 0 at (p .shares * 512) (addW (span (now (s .entry)) at (p .shares * 512)) (seedNoise (p .shares) (p .rep) u (p .kappa / 8) (now (seeds .entry)) i t)) (now (s .entry)) (now (s .exit)) ⌝ }
 {
     let d = p.shares;
     for j in 0..d {
@@ -67,7 +67,7 @@ pub fn add_rep_noise_at(
 ) -> MaskGen
     requires { ⌜ ShareCount (p .shares) × (p .shares * 512 ≤ at) × (at + p .shares * 512 ≤ length (now s)) × Below q (now s) ⌝ }
     requires { ⌜ ((i * p .rep + p .rep) * p .shares * (p .kappa / 8) ≤ length (now seeds)) × (p .rep < 256) × (i < 256) × (1 ≤ u) × (u ≤ 48) ⌝ }
-    ensures { λ r. ⌜ Wrote (p .shares * 512) at (p .shares * 512) (addRep masks (p .shares) g (p .rep) (seedNoise (p .shares) (p .rep) u (p .kappa / 8) (now (seeds .entry)) i) (sub (now (s .entry)) at (p .shares * 512))) (now (s .entry)) (now (s .exit)) × (r ≡ skip masks (p .shares) (p .rep) g) × (sub (now (s .exit)) 0 (p .shares * 512) ≡ lastZero masks (p .shares) g (p .rep) (sub (now (s .entry)) 0 (p .shares * 512))) ⌝ }
+    ensures { λ r. ⌜ Wrote (p .shares * 512) at (p .shares * 512) (addRep masks (p .shares) g (p .rep) (seedNoise (p .shares) (p .rep) u (p .kappa / 8) (now (seeds .entry)) i) (span (now (s .entry)) at (p .shares * 512))) (now (s .entry)) (now (s .exit)) × (r ≡ skip masks (p .shares) (p .rep) g) × (span (now (s .exit)) 0 (p .shares * 512) ≡ lastZero masks (p .shares) g (p .rep) (span (now (s .entry)) 0 (p .shares * 512))) ⌝ }
 {
     let r = p.rep;
     let mut x = g;
@@ -89,7 +89,7 @@ pub fn add_explicit_noise_at(
 ) -> MaskGen
     requires { ⌜ ShareCount (p .shares) × (p .shares * 512 ≤ at) × (at + p .shares * 512 ≤ length (now s)) × Below q (now s) ⌝ }
     requires { ⌜ (i * (p .shares * 512) + p .shares * 512 ≤ length (now words)) × Below q (now words) ⌝ }
-    ensures { λ r. ⌜ Wrote (p .shares * 512) at (p .shares * 512) (addRep masks (p .shares) g 1 (explicitNoise (p .shares) (now (words .entry)) i) (sub (now (s .entry)) at (p .shares * 512))) (now (s .entry)) (now (s .exit)) × (r ≡ skip masks (p .shares) 1 g) × (sub (now (s .exit)) 0 (p .shares * 512) ≡ lastZero masks (p .shares) g 1 (sub (now (s .entry)) 0 (p .shares * 512))) ⌝ }
+    ensures { λ r. ⌜ Wrote (p .shares * 512) at (p .shares * 512) (addRep masks (p .shares) g 1 (explicitNoise (p .shares) (now (words .entry)) i) (span (now (s .entry)) at (p .shares * 512))) (now (s .entry)) (now (s .exit)) × (r ≡ skip masks (p .shares) 1 g) × (span (now (s .exit)) 0 (p .shares * 512) ≡ lastZero masks (p .shares) g 1 (span (now (s .entry)) 0 (p .shares * 512))) ⌝ }
 {
     let d = p.shares;
     let from = i * (d * 512);
@@ -109,7 +109,7 @@ pub fn noise_vector(
 ) -> MaskGen
     requires { ⌜ ShareCount (p .shares) × (p .shares * 512 ≤ at) × (at + m * (p .shares * 512) ≤ length (now s)) × Below q (now s) ⌝ }
     requires { ⌜ (m * p .rep * p .shares * (p .kappa / 8) ≤ length (now seeds)) × (p .rep < 256) × (m ≤ 256) × (1 ≤ u) × (u ≤ 48) ⌝ }
-    ensures { λ r. ⌜ Wrote (p .shares * 512) at (m * (p .shares * 512)) (addNoise masks (p .shares) g m (p .rep) (seedNoise (p .shares) (p .rep) u (p .kappa / 8) (now (seeds .entry))) (sub (now (s .entry)) at (m * (p .shares * 512)))) (now (s .entry)) (now (s .exit)) × (r ≡ skip masks (p .shares) (m * p .rep) g) × (sub (now (s .exit)) 0 (p .shares * 512) ≡ lastZero masks (p .shares) g (m * p .rep) (sub (now (s .entry)) 0 (p .shares * 512))) ⌝ }
+    ensures { λ r. ⌜ Wrote (p .shares * 512) at (m * (p .shares * 512)) (addNoise masks (p .shares) g m (p .rep) (seedNoise (p .shares) (p .rep) u (p .kappa / 8) (now (seeds .entry))) (span (now (s .entry)) at (m * (p .shares * 512)))) (now (s .entry)) (now (s .exit)) × (r ≡ skip masks (p .shares) (m * p .rep) g) × (span (now (s .exit)) 0 (p .shares * 512) ≡ lastZero masks (p .shares) g (m * p .rep) (span (now (s .entry)) 0 (p .shares * 512))) ⌝ }
 {
     let d = p.shares;
     let mut x = g;
@@ -131,7 +131,7 @@ pub fn explicit_vector(
 ) -> MaskGen
     requires { ⌜ ShareCount (p .shares) × (p .shares * 512 ≤ at) × (at + m * (p .shares * 512) ≤ length (now s)) × Below q (now s) ⌝ }
     requires { ⌜ (m * (p .shares * 512) ≤ length (now words)) × Below q (now words) ⌝ }
-    ensures { λ r. ⌜ Wrote (p .shares * 512) at (m * (p .shares * 512)) (addNoise masks (p .shares) g m 1 (explicitNoise (p .shares) (now (words .entry))) (sub (now (s .entry)) at (m * (p .shares * 512)))) (now (s .entry)) (now (s .exit)) × (r ≡ skip masks (p .shares) m g) × (sub (now (s .exit)) 0 (p .shares * 512) ≡ lastZero masks (p .shares) g m (sub (now (s .entry)) 0 (p .shares * 512))) ⌝ }
+    ensures { λ r. ⌜ Wrote (p .shares * 512) at (m * (p .shares * 512)) (addNoise masks (p .shares) g m 1 (explicitNoise (p .shares) (now (words .entry))) (span (now (s .entry)) at (m * (p .shares * 512)))) (now (s .entry)) (now (s .exit)) × (r ≡ skip masks (p .shares) m g) × (span (now (s .exit)) 0 (p .shares * 512) ≡ lastZero masks (p .shares) g m (span (now (s .entry)) 0 (p .shares * 512))) ⌝ }
 {
     let d = p.shares;
     let mut x = g;

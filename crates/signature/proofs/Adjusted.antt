@@ -18,8 +18,8 @@ use Rattle.sharing.specs.Blocks.{block, build, sumOf}
 use Rattle.sharing.proofs.Lists.{inside, build-ext, length-build, block-build, blocks-all}
 use Rattle.sharing.proofs.Built.{length-block, block-map, block-zip, block-residues, build-next}
 use Rattle.sharing.proofs.Decode.{words-sum}
-use Rattle.sharing.specs.Region.{sub, put}
-use Rattle.sharing.proofs.Regions.{length-sub}
+use Rattle.sharing.specs.Region.{span, put}
+use Rattle.sharing.proofs.Regions.{length-span}
 use Rattle.signature.specs.Masked.{transformed}
 use Rattle.signature.specs.Matrix.{matrix, rowEntry}
 use Rattle.signature.specs.Recover.{add31, productRow, recoveredRow, recovered, adjusted, recoveredBy, blockZ, adjustedRows}
@@ -29,11 +29,11 @@ use Rattle.signature.proofs.Recovered.{recovered-row}
 abbrev pub adjustedAt : ℕ → List ℕ → List ℕ → List ℕ → List ℕ → List ℤ → ℕ → List ℕ
 adjustedAt l seed Z C t h i = adjusted (recoveredBy l (rowEntry seed i) Z C (block 512 i t)) (blockZ i h)
 
-pub sub-residues : (p : ℕ) (xs : List ℕ) (a k : ℕ) → a + k ≤ length xs → Below p xs → Residues p k (sub xs a k)
-sub-residues p xs a k h b = record { long = length-sub xs a k h; low = below-take p k (drop a xs) (below-drop p a xs b) }
+pub span-residues : (p : ℕ) (xs : List ℕ) (a k : ℕ) → a + k ≤ length xs → Below p xs → Residues p k (span xs a k)
+span-residues p xs a k h b = record { long = length-span xs a k h; low = below-take p k (drop a xs) (below-drop p a xs b) }
 
-pub length-subZ : (xs : List ℤ) (a k : ℕ) → a + k ≤ length xs → length (take k (drop a xs)) ≡ k
-length-subZ xs a k h = length-take-le k (drop a xs) (rw length-drop (omega arith))
+pub length-spanZ : (xs : List ℤ) (a k : ℕ) → a + k ≤ length xs → length (take k (drop a xs)) ≡ k
+length-spanZ xs a k h = length-take-le k (drop a xs) (rw length-drop (omega arith))
 
 -- the numbers of a part are as small as those of the whole
 pub part-small : (m a n : ℕ) (h : List ℤ) → a + n ≤ length h → ((i : ℕ) → i < length h → natAbs (getD h i (pos 0)) < m)

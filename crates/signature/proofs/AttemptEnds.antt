@@ -13,7 +13,7 @@ use Rattle.hash.specs.declared.params.Params.{Params}
 use Rattle.hash.proofs.Table.{length-table}
 use Rattle.ring.specs.Words.{Below}
 use Rattle.ring.specs.Uniform.{heldOf}
-use Rattle.sharing.specs.Region.{sub, Kept}
+use Rattle.sharing.specs.Region.{span, Kept}
 use Rattle.sharing.specs.declared.masks.MaskGen.{MaskGen}
 use Rattle.signature.specs.Answers.{FinishedAs}
 use Rattle.signature.specs.Attempt.{atR, Begun, Committed, Answered, commitmentOf}
@@ -41,8 +41,8 @@ seed-front p vk = let e : p .kappa / 8 - 0 ≡ p .kappa / 8 = omega arith in ap 
 -- lines 4 to 16, with each matrix: S is the seed, x the generator behind line 7
 pub answered-all : (p : Params) (vk mu : List ℕ) (N : Noise) (g x : MaskGen) (S s₀ s₁ hash ys : List ℕ) (o : Challenged) → S ≡ vkSeed p vk
     → ((A : List ℕ) → matrix p S ≡ some A → Committed p N g A x s₀ s₁)
-    → ((M : Noise) (h : MaskGen) (A s : List ℕ) → Committed p M h A x s s₁ → Answered p M h A mu (sub s (atS (p .shares)) (p .l * (p .shares * 512))) o hash ys)
-    → (A : List ℕ) → matrix p (vkSeed p vk) ≡ some A → Answered p N g A mu (sub s₀ (atS (p .shares)) (p .l * (p .shares * 512))) o hash ys
+    → ((M : Noise) (h : MaskGen) (A s : List ℕ) → Committed p M h A x s s₁ → Answered p M h A mu (span s (atS (p .shares)) (p .l * (p .shares * 512))) o hash ys)
+    → (A : List ℕ) → matrix p (vkSeed p vk) ≡ some A → Answered p N g A mu (span s₀ (atS (p .shares)) (p .l * (p .shares * 512))) o hash ys
 answered-all p vk mu N g x S s₀ s₁ hash ys o e z v A h = v N g A s₀ (z A (ap (matrix p) e ∙ h))
 
 -- ---- lines 17 to 20, by their answer
@@ -72,7 +72,7 @@ module _ (p : Params) (vk mu : List ℕ) (N : Noise) (g : MaskGen) (s hash ys : 
   unfolding chalHash
   hash-long = ap (λ (l : List ℕ). length l) (u entries there .hash-is) ∙ length-table (stream (absorbed _)) (p .kappa / 4)
 
-  pub commitment-low : Below 31 (sub ys (atT (p .l) (p .shares)) (p .k * 512))
+  pub commitment-low : Below 31 (span ys (atT (p .l) (p .shares)) (p .k * 512))
   commitment-low =
       let w = commitmentOf p N g entries in
       subst (Below 31) (sym (u entries there .commitment)) (rounded-residues 44 31 (length w) (lit< tt) w refl .low)
@@ -86,12 +86,12 @@ module _ (p : Params) (vk mu : List ℕ) (N : Noise) (g : MaskGen) (s hash ys : 
   -- H is the challenge hash as lines 17 to 20 read it, r their answer, xs and zs the signature's buffer before and after
   module _ (ok : o .ok ≡ true) (H : List ℕ) (same : H ≡ hash) (r : Bool) (xs zs : List ℕ)
       (f : (A m : List ℕ) → matrix p (vkSeed p vk) ≡ some A
-      → FinishedAs (finished p (signedFields p (publicBy p vk m A) (sub ys (atT (p .l) (p .shares)) (p .k * 512)) H (sub ys (atX (p .k) (p .l) (p .shares)) (p .l * 512)) (o .poly))) r xs zs) where
+      → FinishedAs (finished p (signedFields p (publicBy p vk m A) (span ys (atT (p .l) (p .shares)) (p .k * 512)) H (span ys (atX (p .k) (p .l) (p .shares)) (p .l * 512)) (o .poly))) r xs zs) where
     finished-at : (A : List ℕ) → matrix p (vkSeed p vk) ≡ some A → FinishedAs (attempted p (publicBy p vk mu A) N g s) r xs zs
     finished-at A e =
         subst (λ (X : Attempted). FinishedAs X r xs zs) (sym (left-on p (publicBy p vk mu A) N g s hash ys o (u A e) ok))
         (subst
-        (λ (x : List ℕ). FinishedAs (finished p (signedFields p (publicBy p vk mu A) (sub ys (atT (p .l) (p .shares)) (p .k * 512)) x (sub ys (atX (p .k) (p .l) (p .shares)) (p .l * 512)) (o .poly))) r xs zs)
+        (λ (x : List ℕ). FinishedAs (finished p (signedFields p (publicBy p vk mu A) (span ys (atT (p .l) (p .shares)) (p .k * 512)) x (span ys (atX (p .k) (p .l) (p .shares)) (p .l * 512)) (o .poly))) r xs zs)
         same (f A mu e))
 
     pub ended-made : r ≡ true → (A : List ℕ) → matrix p (vkSeed p vk) ≡ some A → attempted p (publicBy p vk mu A) N g s ≡ made zs

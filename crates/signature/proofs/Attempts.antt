@@ -14,7 +14,7 @@ use Rattle.hash.specs.declared.params.Params.{Params}
 use Rattle.ring.specs.Words.{q}
 use Rattle.ring.specs.Round.{roundW, residues}
 use Rattle.sharing.specs.Blocks.{totals}
-use Rattle.sharing.specs.Region.{sub, Wrote}
+use Rattle.sharing.specs.Region.{span, Wrote}
 use Rattle.sharing.specs.Encoding.{skip, refreshed}
 use Rattle.sharing.specs.Masks.{masks}
 use Rattle.sharing.specs.declared.masks.MaskGen.{MaskGen}
@@ -34,25 +34,25 @@ use Rattle.signature.proofs.Masking.{masked-words}
 
 module _ (p : Params) (N : Noise) (g x : MaskGen) (A c s₀ s₁ s₂ s₃ : List ℕ) (power : p .shares ≡ 2 ^ orderIndex (p .shares))
     (u : Committed p N g A x s₀ s₁)
-    (hs : sub s₂ (atS (p .shares)) (p .l * (p .shares * 512)) ≡ sub s₁ (atS (p .shares)) (p .l * (p .shares * 512)))
-    (hr : sub s₂ (atR (p .l) (p .shares)) (p .l * (p .shares * 512)) ≡ sub s₁ (atR (p .l) (p .shares)) (p .l * (p .shares * 512)))
+    (hs : span s₂ (atS (p .shares)) (p .l * (p .shares * 512)) ≡ span s₁ (atS (p .shares)) (p .l * (p .shares * 512)))
+    (hr : span s₂ (atR (p .l) (p .shares)) (p .l * (p .shares * 512)) ≡ span s₁ (atR (p .l) (p .shares)) (p .l * (p .shares * 512)))
     (v : Responded (p .k) (p .l) (p .shares) c x s₂ s₃) where
   skip-behind : (n : ℕ) → skip masks (p .shares) n x ≡ skip masks (p .shares) (behindProduct p N + n) g
   skip-behind n = ap (skip masks (p .shares) n) (u .next) ∙ skip-add masks (p .shares) (behindProduct p N) n g
 
   -- line 12, the key of the next attempt
-  pub key-left : sub s₃ (atS (p .shares)) (p .l * (p .shares * 512)) ≡ refreshedKey p N g (sub s₀ (atS (p .shares)) (p .l * (p .shares * 512)))
+  pub key-left : span s₃ (atS (p .shares)) (p .l * (p .shares * 512)) ≡ refreshedKey p N g (span s₀ (atS (p .shares)) (p .l * (p .shares * 512)))
   unfolding refreshedKey
   key-left =
       v .key ∙ ap (refreshed masks (p .shares) x (p .l)) (hs ∙ u .key)
-      ∙ ap (λ (h : MaskGen). refreshed masks (p .shares) h (p .l) (sub s₀ (atS (p .shares)) (p .l * (p .shares * 512)))) (u .next)
+      ∙ ap (λ (h : MaskGen). refreshed masks (p .shares) h (p .l) (span s₀ (atS (p .shares)) (p .l * (p .shares * 512)))) (u .next)
 
   -- line 15
-  pub shares-left : sub s₃ (atR (p .l) (p .shares)) (p .l * (p .shares * 512))
-      ≡ refreshedResponse p N g (sub s₀ (atS (p .shares)) (p .l * (p .shares * 512))) c
+  pub shares-left : span s₃ (atR (p .l) (p .shares)) (p .l * (p .shares * 512))
+      ≡ refreshedResponse p N g (span s₀ (atS (p .shares)) (p .l * (p .shares * 512))) c
   unfolding refreshedKey refreshedNoise refreshedResponse
   shares-left =
-      let S = sub s₀ (atS (p .shares)) (p .l * (p .shares * 512)) in
+      let S = span s₀ (atS (p .shares)) (p .l * (p .shares * 512)) in
       let R = maskedNoise p N g in
       let Z : MaskGen → MaskGen → MaskGen → List ℕ → List ℕ = λ (a b h : MaskGen) (X : List ℕ).
       refreshed masks (p .shares) a (p .l) (maskedResponse (p .shares) (p .l) c (refreshed masks (p .shares) b (p .l) X) (refreshed masks (p .shares) h (p .l) R)) in
@@ -67,8 +67,8 @@ module _ (p : Params) (N : Noise) (g x : MaskGen) (A c s₀ s₁ s₂ s₃ : Lis
       (skip-behind (p .l + p .l) ∙ ap (λ (m : ℕ). skip masks (p .shares) m g) n)
 
   -- line 16
-  pub response-left : sub s₃ (atX (p .k) (p .l) (p .shares)) (p .l * 512)
-      ≡ totals (p .l) (p .shares) (refreshedResponse p N g (sub s₀ (atS (p .shares)) (p .l * (p .shares * 512))) c)
+  pub response-left : span s₃ (atX (p .k) (p .l) (p .shares)) (p .l * 512)
+      ≡ totals (p .l) (p .shares) (refreshedResponse p N g (span s₀ (atS (p .shares)) (p .l * (p .shares * 512))) c)
   response-left = v .response ∙ ap (totals (p .l) (p .shares)) shares-left
 
 -- ---- lines 9 to 16 behind the commitment: s₁ before them, s₂ behind the challenge, s₃ behind the response
@@ -82,8 +82,8 @@ unfolding chalHeld
 filled-no o e = ap (λ (x : Option (List ℤ)). chalHeld x .ok) e
 
 module _ (p : Params) (N : Noise) (h g : MaskGen) (A mu s s₁ s₂ hash : List ℕ) (o : Challenged) (u : Committed p N h A g s s₁)
-    (w : Wrote 0 (atT (p .l) (p .shares)) (p .k * 512) (roundW (sub s₁ (atT (p .l) (p .shares)) (p .k * 512))) s₁ s₂)
-    (eh : hash ≡ shake256 (headed 104 (p .k) ++ ordered (p .edition) (roundW (sub s₁ (atT (p .l) (p .shares)) (p .k * 512))) mu) (p .kappa / 4))
+    (w : Wrote 0 (atT (p .l) (p .shares)) (p .k * 512) (roundW (span s₁ (atT (p .l) (p .shares)) (p .k * 512))) s₁ s₂)
+    (eh : hash ≡ shake256 (headed 104 (p .k) ++ ordered (p .edition) (roundW (span s₁ (atT (p .l) (p .shares)) (p .k * 512))) mu) (p .kappa / 4))
     (eo : o ≡ chalHeld (challenge (p .edition) (p .omega) (shake256 (headed 99 (p .omega) ++ hash) 2176))) where
   hash-there : hash ≡ hashOf p N h A mu
   unfolding chalHash
@@ -93,13 +93,13 @@ module _ (p : Params) (N : Noise) (h g : MaskGen) (A mu s s₁ s₂ hash : List 
   unfolding chalPoly
   challenge-there = eo ∙ ap (λ (x : List ℕ). chalHeld (challenge (p .edition) (p .omega) (shake256 (headed 99 (p .omega) ++ x) 2176))) hash-there
 
-  commitment-there : sub s₂ (atT (p .l) (p .shares)) (p .k * 512) ≡ roundW (commitmentOf p N h A)
+  commitment-there : span s₂ (atT (p .l) (p .shares)) (p .k * 512) ≡ roundW (commitmentOf p N h A)
   commitment-there = w .new ∙ ap roundW (u .image)
 
   row-there : LastRow p N h A s₂
   row-there i e = w .front (p .shares * 512) (p .shares * 512) (omega arith) (omega arith) ∙ u .row i e
 
-  pub answer-none : o .ok ≡ false → Answered p N h A mu (sub s (atS (p .shares)) (p .l * (p .shares * 512))) o hash s₂
+  pub answer-none : o .ok ≡ false → Answered p N h A mu (span s (atS (p .shares)) (p .l * (p .shares * 512))) o hash s₂
   answer-none e =
       let no : (c : List ℤ) → chalPoly p (hashOf p N h A mu) ≡ some c → true ≡ false =
       λ (c : List ℤ) (f : chalPoly p (hashOf p N h A mu) ≡ some c).
@@ -120,7 +120,7 @@ module _ (p : Params) (N : Noise) (h g : MaskGen) (A mu s s₁ s₂ hash : List 
 
   pub answer-made : (power : p .shares ≡ 2 ^ orderIndex (p .shares)) (r s₃ : List ℕ) → o .ok ≡ true → r ≡ residues q (o .poly)
       → Responded (p .k) (p .l) (p .shares) r g s₂ s₃
-      → Answered p N h A mu (sub s (atS (p .shares)) (p .l * (p .shares * 512))) o hash s₃
+      → Answered p N h A mu (span s (atS (p .shares)) (p .l * (p .shares * 512))) o hash s₃
   answer-made power r s₃ ok er v =
       let L = p .l * (p .shares * 512) in
       let poly : (c : List ℤ) → chalPoly p (hashOf p N h A mu) ≡ some c → r ≡ residues q c =
@@ -138,10 +138,10 @@ module _ (p : Params) (N : Noise) (h g : MaskGen) (A mu s s₁ s₂ hash : List 
         key = λ (c : List ℤ) f. key-left p N h g A r s s₁ s₂ s₃ power u hs hr v;
         shares = λ (c : List ℤ) f.
             shares-left p N h g A r s s₁ s₂ s₃ power u hs hr v
-            ∙ ap (refreshedResponse p N h (sub s (atS (p .shares)) (p .l * (p .shares * 512)))) (poly c f);
+            ∙ ap (refreshedResponse p N h (span s (atS (p .shares)) (p .l * (p .shares * 512)))) (poly c f);
         response = λ (c : List ℤ) f.
             response-left p N h g A r s s₁ s₂ s₃ power u hs hr v
-            ∙ ap (λ (x : List ℕ). totals (p .l) (p .shares) (refreshedResponse p N h (sub s (atS (p .shares)) (p .l * (p .shares * 512))) x)) (poly c f);
+            ∙ ap (λ (x : List ℕ). totals (p .l) (p .shares) (refreshedResponse p N h (span s (atS (p .shares)) (p .l * (p .shares * 512))) x)) (poly c f);
       }
 
 -- ---- the ends of one attempt
@@ -207,20 +207,20 @@ module _ (p : Params) (P : Public) (N : Noise) (g : MaskGen) (s hash ys : List �
 
     -- what is left to do is lines 17 to 20
     pub left-on : attempted p P N g s
-        ≡ finished p (signedFields p P (sub ys (atT (p .l) (p .shares)) (p .k * 512)) hash (sub ys (atX (p .k) (p .l) (p .shares)) (p .l * 512)) (o .poly))
+        ≡ finished p (signedFields p P (span ys (atT (p .l) (p .shares)) (p .k * 512)) hash (span ys (atX (p .k) (p .l) (p .shares)) (p .l * 512)) (o .poly))
     left-on =
         attempt-on p P N g s (o .poly) chal-is
         ∙ ap (λ (W : List ℕ). finished p (signedFields p P W (hashOf p N g (P .matrix) (P .mu)) (totals (p .l) (p .shares) (refreshedResponse p N g s (residues q (o .poly)))) (o .poly)))
         (sym (u .commitment))
-        ∙ ap (λ (H : List ℕ). finished p (signedFields p P (sub ys (atT (p .l) (p .shares)) (p .k * 512)) H (totals (p .l) (p .shares) (refreshedResponse p N g s (residues q (o .poly)))) (o .poly)))
+        ∙ ap (λ (H : List ℕ). finished p (signedFields p P (span ys (atT (p .l) (p .shares)) (p .k * 512)) H (totals (p .l) (p .shares) (refreshedResponse p N g s (residues q (o .poly)))) (o .poly)))
         (sym (u .hash-is))
-        ∙ ap (λ (Z : List ℕ). finished p (signedFields p P (sub ys (atT (p .l) (p .shares)) (p .k * 512)) hash Z (o .poly)))
+        ∙ ap (λ (Z : List ℕ). finished p (signedFields p P (span ys (atT (p .l) (p .shares)) (p .k * 512)) hash Z (o .poly)))
         (sym (u .response (o .poly) chal-is))
 
-    pub left-shares : sub ys (atR (p .l) (p .shares)) (p .l * (p .shares * 512)) ≡ refreshedResponse p N g s (residues q (o .poly))
+    pub left-shares : span ys (atR (p .l) (p .shares)) (p .l * (p .shares * 512)) ≡ refreshedResponse p N g s (residues q (o .poly))
     left-shares = u .shares (o .poly) chal-is
 
-    pub left-key : sub ys (atS (p .shares)) (p .l * (p .shares * 512)) ≡ refreshedKey p N g s
+    pub left-key : span ys (atS (p .shares)) (p .l * (p .shares * 512)) ≡ refreshedKey p N g s
     left-key = u .key (o .poly) chal-is
 
 -- ---- the attempts in order

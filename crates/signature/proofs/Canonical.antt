@@ -81,8 +81,8 @@ chop-front w (x ∷ xs) r h =
 -- ---- the writer
 
 -- the fields and n bytes: the bits with their fill
-abbrev filled : Fields → ℕ → List ℕ
-filled f n = formBits f ++ replicate (8 * n - bitCount f) 0
+abbrev withFill : Fields → ℕ → List ℕ
+withFill f n = formBits f ++ replicate (8 * n - bitCount f) 0
 
 -- the count, as the code makes it
 pub count-is : (c : List ℕ) (h z : List ℤ) → 8 * length c + (codesBits 0 h + codesBits 40 z) ≡ bitCount (fieldsOf c h z)
@@ -90,7 +90,7 @@ unfolding bitCount
 count-is c h z = refl
 
 module _ (p : Params) (f : Fields) where
-  pub write-fits : bitCount f ≤ 8 * p .«sig_bytes» → write p f ≡ some (chop 8 (p .«sig_bytes») (filled f (p .«sig_bytes»)))
+  pub write-fits : bitCount f ≤ 8 * p .«sig_bytes» → write p f ≡ some (chop 8 (p .«sig_bytes») (withFill f (p .«sig_bytes»)))
   unfolding write
   write-fits h = rw (le-leb _ _ h)
 
@@ -99,33 +99,33 @@ module _ (p : Params) (f : Fields) where
   write-none h = rw (lt-leb _ _ h)
 
 module _ (p : Params) (f : Fields) (b : List ℕ) where
-  pub write-some : write p f ≡ some b → (bitCount f ≤ 8 * p .«sig_bytes») × (b ≡ chop 8 (p .«sig_bytes») (filled f (p .«sig_bytes»)))
+  pub write-some : write p f ≡ some b → (bitCount f ≤ 8 * p .«sig_bytes») × (b ≡ chop 8 (p .«sig_bytes») (withFill f (p .«sig_bytes»)))
   unfolding write
   write-some e = go (leb (bitCount f) (8 * p .«sig_bytes»)) refl e
     where
-      go : (d : Bool) → leb (bitCount f) (8 * p .«sig_bytes») ≡ d → pick d (some (chop 8 (p .«sig_bytes») (filled f (p .«sig_bytes»)))) none ≡ some b
-          → (bitCount f ≤ 8 * p .«sig_bytes») × (b ≡ chop 8 (p .«sig_bytes») (filled f (p .«sig_bytes»)))
+      go : (d : Bool) → leb (bitCount f) (8 * p .«sig_bytes») ≡ d → pick d (some (chop 8 (p .«sig_bytes») (withFill f (p .«sig_bytes»)))) none ≡ some b
+          → (bitCount f ≤ 8 * p .«sig_bytes») × (b ≡ chop 8 (p .«sig_bytes») (withFill f (p .«sig_bytes»)))
       go true d e = (leb-true (bitCount f) (8 * p .«sig_bytes») d, cc)
       go false d e = let x : _≡_ {A = ℕ} 0 1 = cc in absurd (omega arith)
 
   pub write-length : write p f ≡ some b → length b ≡ p .«sig_bytes»
-  write-length e = ap length ((write-some e) .1) ∙ length-chop 8 (p .«sig_bytes») (filled f (p .«sig_bytes»))
+  write-length e = ap length ((write-some e) .1) ∙ length-chop 8 (p .«sig_bytes») (withFill f (p .«sig_bytes»))
 
-  filled-are : Bits (filled f (p .«sig_bytes»))
-  filled-are = bits-join (formBits f) (replicate (8 * p .«sig_bytes» - bitCount f) 0) (form-are f) (bits-replicate (8 * p .«sig_bytes» - bitCount f) 0 (lit< tt))
+  withFill-are : Bits (withFill f (p .«sig_bytes»))
+  withFill-are = bits-join (formBits f) (replicate (8 * p .«sig_bytes» - bitCount f) 0) (form-are f) (bits-replicate (8 * p .«sig_bytes» - bitCount f) 0 (lit< tt))
 
   pub write-bytes : write p f ≡ some b → Bytes b
-  write-bytes e = rw ((write-some e) .1) (lt-bytes (chop 8 (p .«sig_bytes») (filled f (p .«sig_bytes»))) (chop-lt 8 (p .«sig_bytes») (filled f (p .«sig_bytes»)) filled-are))
+  write-bytes e = rw ((write-some e) .1) (lt-bytes (chop 8 (p .«sig_bytes») (withFill f (p .«sig_bytes»))) (chop-lt 8 (p .«sig_bytes») (withFill f (p .«sig_bytes»)) withFill-are))
 
   -- the bits of what is written
-  pub write-bits : write p f ≡ some b → fields 8 b ≡ filled f (p .«sig_bytes»)
+  pub write-bits : write p f ≡ some b → fields 8 b ≡ withFill f (p .«sig_bytes»)
   write-bits e =
       let n = p .«sig_bytes» in
       let z : ℕ = 0 in
-      let l : length (filled f n) ≡ n * 8 =
+      let l : length (withFill f n) ≡ n * 8 =
       length-append (formBits f) (replicate (8 * n - bitCount f) z)
       ∙ omega (arith, bits-length (f .hash) (f .hint) (f .response), length-replicate (8 * n - bitCount f) z, (write-some e) .0) in
-      ap (fields 8) ((write-some e) .1) ∙ fields-chop 8 n (filled f n) filled-are l
+      ap (fields 8) ((write-some e) .1) ∙ fields-chop 8 n (withFill f n) withFill-are l
 
 -- ---- the reader, by what the two lists give
 
@@ -164,7 +164,7 @@ write-read p f b s e =
     let C = codes 0 (f .hint) in
     let D = codes 40 (f .response) in
     let Z : List ℕ = replicate (8 * n - bitCount f) 0 in
-    let r : filled f n ≡ F ++ (C ++ (D ++ Z)) = append-assoc F (C ++ D) Z ∙ ap (λ (l : List ℕ). F ++ l) (append-assoc C D Z) in
+    let r : withFill f n ≡ F ++ (C ++ (D ++ Z)) = append-assoc F (C ++ D) Z ∙ ap (λ (l : List ℕ). F ++ l) (append-assoc C D Z) in
     let o = write-some p f b e in
     let lf : length F ≡ 8 * H = length-fields 8 (f .hash) ∙ omega (arith, s .hash-long) in
     let t : drop (8 * H) (fields 8 b) ≡ C ++ (D ++ Z) =
@@ -175,7 +175,7 @@ write-read p f b s e =
     let d : readCodes 40 (p .l * 512) (drop (length C) (drop (8 * H) (fields 8 b))) ≡ some (f .response, length D) =
     ap (readCodes 40 (p .l * 512)) u ∙ ap (λ (m : ℕ). readCodes 40 m (D ++ Z)) (sym (s .response-long)) ∙ trips 40 (f .response) Z in
     let c : take H b ≡ f .hash =
-    ap (take H) (o .1) ∙ take-chop 8 H n (filled f n) (omega (arith, o .0, s .hash-long)) ∙ ap (λ (m : ℕ). chop 8 m (filled f n)) (sym (s .hash-long))
+    ap (take H) (o .1) ∙ take-chop 8 H n (withFill f n) (omega (arith, o .0, s .hash-long)) ∙ ap (λ (m : ℕ). chop 8 m (withFill f n)) (sym (s .hash-long))
     ∙ ap (chop 8 (length (f .hash))) r ∙ chop-front 8 (f .hash) (C ++ (D ++ Z)) (bytes-lt (f .hash) (s .hash-bytes)) in
     read-fields p b (f .hint) (length C) a (f .response) (length D) d ∙ ap (λ (x : List ℕ). some (fieldsOf x (f .hint) (f .response))) c
 

@@ -9,7 +9,7 @@ use lib.ListN.{length, getD, set, drop, length-append}
 use lib.Seq.{drop-length}
 use Rattle.hash.specs.Lists.{table}
 use Rattle.hash.specs.Keccak.{State}
-use Rattle.hash.specs.Shake.{zeros, absorbFrom, finish, after, stream, shake256}
+use Rattle.hash.specs.Shake.{zeroState, absorbFrom, finish, after, stream, shake256}
 use Rattle.hash.specs.declared.params.Edition.{Edition}
 use Rattle.hash.proofs.Lanes.{absorb-mod}
 use Rattle.hash.proofs.Output.{after-none, after-next, finish-mod}
@@ -72,39 +72,39 @@ byte-all f l₀ l j n e h g = e ∙ rw (h, ← g, drop-length, append-nil)
 -- ---- hashes of parts
 
 -- only the place in the block counts
-rest : (x y : ℕ) → (x + y % 136) % 136 ≡ (x + y) % 136
-rest x y = omega arith
+add-rest : (x y : ℕ) → (x + y % 136) % 136 ≡ (x + y) % 136
+add-rest x y = omega arith
 
-rests : (n k x y : ℕ) → k ≡ n + x % 136 → (k + y % 136) % 136 ≡ (n + x + y) % 136
-rests n k x y h =
+add-rests : (n k x y : ℕ) → k ≡ n + x % 136 → (k + y % 136) % 136 ≡ (n + x + y) % 136
+add-rests n k x y h =
     let e : n + x % 136 + y ≡ n + y + x % 136 = omega arith in
     let f : n + y + x ≡ n + x + y = omega arith in
-    rest k y ∙ ap (λ (i : ℕ). (i + y) % 136) h ∙ ap (λ (i : ℕ). i % 136) e ∙ rest (n + y) x ∙ ap (λ (i : ℕ). i % 136) f
+    add-rest k y ∙ ap (λ (i : ℕ). (i + y) % 136) h ∙ ap (λ (i : ℕ). i % 136) e ∙ add-rest (n + y) x ∙ ap (λ (i : ℕ). i % 136) f
 
 module _ (S A B C : State) (n k : ℕ) (a b : List ℕ) where
   pub behind-is : A ≡ absorbFrom S n a → k ≡ n + length a % 136 → B ≡ absorbFrom A k b → C ≡ finish B (k + length b % 136)
       → C ≡ behind S n a b
   behind-is e h f g =
-      let x = rests n k (length a) (length b) h in
-      let y : k % 136 ≡ (n + length a) % 136 = ap (λ (i : ℕ). i % 136) h ∙ rest n (length a) in
+      let x = add-rests n k (length a) (length b) h in
+      let y : k % 136 ≡ (n + length a) % 136 = ap (λ (i : ℕ). i % 136) h ∙ add-rest n (length a) in
       let z : B ≡ absorbFrom (absorbFrom S n a) (n + length a) b =
       f ∙ absorb-mod b A k (n + length a) y ∙ ap (λ (X : State). absorbFrom X (n + length a) b) e in
       g ∙ finish-mod B (k + length b % 136) (n + length a + length b) x ∙ ap (λ (X : State). finish X (n + length a + length b)) z
 
 -- two parts, and two behind a header
-pub two-parts : (S : State) (a b out : List ℕ) (n : ℕ) → S ≡ zeros
+pub two-parts : (S : State) (a b out : List ℕ) (n : ℕ) → S ≡ zeroState
     → out ≡ table (stream (behind S 0 a b)) n → out ≡ shake256 (a ++ b) n
 two-parts S a b out n e h =
     let x : 0 + length a ≡ length a = omega arith in
     h ∙ rw (e, x, finish-two a b)
 
-module _ (S Z : State) (h a b out : List ℕ) (n : ℕ) (e : Z ≡ zeros) (f : S ≡ absorbFrom Z 0 h) (g : length h ≡ 8)
+module _ (S Z : State) (h a b out : List ℕ) (n : ℕ) (e : Z ≡ zeroState) (f : S ≡ absorbFrom Z 0 h) (g : length h ≡ 8)
     (is : out ≡ table (stream (behind S 8 a b)) n) where
   three-parts : out ≡ shake256 (h ++ (a ++ b)) n
   three-parts =
       let x : 8 + length a + length b ≡ length h + length (a ++ b) = rw length-append (omega arith) in
-      let y : absorbFrom (absorbFrom S 8 a) (8 + length a) b ≡ absorbFrom (absorbFrom zeros 0 h) (length h) (a ++ b) =
-      rw (f, e, ← g) (sym (absorb-append (absorbFrom zeros 0 h) (length h) a b)) in
+      let y : absorbFrom (absorbFrom S 8 a) (8 + length a) b ≡ absorbFrom (absorbFrom zeroState 0 h) (length h) (a ++ b) =
+      rw (f, e, ← g) (sym (absorb-append (absorbFrom zeroState 0 h) (length h) a b)) in
       is ∙ rw (x, y, finish-two h (a ++ b))
 
   pub printed-parts : (k : Edition) → k ≡ Edition.Printed → out ≡ shake256 (h ++ ordered k a b) n

@@ -20,7 +20,7 @@ use Rattle.sharing.specs.Noise.{noiseBytes}
 use Rattle.sharing.specs.declared.masks.MaskGen.{MaskGen}
 use Rattle.sharing.proofs.Lists.{inside}
 use Rattle.sharing.proofs.NoisePlaces.{noise-bytes}
-use Rattle.sharing.proofs.Regions.{length-sub}
+use Rattle.sharing.proofs.Regions.{length-span}
 use Rattle.signature.specs.Attempt.{coinsOf, Within, Begun, Committed}
 use Rattle.signature.specs.Checks.{both}
 use Rattle.signature.specs.Keygen.{Small}
@@ -31,7 +31,7 @@ use Rattle.signature.proofs.Sizes.{coins-low}
 
 -- a part of n words from a n on
 pub part-long : (n a : ℕ) (xs : List ℕ) → a * n + n ≤ length xs → length (take (a * n + n - a * n) (drop (a * n) xs)) ≡ n
-part-long n a xs h = let e : a * n + n - a * n ≡ n = omega arith in rw e (length-sub xs (a * n) n h)
+part-long n a xs h = let e : a * n + n - a * n ≡ n = omega arith in rw e (length-span xs (a * n) n h)
 
 -- the sizes are small numbers
 pub fits-mid : (x : ℕ) → x ≤ 4294967296 → Fits w64 x

@@ -12,8 +12,8 @@ use Rattle.ring.specs.Uniform.{heldOf}
 use Rattle.ring.specs.declared.uniform.Sampled.{Sampled}
 use Rattle.ring.proofs.Filled.{filled-some, not-filled, held-ok, held-there}
 use Rattle.sharing.specs.Blocks.{block, build}
-use Rattle.sharing.specs.Region.{sub, Wrote}
-use Rattle.sharing.proofs.Regions.{block-sub, wrote-value, wrote-turn, wrote-end}
+use Rattle.sharing.specs.Region.{span, Wrote}
+use Rattle.sharing.proofs.Regions.{block-span, wrote-value, wrote-turn, wrote-end}
 use Rattle.sharing.proofs.Turns.{source}
 use Rattle.signature.specs.Matrix.{filled}
 use Rattle.signature.specs.Compress.{shareHeader, exchanged, seededShareOf, collectedOf, collectedAt, compressedOf}
@@ -57,33 +57,33 @@ module _ (e : Edition) (n : ℕ) (seeds : List ℕ) (j : ℕ) where
           ∙ ap (exchanged B (collectedOf e n seeds X j k)) g ∙ exchanged-none B (collectedOf e n seeds X j k)
 
   module _ (s : List ℕ) (at d : ℕ) where
-    pub collect-start : (x : List ℕ) → 1 ≤ d → x ≡ sub s at 512 → collectedOf e n seeds (sub s at (d * 512)) j 0 ≡ some x
+    pub collect-start : (x : List ℕ) → 1 ≤ d → x ≡ span s at 512 → collectedOf e n seeds (span s at (d * 512)) j 0 ≡ some x
     unfolding collectedOf
     collect-start x h g =
         let z : at + 0 * 512 ≡ at = omega arith in
-        ap some (block-sub 512 d 0 s at h ∙ ap (λ (a : ℕ). sub s a 512) z ∙ sym g)
+        ap some (block-span 512 d 0 s at h ∙ ap (λ (a : ℕ). span s a 512) z ∙ sym g)
 
     module _ (i : ℕ) (y : Sampled) (a : 1 ≤ i) (b : i < d) (h : y ≡ heldOf (seededShareOf e n seeds j i)) where
-      pub collect-turn : (x z : List ℕ) → y .ok ≡ true → collectedOf e n seeds (sub s at (d * 512)) j (i - 1) ≡ some x
-          → z ≡ addW (subW x (y .poly)) (sub s (at + i * 512) 512) → collectedOf e n seeds (sub s at (d * 512)) j (i + 1 - 1) ≡ some z
+      pub collect-turn : (x z : List ℕ) → y .ok ≡ true → collectedOf e n seeds (span s at (d * 512)) j (i - 1) ≡ some x
+          → z ≡ addW (subW x (y .poly)) (span s (at + i * 512) 512) → collectedOf e n seeds (span s at (d * 512)) j (i + 1 - 1) ≡ some z
       collect-turn x z t u v =
-          let X = sub s at (d * 512) in
+          let X = span s at (d * 512) in
           let p : suc (i - 1) ≡ i = omega arith in
           let k : i + 1 - 1 ≡ suc (i - 1) = omega arith in
           let o = seededShareOf e n seeds j i in
           let g : o ≡ some (y .poly) =
           filled-some o (sym (held-ok o) ∙ ap (λ (w : Sampled). w .ok) (sym h) ∙ t) ∙ ap (λ (w : Sampled). some (w .poly)) (sym h) in
           ap (collectedOf e n seeds X j) k ∙ next (i - 1) X x (y .poly) u (ap (seededShareOf e n seeds j) p ∙ g)
-          ∙ ap (λ (w : List ℕ). some (addW (subW x (y .poly)) w)) (ap (λ (m : ℕ). block 512 m X) p ∙ block-sub 512 d i s at b) ∙ ap some (sym v)
+          ∙ ap (λ (w : List ℕ). some (addW (subW x (y .poly)) w)) (ap (λ (m : ℕ). block 512 m X) p ∙ block-span 512 d i s at b) ∙ ap some (sym v)
 
-      pub collect-stop : y .ok ≡ false → y ≡ heldOf (collectedOf e n seeds (sub s at (d * 512)) j (d - 1))
+      pub collect-stop : y .ok ≡ false → y ≡ heldOf (collectedOf e n seeds (span s at (d * 512)) j (d - 1))
       collect-stop t =
           let g = not-filled (seededShareOf e n seeds j i) (sym (held-ok (seededShareOf e n seeds j i)) ∙ ap (λ (w : Sampled). w .ok) (sym h) ∙ t) in
-          h ∙ ap heldOf (g ∙ sym (lost (d - 1) i (sub s at (d * 512)) a (omega arith) g))
+          h ∙ ap heldOf (g ∙ sym (lost (d - 1) i (span s at (d * 512)) a (omega arith) g))
 
-    pub collect-end : (i : ℕ) (x : List ℕ) → i ≡ d → collectedOf e n seeds (sub s at (d * 512)) j (i - 1) ≡ some x
-        → _≡_ {A = Sampled} (record { ok = true; poly = x }) (heldOf (collectedOf e n seeds (sub s at (d * 512)) j (d - 1)))
-    collect-end i x p h = held-there _ x (ap (λ (m : ℕ). collectedOf e n seeds (sub s at (d * 512)) j (m - 1)) (sym p) ∙ h)
+    pub collect-end : (i : ℕ) (x : List ℕ) → i ≡ d → collectedOf e n seeds (span s at (d * 512)) j (i - 1) ≡ some x
+        → _≡_ {A = Sampled} (record { ok = true; poly = x }) (heldOf (collectedOf e n seeds (span s at (d * 512)) j (d - 1)))
+    collect-end i x p h = held-there _ x (ap (λ (m : ℕ). collectedOf e n seeds (span s at (d * 512)) j (m - 1)) (sym p) ∙ h)
 
 -- ---- l polynomials
 
@@ -92,24 +92,24 @@ abbrev pub fullAt : Edition → ℕ → List ℕ → ℕ → List ℕ → ℕ �
 fullAt e n seeds d X j = heldOf (collectedAt e n seeds d X j) .poly
 
 module _ (e : Edition) (n : ℕ) (seeds : List ℕ) (at to l d : ℕ) (s₀ : List ℕ) (h : at + l * (d * 512) ≤ to) where
-  module _ (j : ℕ) (s : List ℕ) (y : Sampled) (b : j < l) (u : Wrote 0 to (j * 512) (build j (fullAt e n seeds d (sub s₀ at (l * (d * 512))))) s₀ s)
-      (g : y ≡ heldOf (collectedOf e n seeds (sub s (at + j * (d * 512)) (d * 512)) j (d - 1))) where
-    here : y ≡ heldOf (collectedAt e n seeds d (sub s₀ at (l * (d * 512))) j)
+  module _ (j : ℕ) (s : List ℕ) (y : Sampled) (b : j < l) (u : Wrote 0 to (j * 512) (build j (fullAt e n seeds d (span s₀ at (l * (d * 512))))) s₀ s)
+      (g : y ≡ heldOf (collectedOf e n seeds (span s (at + j * (d * 512)) (d * 512)) j (d - 1))) where
+    here : y ≡ heldOf (collectedAt e n seeds d (span s₀ at (l * (d * 512))) j)
     here =
         g ∙ ap (λ (X : List ℕ). heldOf (collectedOf e n seeds X j (d - 1)))
-        (source 0 (d * 512) l at j s₀ s b to (j * 512) (build j (fullAt e n seeds d (sub s₀ at (l * (d * 512))))) (omega arith) h u)
+        (source 0 (d * 512) l at j s₀ s b to (j * 512) (build j (fullAt e n seeds d (span s₀ at (l * (d * 512))))) (omega arith) h u)
 
-    pub full-ok : filled (collectedAt e n seeds d (sub s₀ at (l * (d * 512))) j) ≡ y .ok
-    full-ok = sym (held-ok (collectedAt e n seeds d (sub s₀ at (l * (d * 512))) j)) ∙ ap (λ (w : Sampled). w .ok) (sym here)
+    pub full-ok : filled (collectedAt e n seeds d (span s₀ at (l * (d * 512))) j) ≡ y .ok
+    full-ok = sym (held-ok (collectedAt e n seeds d (span s₀ at (l * (d * 512))) j)) ∙ ap (λ (w : Sampled). w .ok) (sym here)
 
     pub full-turn : (t : List ℕ) → Wrote 0 (to + j * 512) 512 (y .poly) s t
-        → Wrote 0 to ((j + 1) * 512) (build (j + 1) (fullAt e n seeds d (sub s₀ at (l * (d * 512))))) s₀ t
+        → Wrote 0 to ((j + 1) * 512) (build (j + 1) (fullAt e n seeds d (span s₀ at (l * (d * 512))))) s₀ t
     full-turn t v =
-        wrote-turn 512 j (fullAt e n seeds d (sub s₀ at (l * (d * 512)))) (omega arith) u (wrote-value (ap (λ (w : Sampled). w .poly) here) v)
+        wrote-turn 512 j (fullAt e n seeds d (span s₀ at (l * (d * 512)))) (omega arith) u (wrote-value (ap (λ (w : Sampled). w .poly) here) v)
 
-  pub full-end : (j : ℕ) (s X : List ℕ) → j ≡ l → Wrote 0 to (j * 512) (build j (fullAt e n seeds d (sub s₀ at (l * (d * 512))))) s₀ s
-      → compressedOf e n seeds l d (sub s₀ at (l * (d * 512))) ≡ some X → Wrote 0 to (l * 512) X s₀ s
+  pub full-end : (j : ℕ) (s X : List ℕ) → j ≡ l → Wrote 0 to (j * 512) (build j (fullAt e n seeds d (span s₀ at (l * (d * 512))))) s₀ s
+      → compressedOf e n seeds l d (span s₀ at (l * (d * 512))) ≡ some X → Wrote 0 to (l * 512) X s₀ s
   unfolding compressedOf
   full-end j s X p u g =
-      let f = fullAt e n seeds d (sub s₀ at (l * (d * 512))) in
-      wrote-value (sym (all-some l (collectedAt e n seeds d (sub s₀ at (l * (d * 512)))) X g .whole)) (wrote-end 512 f p u)
+      let f = fullAt e n seeds d (span s₀ at (l * (d * 512))) in
+      wrote-value (sym (all-some l (collectedAt e n seeds d (span s₀ at (l * (d * 512)))) X g .whole)) (wrote-end 512 f p u)

@@ -10,7 +10,7 @@ use Rattle.hash.specs.declared.params.Params.{Params}
 use Rattle.ring.specs.Words.{q, Below}
 use Rattle.ring.proofs.Sums.{below-take, below-drop}
 use Rattle.sharing.specs.Blocks.{block, totals}
-use Rattle.sharing.specs.Region.{sub, Wrote, Kept}
+use Rattle.sharing.specs.Region.{span, Wrote, Kept}
 use Rattle.sharing.specs.Encoding.{skip, addNoise}
 use Rattle.sharing.specs.Masks.{masks}
 use Rattle.sharing.specs.declared.masks.MaskGen.{MaskGen}
@@ -26,7 +26,7 @@ module _ (p : Params) (N : Noise) (g x : MaskGen) (s₀ s₁ s₂ : List ℕ)
     (u : Wrote (p .shares * 512) (atR (p .l) (p .shares)) (p .l * (p .shares * 512)) (transformed (p .l * p .shares) (maskedNoise p N g)) s₀ s₁) where
   -- whatever the matrix is
   pub commit-begun : Kept (p .shares * 512 + p .shares * 512) (atT (p .l) (p .shares)) s₁ s₂
-      → Begun p N g (sub s₀ (atS (p .shares)) (p .l * (p .shares * 512))) s₂
+      → Begun p N g (span s₀ (atS (p .shares)) (p .l * (p .shares * 512))) s₂
   commit-begun v =
       let n = p .l * (p .shares * 512) in
       record {
@@ -37,7 +37,7 @@ module _ (p : Params) (N : Noise) (g x : MaskGen) (s₀ s₁ s₂ : List ℕ)
   module _ (power : p .shares ≡ 2 ^ orderIndex (p .shares)) (e : x ≡ skip masks (p .shares) (beforeProduct p N) g) where
     -- the shares of all rows, f being the noise of the product
     rows-there : (f : ℕ → ℕ → List ℕ) → f ≡ N .second → (seed A : List ℕ) → matrix p seed ≡ some A
-        → addNoise masks (p .shares) x (p .k) (N .reps) f (rowsOf (p .shares) (p .k) (p .l) A (sub s₁ (atR (p .l) (p .shares)) (p .l * (p .shares * 512))))
+        → addNoise masks (p .shares) x (p .k) (N .reps) f (rowsOf (p .shares) (p .k) (p .l) A (span s₁ (atR (p .l) (p .shares)) (p .l * (p .shares * 512))))
         ≡ maskedImage p N g A
     rows-there f hf seed A m =
         let I : (ℕ → ℕ → List ℕ) → List ℕ → List ℕ = λ (h : ℕ → ℕ → List ℕ) (Y : List ℕ). addNoise masks (p .shares) x (p .k) (N .reps) h (rowsOf (p .shares) (p .k) (p .l) A Y) in
@@ -47,7 +47,7 @@ module _ (p : Params) (N : Noise) (g x : MaskGen) (s₀ s₁ s₂ : List ℕ)
     pub commit-made : (f : ℕ → ℕ → List ℕ) → f ≡ N .second → (seed A : List ℕ) (y : MaskGen) → matrix p seed ≡ some A
         → SummedAll (p .shares) (p .k) (p .shares * 512) (atT (p .l) (p .shares))
         (addNoise masks (p .shares) x (p .k) (N .reps) f
-        (rowsOf (p .shares) (p .k) (p .l) A (sub s₁ (atR (p .l) (p .shares)) (p .l * (p .shares * 512))))) s₁ s₂
+        (rowsOf (p .shares) (p .k) (p .l) A (span s₁ (atR (p .l) (p .shares)) (p .l * (p .shares * 512))))) s₁ s₂
         → y ≡ skip masks (p .shares) (p .k * N .reps) x → Committed p N g A y s₀ s₂
     commit-made f hf seed A y m v o =
         let r = rows-there f hf seed A m in

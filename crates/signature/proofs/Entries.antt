@@ -63,10 +63,10 @@ record Joined (a b : Option (List ℕ)) (c : List ℕ) : Type 0 where
   pub right : b ≡ some (heldOf b .poly)
   pub both : c ≡ heldOf a .poly ++ heldOf b .poly
 
-joined : (a b : Option (List ℕ)) (c : List ℕ) → joinedTo a b ≡ some c → Joined a b c
-joined none b c e = absurd (none-some c e)
-joined (some a) none c e = absurd (none-some c e)
-joined (some a) (some b) c e =
+joined-some : (a b : Option (List ℕ)) (c : List ℕ) → joinedTo a b ≡ some c → Joined a b c
+joined-some none b c e = absurd (none-some c e)
+joined-some (some a) none c e = absurd (none-some c e)
+joined-some (some a) (some b) c e =
     let x : heldOf (some a) .poly ≡ a = held-is (some a) a refl in
     let y : heldOf (some b) .poly ≡ b = held-is (some b) b refl in
     let z : a ++ b ≡ c = cc in
@@ -83,7 +83,7 @@ all-some zero f A e =
     let z : [] ≡ A = cc in
     record { here = λ (i : ℕ) (h : i < 0). absurd (not-suc-le-zero h); whole = sym (build-none (λ (i : ℕ). heldOf (f i) .poly) ∙ z) }
 all-some (suc n) f A e =
-    let j = joined (buildAll n f) (f n) A e in
+    let j = joined-some (buildAll n f) (f n) A e in
     let r = all-some n f (heldOf (buildAll n f) .poly) (j .left) in
     record {
       here = λ (i : ℕ) (h : i < suc n). go i h (decLt i n) (r .here i) (j .right);

@@ -13,9 +13,11 @@ use Rattle.ring.specs.Words.{q, Below}
 use Rattle.ring.specs.Uniform.{heldOf}
 use Rattle.ring.specs.declared.uniform.Sampled.{Sampled}
 use Rattle.ring.proofs.Filled.{filled-some, some-filled, held-is, held-ok}
-use Rattle.sharing.specs.Blocks.{zeros, block, build}
-use Rattle.sharing.specs.Region.{sub, Wrote}
-use Rattle.sharing.proofs.Lists.{zeros-words, inside, build-ext}
+use Rattle.hash.specs.Lists.{zeros}
+use Rattle.sharing.specs.Blocks.{block, build}
+use Rattle.sharing.specs.Region.{span, Wrote}
+use Rattle.ring.proofs.Sums.{words-zeros}
+use Rattle.sharing.proofs.Lists.{inside, build-ext}
 use Rattle.sharing.proofs.Built.{block-is}
 use Rattle.sharing.proofs.Regions.{wrote-start, wrote-turn, wrote-end}
 use Rattle.signature.specs.Matrix.{buildAll, filled}
@@ -83,9 +85,9 @@ module _ (p : Params) (part : List ℕ) where
       let k : 1 ≤ i = omega arith in
       ap (λ (s : Sampled). s .poly) e ∙ ap (λ (o : Option (List ℕ)). heldOf o .poly) (share-is j i k)
 
-  pub full-expands : (j i : ℕ) (full : List ℕ) → i ≡ 0 → full ≡ fullShare p part → sub full (j * 512) 512 ≡ expandedAt p part j i
+  pub full-expands : (j i : ℕ) (full : List ℕ) → i ≡ 0 → full ≡ fullShare p part → span full (j * 512) 512 ≡ expandedAt p part j i
   full-expands j i full z e =
-      ap (λ (l : List ℕ). sub l (j * 512) 512) e ∙ sym (block-is 512 j (fullShare p part)) ∙ full-is j ∙ sym (ap (expandedAt p part j) z)
+      ap (λ (l : List ℕ). span l (j * 512) 512) e ∙ sym (block-is 512 j (fullShare p part)) ∙ full-is j ∙ sym (ap (expandedAt p part j) z)
 
   pub full-length : length (fullShare p part) ≡ p .l * 512
   unfolding fullShare
@@ -103,7 +105,7 @@ module _ (p : Params) (part : List ℕ) where
 
   pub expand-start : (s s₀ : List ℕ) → s ≡ zeros (length s₀) → Wrote 0 0 (0 * (p .shares * 512)) (build 0 polynomial) s s
   expand-start s s₀ e =
-      wrote-start (p .shares * 512) polynomial 0 0 s (subst (λ (l : List ℕ). Below q l) (sym e) (zeros-words (length s₀) .low))
+      wrote-start (p .shares * 512) polynomial 0 0 s (subst (λ (l : List ℕ). Below q l) (sym e) (words-zeros (length s₀) .low))
 
   pub expand-turn : (j : ℕ) (s₀ s t : List ℕ) → Wrote 0 0 (j * (p .shares * 512)) (build j polynomial) s₀ s
       → Wrote 0 (j * (p .shares * 512)) (p .shares * 512) (polynomial j) s t

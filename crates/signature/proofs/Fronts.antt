@@ -8,8 +8,8 @@ use lib.Seq.{take-at, length-take-le}
 use borrow.Rule.Slice.PartMut.{midOf, postOf, putMid, same-len-mid, mid-len}
 use Rattle.hash.specs.Shake.{absorbed, stream, shake256}
 use Rattle.hash.proofs.Table.{length-table}
-use Rattle.sharing.specs.Region.{sub}
-use Rattle.sharing.proofs.Regions.{length-sub}
+use Rattle.sharing.specs.Region.{span}
+use Rattle.sharing.proofs.Regions.{length-span}
 use Rattle.signature.specs.Bits.{repack}
 use Rattle.signature.specs.Recover.{keyHash, boundTo}
 use Rattle.signature.proofs.Packing.{length-repack}
@@ -33,11 +33,11 @@ module _ {A : Type 0} (n : ℕ) (xs ys : List A) (h : n ≤ length xs) (e : leng
 
 -- .. by a copy of n words from `at` on
 module _ (n at : ℕ) (xs s : List ℕ) (h : n ≤ length xs) (g : at + n ≤ length s) where
-  pub copied-from : take (at + n - at) (drop at s) ≡ sub s at n
+  pub copied-from : take (at + n - at) (drop at s) ≡ span s at n
   copied-from = let k : at + n - at ≡ n = omega arith in ap (λ (m : ℕ). take m (drop at s)) k
 
   pub copied-long : length (take (at + n - at) (drop at s)) ≡ n
-  copied-long = ap (λ (l : List ℕ). length l) copied-from ∙ length-sub s at n g
+  copied-long = ap (λ (l : List ℕ). length l) copied-from ∙ length-span s at n g
 
   pub copied-room : length (midOf 0 (n - 0) xs) ≡ length (take (at + n - at) (drop at s))
   copied-room = let z : n - 0 ≡ n = omega arith in mid-len 0 n xs h ∙ z ∙ sym copied-long

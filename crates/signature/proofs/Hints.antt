@@ -14,10 +14,10 @@ use Rattle.ring.specs.Transform.{ntt}
 use Rattle.ring.specs.Round.{roundW}
 use Rattle.ring.proofs.Sums.{below-take, below-drop, length-zip}
 use Rattle.sharing.specs.Blocks.{block, build}
-use Rattle.sharing.specs.Region.{sub}
+use Rattle.sharing.specs.Region.{span}
 use Rattle.sharing.proofs.Lists.{build-ext, blocks-all}
 use Rattle.sharing.proofs.Built.{block-is, build-next}
-use Rattle.sharing.proofs.Regions.{block-sub}
+use Rattle.sharing.proofs.Regions.{block-span}
 use Rattle.signature.specs.Masked.{transformed}
 use Rattle.signature.specs.Matrix.{matrix, rowEntry}
 use Rattle.signature.specs.Recover.{sub31, centredAll, hintOf, recovered, recoveredBy, hintRow, hintRows}
@@ -25,9 +25,9 @@ use Rattle.signature.proofs.Adjusted.{take-put, zip-block, round-block,
 use Rattle.signature.proofs.Centred.{centred-append}
 
 -- polynomial i of w, below p as all of w
-pub part-below : (p : ℕ) (xs : List ℕ) (a k i : ℕ) → i < k → Below p (sub xs a (k * 512)) → Below p (sub xs (a + i * 512) 512)
+pub part-below : (p : ℕ) (xs : List ℕ) (a k i : ℕ) → i < k → Below p (span xs a (k * 512)) → Below p (span xs (a + i * 512) 512)
 part-below p xs a k i h b =
-    subst (Below p) (sym (block-is 512 i (sub xs a (k * 512))) ∙ block-sub 512 k i xs a h) (below-take p 512 (drop (i * 512) (sub xs a (k * 512))) (below-drop p (i * 512) (sub xs a (k * 512)) b))
+    subst (Below p) (sym (block-is 512 i (span xs a (k * 512))) ∙ block-span 512 k i xs a h) (below-take p 512 (drop (i * 512) (span xs a (k * 512))) (below-drop p (i * 512) (span xs a (k * 512)) b))
 
 -- X put at row i of h
 module _ (i : ℕ) (h X : List ℤ) (b : i * 512 + 512 ≤ length h) (n : length X ≡ 512) where

@@ -9,7 +9,7 @@ use lib.ListN.{length}
 use Rattle.hash.specs.Params.{orderIndex}
 use Rattle.ring.specs.Words.{Words}
 use Rattle.sharing.specs.Blocks.{block, build, total, totals}
-use Rattle.sharing.specs.Region.{sub, Wrote}
+use Rattle.sharing.specs.Region.{span, Wrote}
 use Rattle.sharing.specs.Encoding.{skip, addRep, addNoise}
 use Rattle.sharing.specs.Masks.{masks}
 use Rattle.sharing.specs.declared.masks.MaskGen.{MaskGen}
@@ -27,12 +27,12 @@ use Rattle.signature.proofs.Rows.{row-words, row-ext}
 
 -- one row: made in the region `row`, noise added there, summed
 pub image-made : (d l r row at to : ℕ) (g : MaskGen) (f a : ℕ → List ℕ) (s₀ s₁ s₂ s₃ : List ℕ) → d * 512 ≤ row → row + d * 512 ≤ to
-    → Wrote 0 row (d * 512) (build d (rowShare d l a (sub s₀ at (l * (d * 512))))) s₀ s₁
-    → Wrote (d * 512) row (d * 512) (addRep masks d g r f (sub s₁ row (d * 512))) s₁ s₂
-    → Wrote 0 to 512 (total d (sub s₂ row (d * 512))) s₂ s₃
-    → Summed d row to (noisedRow d l g r f a (sub s₀ at (l * (d * 512)))) s₀ s₃
+    → Wrote 0 row (d * 512) (build d (rowShare d l a (span s₀ at (l * (d * 512))))) s₀ s₁
+    → Wrote (d * 512) row (d * 512) (addRep masks d g r f (span s₁ row (d * 512))) s₁ s₂
+    → Wrote 0 to 512 (total d (span s₂ row (d * 512))) s₂ s₃
+    → Summed d row to (noisedRow d l g r f a (span s₀ at (l * (d * 512)))) s₀ s₃
 image-made d l r row at to g f a s₀ s₁ s₂ s₃ h k u v w =
-    let e : sub s₂ row (d * 512) ≡ noisedRow d l g r f a (sub s₀ at (l * (d * 512))) = v .new ∙ ap (addRep masks d g r f) (u .new) in
+    let e : span s₂ row (d * 512) ≡ noisedRow d l g r f a (span s₀ at (l * (d * 512))) = v .new ∙ ap (addRep masks d g r f) (u .new) in
     record {
       shares = w .front row (d * 512) (omega arith) k ∙ e;
       sum =
@@ -49,28 +49,28 @@ imaged d l r f g seed X i = total d (noisedRows d l r f g seed X i)
 
 -- the region `row` of s behind i rows
 abbrev pub RowsDone : ℕ → ℕ → ℕ → (ℕ → ℕ → List ℕ) → MaskGen → List ℕ → List ℕ → ℕ → List ℕ → ℕ → Type 0
-RowsDone d l r f g seed X row s i = (j : ℕ) → i ≡ suc j → sub s row (d * 512) ≡ noisedRows d l r f g seed X j
+RowsDone d l r f g seed X row s i = (j : ℕ) → i ≡ suc j → span s row (d * 512) ≡ noisedRows d l r f g seed X j
 
 pub rows-none : (d l r : ℕ) (f : ℕ → ℕ → List ℕ) (g : MaskGen) (seed X : List ℕ) (row : ℕ) (s : List ℕ) → RowsDone d l r f g seed X row s 0
 rows-none d l r f g seed X row s j e = absurd (omega (arith, e))
 
 module _ (d l r row at to : ℕ) (f : ℕ → ℕ → List ℕ) (g : MaskGen) (seed s₀ : List ℕ) (h : row + d * 512 ≤ at) (k : at + l * (d * 512) ≤ to) where
   module _ (i : ℕ) (x : MaskGen) (s t : List ℕ) (e : x ≡ skip masks d (i * r) g)
-      (u : Wrote (row + d * 512) to (i * 512) (build i (imaged d l r f g seed (sub s₀ at (l * (d * 512))))) s₀ s)
-      (v : Summed d row (to + i * 512) (noisedRow d l x r (f i) (rowEntry seed i) (sub s at (l * (d * 512)))) s t) where
-    row-here : noisedRow d l x r (f i) (rowEntry seed i) (sub s at (l * (d * 512))) ≡ noisedRows d l r f g seed (sub s₀ at (l * (d * 512))) i
+      (u : Wrote (row + d * 512) to (i * 512) (build i (imaged d l r f g seed (span s₀ at (l * (d * 512))))) s₀ s)
+      (v : Summed d row (to + i * 512) (noisedRow d l x r (f i) (rowEntry seed i) (span s at (l * (d * 512)))) s t) where
+    row-here : noisedRow d l x r (f i) (rowEntry seed i) (span s at (l * (d * 512))) ≡ noisedRows d l r f g seed (span s₀ at (l * (d * 512))) i
     row-here =
-        ap (λ (y : MaskGen). noisedRow d l y r (f i) (rowEntry seed i) (sub s at (l * (d * 512)))) e
+        ap (λ (y : MaskGen). noisedRow d l y r (f i) (rowEntry seed i) (span s at (l * (d * 512)))) e
         ∙ ap (noisedRow d l (skip masks d (i * r) g) r (f i) (rowEntry seed i)) (u .front at (l * (d * 512)) h k)
 
-    pub image-turn : Wrote (row + d * 512) to ((i + 1) * 512) (build (i + 1) (imaged d l r f g seed (sub s₀ at (l * (d * 512))))) s₀ t
+    pub image-turn : Wrote (row + d * 512) to ((i + 1) * 512) (build (i + 1) (imaged d l r f g seed (span s₀ at (l * (d * 512))))) s₀ t
     image-turn =
-        wrote-turn 512 i (imaged d l r f g seed (sub s₀ at (l * (d * 512)))) (omega arith) u (wrote-value (ap (total d) row-here) (v .sum))
+        wrote-turn 512 i (imaged d l r f g seed (span s₀ at (l * (d * 512)))) (omega arith) u (wrote-value (ap (total d) row-here) (v .sum))
 
-    pub rows-turn : RowsDone d l r f g seed (sub s₀ at (l * (d * 512))) row t (i + 1)
+    pub rows-turn : RowsDone d l r f g seed (span s₀ at (l * (d * 512))) row t (i + 1)
     rows-turn j o =
         let n : i ≡ j = omega (arith, o) in
-        v .shares ∙ row-here ∙ ap (noisedRows d l r f g seed (sub s₀ at (l * (d * 512)))) n
+        v .shares ∙ row-here ∙ ap (noisedRows d l r f g seed (span s₀ at (l * (d * 512)))) n
 
 -- all rows
 module _ (d k l r : ℕ) (f : ℕ → ℕ → List ℕ) (g : MaskGen) (seed A X : List ℕ) (power : d ≡ 2 ^ orderIndex d) (e : matrixOf k l seed ≡ some A) where
@@ -125,8 +125,8 @@ image-product d k l seed A xs e w =
     block-words (k * l) (i * l + m) A (matrix-words k l seed A e) (omega arith)) w)
 
 -- the vector of sharings, transformed in place, read as sharings
-pub transformed-there : (l d at : ℕ) (s₀ s : List ℕ) → Wrote 0 at (l * d * 512) (transformed (l * d) (sub s₀ at (l * d * 512))) s₀ s
-    → sub s at (l * (d * 512)) ≡ transformed (l * d) (sub s₀ at (l * (d * 512)))
+pub transformed-there : (l d at : ℕ) (s₀ s : List ℕ) → Wrote 0 at (l * d * 512) (transformed (l * d) (span s₀ at (l * d * 512))) s₀ s
+    → span s at (l * (d * 512)) ≡ transformed (l * d) (span s₀ at (l * (d * 512)))
 transformed-there l d at s₀ s u =
     let n : l * d * 512 ≡ l * (d * 512) = omega arith in
-    ap (λ (m : ℕ). sub s at m) (sym n) ∙ u .new ∙ ap (λ (m : ℕ). transformed (l * d) (sub s₀ at m)) n
+    ap (λ (m : ℕ). span s at m) (sym n) ∙ u .new ∙ ap (λ (m : ℕ). transformed (l * d) (span s₀ at m)) n

@@ -12,9 +12,9 @@ use Rattle.hash.specs.declared.params.Edition.{Edition}
 use Rattle.hash.specs.declared.params.Params.{Params}
 use Rattle.hash.specs.declared.params.Selected.{Selected}
 use Rattle.ring.specs.Uniform.{heldOf}
-use Rattle.sharing.specs.Blocks.{zeros}
-use Rattle.sharing.specs.Region.{sub}
-use Rattle.sharing.proofs.Regions.{length-sub}
+use Rattle.hash.specs.Lists.{zeros}
+use Rattle.sharing.specs.Region.{span}
+use Rattle.sharing.proofs.Regions.{length-span}
 use Rattle.signature.specs.Bits.{repack}
 use Rattle.sharing.specs.Masks.{maskStart}
 use Rattle.signature.specs.Checks.{both, workWords}
@@ -90,7 +90,7 @@ module _ (p : Params) (h : Small p) (seeds work : List ℕ) (w : length work ≡
   from-start : seedPart ≡ take (p .kappa / 8) seeds
   from-start = let e : p .kappa / 8 - 0 ≡ p .kappa / 8 = omega arith in ap (λ (m : ℕ). take m seeds) e
 
-  exactly : (b n : ℕ) → take (b + n - b) (drop b work) ≡ sub work b n
+  exactly : (b n : ℕ) → take (b + n - b) (drop b work) ≡ span work b n
   exactly b n = let e : b + n - b ≡ n = omega arith in ap (λ (m : ℕ). take m (drop b work)) e
 
   pub part-lengths : (out : ℕ) → out ≡ p .kappa / 8 + p .k * 448 + ((p .shares - 1) * (p .kappa / 8) + p .l * 3136)
@@ -100,7 +100,7 @@ module _ (p : Params) (h : Small p) (seeds work : List ℕ) (w : length work ≡
       let r = room p h (length work) w in
       let m = exactly a (p .k * 512) in
       let n = exactly (a + p .k * 512) (p .l * 512) in
-      ((ap length m ∙ length-sub work a (p .k * 512) (r .1), ap length n ∙ length-sub work (a + p .k * 512) (p .l * 512) (r .2)), (fits, low))
+      ((ap length m ∙ length-span work a (p .k * 512) (r .1), ap length n ∙ length-span work (a + p .k * 512) (p .l * 512) (r .2)), (fits, low))
     where
       fits : out ≡ length seedPart + p .k * 448 + (length sharesPart + p .l * 3136)
       fits = rw (from-start, ← seed-long p h seeds s, share-part p h seeds s, share-long p h seeds s) o

@@ -9,7 +9,7 @@ use Rattle.hash.specs.Params.{lookupOf}
 use Rattle.hash.specs.declared.params.Edition.{Edition}
 use Rattle.hash.specs.declared.params.Params.{Params}
 use Rattle.hash.specs.declared.params.Selected.{Selected}
-use Rattle.sharing.specs.Blocks.{zeros}
+use Rattle.hash.specs.Lists.{zeros}
 use Rattle.signature.specs.Keys.{keygenBytes, keygenOf}
 use Rattle.signature.specs.Checks.{workWords}
 use Rattle.signature.specs.KeyCalls.{outcome, keygenNo, keygenCall}

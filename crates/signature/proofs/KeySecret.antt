@@ -11,11 +11,12 @@ use Rattle.hash.proofs.Rows.{Rule}
 use Rattle.ring.specs.Words.{addW, subW, Words}
 use Rattle.ring.specs.Uniform.{sampleQ, heldOf}
 use Rattle.ring.proofs.Filled.{held-is, held-words}
-use Rattle.ring.proofs.Sums.{words-sub, add-comm, add-assoc, add-sub}
+use Rattle.ring.proofs.Sums.{words-zeros, words-sub, add-comm, add-assoc, add-sub}
 use Rattle.ring.proofs.Draws.{sampleQ-words}
-use Rattle.sharing.specs.Blocks.{zeros, block, build, sumOf, total, totals}
+use Rattle.hash.specs.Lists.{zeros}
+use Rattle.sharing.specs.Blocks.{block, build, sumOf, total, totals}
 use Rattle.sharing.specs.Masks.{maskStart}
-use Rattle.sharing.proofs.Lists.{zeros-words, block-words, block-left, build-ext, words-build, block-build}
+use Rattle.sharing.proofs.Lists.{block-words, block-left, build-ext, words-build, block-build}
 use Rattle.sharing.proofs.Built.{build-none, build-next, sum-one, sum-next, total-is, totals-are}
 use Rattle.sharing.proofs.Decode.{words-sum, total-build, totals-build}
 use Rattle.signature.specs.Bits.{repack}
@@ -43,7 +44,7 @@ module _ (r : ℕ → List ℕ) (good : (i : ℕ) → Words 512 (r i)) where
   -- what is added to the full share is added to the sum
   shift : (i : ℕ) (y z : List ℕ) → Words 512 y → Words 512 z → sumOf 512 (suc i) (shares (addW y z) r) ≡ addW (sumOf 512 (suc i) (shares y r)) z
   shift zero y z hy hz =
-      sum-one 512 (shares (addW y z) r) ∙ sym (add-assoc (zeros 512) y z (zeros-words 512) hy hz)
+      sum-one 512 (shares (addW y z) r) ∙ sym (add-assoc (zeros 512) y z (words-zeros 512) hy hz)
       ∙ ap (λ (t : List ℕ). addW t z) (sym (sum-one 512 (shares y r)))
   shift (suc i) y z hy hz =
       let S : List ℕ = sumOf 512 (suc i) (shares y r) in

@@ -12,7 +12,7 @@ use Rattle.ring.specs.Words.{q, Below}
 use Rattle.ring.specs.Round.{roundT}
 use Rattle.ring.specs.Uniform.{heldOf}
 use Rattle.sharing.specs.Blocks.{block, totals}
-use Rattle.sharing.specs.Region.{sub, Wrote}
+use Rattle.sharing.specs.Region.{span, Wrote}
 use Rattle.sharing.specs.Encoding.{skip, addNoise, zeroVector}
 use Rattle.sharing.specs.Masks.{masks}
 use Rattle.sharing.specs.Noise.{seedNoise}
@@ -30,7 +30,7 @@ use Rattle.signature.proofs.Product.{transformed-each}
 
 -- lines 5 to 8: a sum, rounded where it is
 pub rounded-made : (p : Params) (to : ℕ) (W s₀ s₁ s₂ : List ℕ) → p .shares * 512 + p .shares * 512 ≤ to
-    → SummedAll (p .shares) (p .k) (p .shares * 512) to W s₀ s₁ → Wrote 0 to (p .k * 512) (roundT (sub s₁ to (p .k * 512))) s₁ s₂
+    → SummedAll (p .shares) (p .k) (p .shares * 512) to W s₀ s₁ → Wrote 0 to (p .k * 512) (roundT (span s₁ to (p .k * 512))) s₁ s₂
     → Rounded p to W s₀ s₂
 rounded-made p to W s₀ s₁ s₂ h u v =
     record {
@@ -87,18 +87,18 @@ module _ (p : Params) (power : p .shares ≡ 2 ^ orderIndex (p .shares)) (coins 
       (hx : x ≡ skip masks (p .shares) (p .l + p .l * p .rep) g)
       (hb : b ≡ filled (matrixOf (p .k) (p .l) seed))
       (v : (A : List ℕ) → matrixOf (p .k) (p .l) seed ≡ some A
-      → Rounded p (atT (p .l) (p .shares)) (imageOf p rest x A (sub s₁ (atS (p .shares)) (p .l * (p .shares * 512)))) s₁ s₂) where
+      → Rounded p (atT (p .l) (p .shares)) (imageOf p rest x A (span s₁ (atS (p .shares)) (p .l * (p .shares * 512)))) s₁ s₂) where
     module _ (c : Bool) (yes : b ≡ true)
-        (hc : c ≡ filled (compressedOf (p .edition) (p .kappa / 8) shares (p .l) (p .shares) (sub s₂ (atS (p .shares)) (p .l * (p .shares * 512)))))
-        (w : (X : List ℕ) → compressedOf (p .edition) (p .kappa / 8) shares (p .l) (p .shares) (sub s₂ (atS (p .shares)) (p .l * (p .shares * 512))) ≡ some X
+        (hc : c ≡ filled (compressedOf (p .edition) (p .kappa / 8) shares (p .l) (p .shares) (span s₂ (atS (p .shares)) (p .l * (p .shares * 512)))))
+        (w : (X : List ℕ) → compressedOf (p .edition) (p .kappa / 8) shares (p .l) (p .shares) (span s₂ (atS (p .shares)) (p .l * (p .shares * 512))) ≡ some X
         → Wrote 0 (atX (p .k) (p .l) (p .shares)) (p .l * 512) X s₂ s₃) where
-      kept : sub s₂ (atS (p .shares)) (p .l * (p .shares * 512)) ≡ keyShares p coins g
+      kept : span s₂ (atS (p .shares)) (p .l * (p .shares * 512)) ≡ keyShares p coins g
       kept =
           let m = matrixOf (p .k) (p .l) seed in
           v (heldOf m .poly) (filled-some m (sym hb ∙ yes)) .vector .front (atS (p .shares)) (p .l * (p .shares * 512)) (omega arith) (omega arith)
           ∙ u .new ∙ shares-is
 
-      full : compressedOf (p .edition) (p .kappa / 8) shares (p .l) (p .shares) (sub s₂ (atS (p .shares)) (p .l * (p .shares * 512)))
+      full : compressedOf (p .edition) (p .kappa / 8) shares (p .l) (p .shares) (span s₂ (atS (p .shares)) (p .l * (p .shares * 512)))
           ≡ compressed p shares (keyShares p coins g)
       full = ap (compressedOf (p .edition) (p .kappa / 8) shares (p .l) (p .shares)) kept
 
@@ -110,7 +110,7 @@ module _ (p : Params) (power : p .shares ≡ 2 ^ orderIndex (p .shares)) (coins 
       key-made A X hA hX =
           let z = w X (full ∙ hX) in
           let r = v A hA in
-          let W : imageOf p rest x A (sub s₁ (atS (p .shares)) (p .l * (p .shares * 512))) ≡ maskedImage p (seeded p (p .ut) coins) g A =
+          let W : imageOf p rest x A (span s₁ (atS (p .shares)) (p .l * (p .shares * 512))) ≡ maskedImage p (seeded p (p .ut) coins) g A =
           ap (imageOf p rest x A) (u .new) ∙ ap (λ (t : List ℕ). imageOf p t x A (transformed (p .l * p .shares) (secretOf p coins g))) hr
           ∙ rows-are seed A x hA hx in
           record {

@@ -7,7 +7,7 @@ use native.Mathlib.Omega.{arith}
 use Rattle.hash.specs.Params.{orderIndex}
 use Rattle.hash.specs.declared.params.Params.{Params}
 use Rattle.ring.specs.Words.{Words}
-use Rattle.sharing.specs.Region.{sub, Wrote}
+use Rattle.sharing.specs.Region.{span, Wrote}
 use Rattle.sharing.specs.Encoding.{skip, addNoise, zeroVector}
 use Rattle.sharing.specs.Masks.{masks}
 use Rattle.sharing.specs.declared.masks.MaskGen.{MaskGen}
@@ -21,14 +21,14 @@ use Rattle.signature.proofs.Images.{image-product}
 -- l zero encodings, their noise, and the transform
 pub noise-made : (l d rep at : ℕ) (N : ℕ → ℕ → List ℕ) (g x : MaskGen) (s₀ s₁ s₂ s₃ : List ℕ) → x ≡ skip masks d l g
     → Wrote 0 at (l * (d * 512)) (zeroVector masks d g l) s₀ s₁
-    → Wrote (d * 512) at (l * (d * 512)) (addNoise masks d x l rep N (sub s₁ at (l * (d * 512)))) s₁ s₂
-    → Wrote 0 at (l * d * 512) (transformed (l * d) (sub s₂ at (l * d * 512))) s₂ s₃
+    → Wrote (d * 512) at (l * (d * 512)) (addNoise masks d x l rep N (span s₁ at (l * (d * 512)))) s₁ s₂
+    → Wrote 0 at (l * d * 512) (transformed (l * d) (span s₂ at (l * d * 512))) s₂ s₃
     → Wrote (d * 512) at (l * (d * 512)) (transformed (l * d) (addNoise masks d (skip masks d l g) l rep N (zeroVector masks d g l))) s₀ s₃
 noise-made l d rep at N g x s₀ s₁ s₂ s₃ e u v w =
     let n : l * d * 512 ≡ l * (d * 512) = omega arith in
-    let t : Wrote 0 at (l * (d * 512)) (transformed (l * d) (sub s₂ at (l * (d * 512)))) s₂ s₃ =
-    subst (λ (m : ℕ). Wrote 0 at m (transformed (l * d) (sub s₂ at m)) s₂ s₃) n w in
-    let f : sub s₂ at (l * (d * 512)) ≡ addNoise masks d (skip masks d l g) l rep N (zeroVector masks d g l) =
+    let t : Wrote 0 at (l * (d * 512)) (transformed (l * d) (span s₂ at (l * (d * 512)))) s₂ s₃ =
+    subst (λ (m : ℕ). Wrote 0 at m (transformed (l * d) (span s₂ at m)) s₂ s₃) n w in
+    let f : span s₂ at (l * (d * 512)) ≡ addNoise masks d (skip masks d l g) l rep N (zeroVector masks d g l) =
     v .new ∙ ap (addNoise masks d x l rep N) (u .new) ∙ ap (λ (h : MaskGen). addNoise masks d h l rep N (zeroVector masks d g l)) e in
     wrote-over (wrote-wide (omega arith) u) (wrote-over v (wrote-wide (omega arith) (wrote-value (ap (transformed (l * d)) f) t)))
 

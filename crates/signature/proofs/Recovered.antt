@@ -11,11 +11,11 @@ use Rattle.ring.specs.Round.{scaledT}
 use Rattle.ring.proofs.Sums.{words-sub}
 use Rattle.ring.proofs.Theorems.{product}
 use Rattle.sharing.specs.Blocks.{block, build, sumOf}
-use Rattle.sharing.specs.Region.{sub, put, Wrote}
+use Rattle.sharing.specs.Region.{span, put, Wrote}
 use Rattle.sharing.proofs.Lists.{inside, block-words}
 use Rattle.sharing.proofs.Built.{block-of, build-one}
 use Rattle.sharing.proofs.Decode.{sum-ext}
-use Rattle.sharing.proofs.Regions.{sub-words, wrote-put, wrote-value, wrote-over}
+use Rattle.sharing.proofs.Regions.{span-words, wrote-put, wrote-value, wrote-over}
 use Rattle.signature.specs.Masked.{rowShare, transformed}
 use Rattle.signature.specs.Matrix.{matrixOf, rowEntry}
 use Rattle.signature.specs.Recover.{productRow, recoveredRow, scaledBy, recoveredBy}
@@ -24,15 +24,15 @@ use Rattle.signature.proofs.Product.{row-share}
 
 -- the row of A z made at `to`, and 2^42 c t, which is r, subtracted there
 pub recover-made : (l to at : ℕ) (a : ℕ → List ℕ) (C t r s₀ s₁ s₂ : List ℕ) → to + 512 ≤ length s₀
-    → Wrote 0 to 512 (build 1 (rowShare 1 l a (sub s₀ at (l * 512)))) s₀ s₁ → r ≡ scaledBy C t → s₂ ≡ put s₁ to 512 (subW (sub s₁ to 512) r)
-    → Wrote 0 to 512 (recoveredBy l a (sub s₀ at (l * 512)) C t) s₀ s₂
+    → Wrote 0 to 512 (build 1 (rowShare 1 l a (span s₀ at (l * 512)))) s₀ s₁ → r ≡ scaledBy C t → s₂ ≡ put s₁ to 512 (subW (span s₁ to 512) r)
+    → Wrote 0 to 512 (recoveredBy l a (span s₀ at (l * 512)) C t) s₀ s₂
 unfolding recoveredBy
 recover-made l to at a C t r s₀ s₁ s₂ h u e f =
     let n = u .long in
     let k : to + 512 ≤ length s₁ = omega (arith, n, h) in
-    let X = subW (sub s₁ to 512) r in
-    let w : Words 512 X = words-sub (sub s₁ to 512) r (sub-words s₁ to 512 k (u .low)) in
-    let g : X ≡ subW (rowShare 1 l a (sub s₀ at (l * 512)) 0) (scaledBy C t) = ap (λ (y : List ℕ). subW y r) (u .new ∙ build-one (rowShare 1 l a (sub s₀ at (l * 512)))) ∙ ap (subW (rowShare 1 l a (sub s₀ at (l * 512)) 0)) e in
+    let X = subW (span s₁ to 512) r in
+    let w : Words 512 X = words-sub (span s₁ to 512) r (span-words s₁ to 512 k (u .low)) in
+    let g : X ≡ subW (rowShare 1 l a (span s₀ at (l * 512)) 0) (scaledBy C t) = ap (λ (y : List ℕ). subW y r) (u .new ∙ build-one (rowShare 1 l a (span s₀ at (l * 512)))) ∙ ap (subW (rowShare 1 l a (span s₀ at (l * 512)) 0)) e in
     wrote-over u (wrote-value g (wrote-put to 512 X s₁ s₂ k (w .long) (u .low) (w .low) f))
 
 -- row i, of the matrix of a seed, z and c below q

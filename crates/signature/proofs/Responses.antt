@@ -8,7 +8,7 @@ use Rattle.ring.specs.Words.{addW, Words}
 use Rattle.ring.specs.Transform.{ntt, intt, pointwise, mul}
 use Rattle.ring.proofs.Theorems.{ntt-words, intt-words, intt-ntt, mul-words, times-back}
 use Rattle.sharing.specs.Blocks.{block, build, totals, each}
-use Rattle.sharing.specs.Region.{sub, Wrote}
+use Rattle.sharing.specs.Region.{span, Wrote}
 use Rattle.sharing.specs.Encoding.{skip, refreshed}
 use Rattle.sharing.specs.Masks.{masks}
 use Rattle.sharing.specs.declared.masks.MaskGen.{MaskGen}
@@ -26,30 +26,30 @@ use Rattle.signature.specs.Sign.{maskedResponse}
 -- share by share
 module _ (c : List ℕ) (d a b : ℕ) (s₀ : List ℕ) (h : a + d * 512 ≤ b) where
   pub answer-turn : (j : ℕ) (s t p : List ℕ) → j < d
-      → Wrote 0 b (j * 512) (build j (answered c (sub s₀ a (d * 512)) (sub s₀ b (d * 512)))) s₀ s
-      → p ≡ addW (intt (pointwise c (sub s (a + j * 512) 512))) (sub s (b + j * 512) 512)
+      → Wrote 0 b (j * 512) (build j (answered c (span s₀ a (d * 512)) (span s₀ b (d * 512)))) s₀ s
+      → p ≡ addW (intt (pointwise c (span s (a + j * 512) 512))) (span s (b + j * 512) 512)
       → Wrote 0 (b + j * 512) 512 p s t
-      → Wrote 0 b ((j + 1) * 512) (build (j + 1) (answered c (sub s₀ a (d * 512)) (sub s₀ b (d * 512)))) s₀ t
+      → Wrote 0 b ((j + 1) * 512) (build (j + 1) (answered c (span s₀ a (d * 512)) (span s₀ b (d * 512)))) s₀ t
   answer-turn j s t p l u e v =
-      let f = answered c (sub s₀ a (d * 512)) (sub s₀ b (d * 512)) in
-      let x : sub s (a + j * 512) 512 ≡ block 512 j (sub s₀ a (d * 512)) = source 0 512 d a j s₀ s l b (j * 512) (build j f) (omega arith) h u in
-      let y : sub s (b + j * 512) 512 ≡ block 512 j (sub s₀ b (d * 512)) = block-rest 0 512 d b j s₀ s l (build j f) (omega arith) u in
+      let f = answered c (span s₀ a (d * 512)) (span s₀ b (d * 512)) in
+      let x : span s (a + j * 512) 512 ≡ block 512 j (span s₀ a (d * 512)) = source 0 512 d a j s₀ s l b (j * 512) (build j f) (omega arith) h u in
+      let y : span s (b + j * 512) 512 ≡ block 512 j (span s₀ b (d * 512)) = block-rest 0 512 d b j s₀ s l (build j f) (omega arith) u in
       wrote-turn 512 j f (omega arith) u (wrote-value (cc (e, x, y)) v)
 
 -- polynomial by polynomial
 module _ (c : List ℕ) (l d a b : ℕ) (s₀ : List ℕ) (h : a + l * (d * 512) ≤ b) where
   pub answers-turn : (i : ℕ) (s t : List ℕ) → i < l
-      → Wrote 0 b (i * (d * 512)) (build i (answeredAt d c (sub s₀ a (l * (d * 512))) (sub s₀ b (l * (d * 512))))) s₀ s
-      → Wrote 0 (b + i * (d * 512)) (d * 512) (build d (answered c (sub s (a + i * (d * 512)) (d * 512)) (sub s (b + i * (d * 512)) (d * 512)))) s t
-      → Wrote 0 b ((i + 1) * (d * 512)) (build (i + 1) (answeredAt d c (sub s₀ a (l * (d * 512))) (sub s₀ b (l * (d * 512))))) s₀ t
+      → Wrote 0 b (i * (d * 512)) (build i (answeredAt d c (span s₀ a (l * (d * 512))) (span s₀ b (l * (d * 512))))) s₀ s
+      → Wrote 0 (b + i * (d * 512)) (d * 512) (build d (answered c (span s (a + i * (d * 512)) (d * 512)) (span s (b + i * (d * 512)) (d * 512)))) s t
+      → Wrote 0 b ((i + 1) * (d * 512)) (build (i + 1) (answeredAt d c (span s₀ a (l * (d * 512))) (span s₀ b (l * (d * 512))))) s₀ t
   answers-turn i s t g u v =
-      let f = answeredAt d c (sub s₀ a (l * (d * 512))) (sub s₀ b (l * (d * 512))) in
-      let x : sub s (a + i * (d * 512)) (d * 512) ≡ block (d * 512) i (sub s₀ a (l * (d * 512))) =
+      let f = answeredAt d c (span s₀ a (l * (d * 512))) (span s₀ b (l * (d * 512))) in
+      let x : span s (a + i * (d * 512)) (d * 512) ≡ block (d * 512) i (span s₀ a (l * (d * 512))) =
       source 0 (d * 512) l a i s₀ s g b (i * (d * 512)) (build i f) (omega arith) h u in
-      let y : sub s (b + i * (d * 512)) (d * 512) ≡ block (d * 512) i (sub s₀ b (l * (d * 512))) =
+      let y : span s (b + i * (d * 512)) (d * 512) ≡ block (d * 512) i (span s₀ b (l * (d * 512))) =
       block-rest 0 (d * 512) l b i s₀ s g (build i f) (omega arith) u in
-      wrote-turn (d * 512) i f (omega arith) u (wrote-value (ap (λ (X : List ℕ). build d (answered c X (sub s (b + i * (d * 512)) (d * 512)))) x
-      ∙ ap (λ (Y : List ℕ). build d (answered c (block (d * 512) i (sub s₀ a (l * (d * 512)))) Y)) y) v)
+      wrote-turn (d * 512) i f (omega arith) u (wrote-value (ap (λ (X : List ℕ). build d (answered c X (span s (b + i * (d * 512)) (d * 512)))) x
+      ∙ ap (λ (Y : List ℕ). build d (answered c (block (d * 512) i (span s₀ a (l * (d * 512)))) Y)) y) v)
 
 -- by the transform it is c s + r
 module _ (c : List ℕ) (wc : Words 512 c) (d : ℕ) where
@@ -86,19 +86,19 @@ back-there n xs w =
     ∙ blocks-all 512 n xs (w .long)
 
 pub renew-made : (l d a b : ℕ) (g x : MaskGen) (s₀ s₁ s₂ s₃ : List ℕ) → d * 512 ≤ a → a + l * (d * 512) ≤ b → x ≡ skip masks d l g
-    → Wrote (d * 512) a (l * (d * 512)) (refreshed masks d g l (sub s₀ a (l * (d * 512)))) s₀ s₁
-    → Wrote 0 b (l * d * 512) (untransformed (l * d) (sub s₁ b (l * d * 512))) s₁ s₂
-    → Wrote (d * 512) b (l * (d * 512)) (refreshed masks d x l (sub s₂ b (l * (d * 512)))) s₂ s₃
+    → Wrote (d * 512) a (l * (d * 512)) (refreshed masks d g l (span s₀ a (l * (d * 512)))) s₀ s₁
+    → Wrote 0 b (l * d * 512) (untransformed (l * d) (span s₁ b (l * d * 512))) s₁ s₂
+    → Wrote (d * 512) b (l * (d * 512)) (refreshed masks d x l (span s₂ b (l * (d * 512)))) s₂ s₃
     → Renewed l d a b g s₀ s₃
 renew-made l d a b g x s₀ s₁ s₂ s₃ h k e u v w =
     let L = l * (d * 512) in
     let n : l * d * 512 ≡ l * (d * 512) = omega arith in
-    let t : Wrote 0 b (l * (d * 512)) (untransformed (l * d) (sub s₁ b (l * (d * 512)))) s₁ s₂ =
-    subst (λ (m : ℕ). Wrote 0 b m (untransformed (l * d) (sub s₁ b m)) s₁ s₂) n v in
+    let t : Wrote 0 b (l * (d * 512)) (untransformed (l * d) (span s₁ b (l * (d * 512)))) s₁ s₂ =
+    subst (λ (m : ℕ). Wrote 0 b m (untransformed (l * d) (span s₁ b m)) s₁ s₂) n v in
     record {
       key = w .front a L h k ∙ t .front a L (omega arith) k ∙ u .new;
       noise =
-          w .new ∙ ap (λ (y : MaskGen). refreshed masks d y l (sub s₂ b (l * (d * 512)))) e
+          w .new ∙ ap (λ (y : MaskGen). refreshed masks d y l (span s₂ b (l * (d * 512)))) e
           ∙ ap (refreshed masks d (skip masks d l g) l) (t .new ∙ ap (untransformed (l * d)) (u .behind b L (omega arith) k));
       front = λ (o m : ℕ) (i : d * 512 ≤ o) (j : o + m ≤ a).
           w .front o m i (omega arith) ∙ t .front o m (omega arith) (omega arith) ∙ u .front o m i j;
@@ -112,25 +112,25 @@ renew-made l d a b g x s₀ s₁ s₂ s₃ h k e u v w =
 
 pub respond-made : (k l d : ℕ) (c : List ℕ) (g x : MaskGen) (s₀ s₁ s₂ s₃ s₄ : List ℕ) → x ≡ skip masks d (l + l) g
     → Renewed l d (atS d) (atR l d) g s₀ s₁
-    → Wrote 0 (atR l d) (l * (d * 512)) (maskedResponse d l c (sub s₁ (atS d) (l * (d * 512))) (sub s₁ (atR l d) (l * (d * 512)))) s₁ s₂
-    → Wrote (d * 512) (atR l d) (l * (d * 512)) (refreshed masks d x l (sub s₂ (atR l d) (l * (d * 512)))) s₂ s₃
-    → Wrote 0 (atX k l d) (l * 512) (totals l d (sub s₃ (atR l d) (l * (d * 512)))) s₃ s₄
+    → Wrote 0 (atR l d) (l * (d * 512)) (maskedResponse d l c (span s₁ (atS d) (l * (d * 512))) (span s₁ (atR l d) (l * (d * 512)))) s₁ s₂
+    → Wrote (d * 512) (atR l d) (l * (d * 512)) (refreshed masks d x l (span s₂ (atR l d) (l * (d * 512)))) s₂ s₃
+    → Wrote 0 (atX k l d) (l * 512) (totals l d (span s₃ (atR l d) (l * (d * 512)))) s₃ s₄
     → Responded k l d c g s₀ s₄
 respond-made k l d c g x s₀ s₁ s₂ s₃ s₄ e n u v w =
     let L = l * (d * 512) in
-    let S = sub s₀ (atS d) (l * (d * 512)) in
+    let S = span s₀ (atS d) (l * (d * 512)) in
     let m : l * d * 512 ≡ l * (d * 512) = omega arith in
     record {
       key =
           w .front (atS d) L (omega arith) (omega arith) ∙ v .front (atS d) L (omega arith) (omega arith)
           ∙ u .front (atS d) L (omega arith) (omega arith) ∙ n .key;
-      shares = λ (r : List ℕ) (wr : Words (l * (d * 512)) r) (f : sub s₀ (atR l d) (l * (d * 512)) ≡ transformed (l * d) r).
-          let b : untransformed (l * d) (sub s₀ (atR l d) (l * (d * 512))) ≡ r =
+      shares = λ (r : List ℕ) (wr : Words (l * (d * 512)) r) (f : span s₀ (atR l d) (l * (d * 512)) ≡ transformed (l * d) r).
+          let b : untransformed (l * d) (span s₀ (atR l d) (l * (d * 512))) ≡ r =
           ap (untransformed (l * d)) f ∙ back-there (l * d) r (subst (λ (o : ℕ). Words o r) (sym m) wr) in
           w .front (atR l d) L (omega arith) (omega arith) ∙ v .new
-          ∙ ap (λ (y : MaskGen). refreshed masks d y l (sub s₂ (atR l d) (l * (d * 512)))) e
+          ∙ ap (λ (y : MaskGen). refreshed masks d y l (span s₂ (atR l d) (l * (d * 512)))) e
           ∙ ap (refreshed masks d (skip masks d (l + l) g) l) (u .new
-          ∙ ap (λ (X : List ℕ). maskedResponse d l c X (sub s₁ (atR l d) (l * (d * 512)))) (n .key)
+          ∙ ap (λ (X : List ℕ). maskedResponse d l c X (span s₁ (atR l d) (l * (d * 512)))) (n .key)
           ∙ ap (maskedResponse d l c (refreshed masks d g l S)) (n .noise ∙ ap (refreshed masks d (skip masks d l g) l) b));
       response = w .new ∙ ap (totals l d) (sym (w .front (atR l d) L (omega arith) (omega arith)));
       row =

@@ -8,28 +8,29 @@ use native.Mathlib.Omega.{arith}
 use Rattle.ring.specs.Words.{addW, Words}
 use Rattle.ring.specs.Transform.{ntt, intt, pointwise}
 use Rattle.ring.proofs.Theorems.{intt-words}
-use Rattle.sharing.specs.Blocks.{zeros, block, build, sumOf}
-use Rattle.sharing.specs.Region.{sub, Wrote}
+use Rattle.hash.specs.Lists.{zeros}
+use Rattle.sharing.specs.Blocks.{block, build, sumOf}
+use Rattle.sharing.specs.Region.{span, Wrote}
 use Rattle.sharing.proofs.Lists.{build-ext, block-build, build-zeros, words-build}
 use Rattle.sharing.proofs.Built.{sum-next}
 use Rattle.sharing.proofs.Decode.{words-sum, sum-ext}
 use Rattle.sharing.proofs.Loops.{sum-start}
-use Rattle.sharing.proofs.Regions.{block-sub, wrote-value, wrote-over, wrote-turn}
+use Rattle.sharing.proofs.Regions.{block-span, wrote-value, wrote-over, wrote-turn}
 use Rattle.sharing.proofs.Turns.{block-rest}
 use Rattle.signature.specs.Masked.{rowShare, untransformed, accrued, rowSum}
 
 -- products added to the shares at `to`
 module _ (a : List ℕ) (d to at : ℕ) (s₀ : List ℕ) (h : to + d * 512 ≤ at) where
   pub accrue-turn : (j : ℕ) (s t x y p : List ℕ) → j < d
-      → Wrote 0 to (j * 512) (build j (accrued a (sub s₀ to (d * 512)) (sub s₀ at (d * 512)))) s₀ s
-      → x ≡ sub s (at + j * 512) 512 → y ≡ sub s (to + j * 512) 512 → p ≡ addW y (pointwise a x)
+      → Wrote 0 to (j * 512) (build j (accrued a (span s₀ to (d * 512)) (span s₀ at (d * 512)))) s₀ s
+      → x ≡ span s (at + j * 512) 512 → y ≡ span s (to + j * 512) 512 → p ≡ addW y (pointwise a x)
       → Wrote 0 (to + j * 512) 512 p s t
-      → Wrote 0 to ((j + 1) * 512) (build (j + 1) (accrued a (sub s₀ to (d * 512)) (sub s₀ at (d * 512)))) s₀ t
+      → Wrote 0 to ((j + 1) * 512) (build (j + 1) (accrued a (span s₀ to (d * 512)) (span s₀ at (d * 512)))) s₀ t
   accrue-turn j s t x y p l u ex ey ep v =
-      let f = accrued a (sub s₀ to (d * 512)) (sub s₀ at (d * 512)) in
-      let b : sub s (to + j * 512) 512 ≡ block 512 j (sub s₀ to (d * 512)) = block-rest 0 512 d to j s₀ s l (build j f) (omega arith) u in
-      let e : sub s (at + j * 512) 512 ≡ sub s₀ (at + j * 512) 512 = u .behind (at + j * 512) 512 (omega arith) (omega arith) in
-      let g : block 512 j (sub s₀ at (d * 512)) ≡ sub s₀ (at + j * 512) 512 = block-sub 512 d j s₀ at l in
+      let f = accrued a (span s₀ to (d * 512)) (span s₀ at (d * 512)) in
+      let b : span s (to + j * 512) 512 ≡ block 512 j (span s₀ to (d * 512)) = block-rest 0 512 d to j s₀ s l (build j f) (omega arith) u in
+      let e : span s (at + j * 512) 512 ≡ span s₀ (at + j * 512) 512 = u .behind (at + j * 512) 512 (omega arith) (omega arith) in
+      let g : block 512 j (span s₀ at (d * 512)) ≡ span s₀ (at + j * 512) 512 = block-span 512 d j s₀ at l in
       wrote-turn 512 j f (omega arith) u (wrote-value (cc (ex, ey, ep, b, e, g)) v)
 
 -- ---- the sums over the columns
@@ -52,10 +53,10 @@ sum-more d a X m j =
 module _ (d l to at : ℕ) (a : ℕ → List ℕ) (h : to + d * 512 ≤ at) where
   -- zero is the sum of no columns
   pub row-first : (s s₀ : List ℕ) → Wrote 0 to (d * 512) (zeros (d * 512)) s s₀
-      → Wrote 0 to (d * 512) (build d (rowSum d a (sub s₀ at (l * (d * 512))) 0)) s₀ s₀
+      → Wrote 0 to (d * 512) (build d (rowSum d a (span s₀ at (l * (d * 512))) 0)) s₀ s₀
   row-first s s₀ z =
       record {
-        new = z .new ∙ sym (sum-none d a (sub s₀ at (l * (d * 512))));
+        new = z .new ∙ sym (sum-none d a (span s₀ at (l * (d * 512))));
         front = λ (b j : ℕ) m n. refl;
         behind = λ (b j : ℕ) m n. refl;
         long = refl;
@@ -64,39 +65,39 @@ module _ (d l to at : ℕ) (a : ℕ → List ℕ) (h : to + d * 512 ≤ at) wher
 
   -- a column more; b is the transform of its entry
   pub row-turn : (m : ℕ) (b s₀ s t : List ℕ) → m < l → b ≡ ntt (a m)
-      → Wrote 0 to (d * 512) (build d (rowSum d a (sub s₀ at (l * (d * 512))) m)) s₀ s
-      → Wrote 0 to (d * 512) (build d (accrued b (sub s to (d * 512)) (sub s (at + m * (d * 512)) (d * 512)))) s t
-      → Wrote 0 to (d * 512) (build d (rowSum d a (sub s₀ at (l * (d * 512))) (m + 1))) s₀ t
+      → Wrote 0 to (d * 512) (build d (rowSum d a (span s₀ at (l * (d * 512))) m)) s₀ s
+      → Wrote 0 to (d * 512) (build d (accrued b (span s to (d * 512)) (span s (at + m * (d * 512)) (d * 512)))) s t
+      → Wrote 0 to (d * 512) (build d (rowSum d a (span s₀ at (l * (d * 512))) (m + 1))) s₀ t
   row-turn m b s₀ s t g e u v =
-      let X = sub s₀ at (l * (d * 512)) in
-      let Y = sub s (at + m * (d * 512)) (d * 512) in
+      let X = span s₀ at (l * (d * 512)) in
+      let Y = span s (at + m * (d * 512)) (d * 512) in
       let y : Y ≡ block (d * 512) m X =
-      u .behind (at + m * (d * 512)) (d * 512) (omega arith) (omega arith) ∙ sym (block-sub (d * 512) l m s₀ at g) in
-      let r : (j : ℕ) → j < d → accrued b (sub s to (d * 512)) Y j ≡ rowSum d a X (m + 1) j =
+      u .behind (at + m * (d * 512)) (d * 512) (omega arith) (omega arith) ∙ sym (block-span (d * 512) l m s₀ at g) in
+      let r : (j : ℕ) → j < d → accrued b (span s to (d * 512)) Y j ≡ rowSum d a X (m + 1) j =
       λ (j : ℕ) (i : j < d).
-      let x : block 512 j (sub s to (d * 512)) ≡ rowSum d a X m j =
+      let x : block 512 j (span s to (d * 512)) ≡ rowSum d a X m j =
       ap (block 512 j) (u .new) ∙ block-build 512 d j (rowSum d a X m) (λ (k : ℕ) (n : k < d). sum-words d a X m k .long) i in
       let f = sum-more d a X m j in
       cc (x, y, e, f) in
-      wrote-over u (wrote-value (build-ext d (accrued b (sub s to (d * 512)) Y) (rowSum d a X (m + 1)) r) v)
+      wrote-over u (wrote-value (build-ext d (accrued b (span s to (d * 512)) Y) (rowSum d a X (m + 1)) r) v)
 
   -- all columns; s is the buffer before it was cleared
   pub row-all : (m : ℕ) (s s₀ t : List ℕ) → m ≡ l → Wrote 0 to (d * 512) (zeros (d * 512)) s s₀
-      → Wrote 0 to (d * 512) (build d (rowSum d a (sub s₀ at (l * (d * 512))) m)) s₀ t
-      → Wrote 0 to (d * 512) (build d (rowSum d a (sub s at (l * (d * 512))) l)) s t
+      → Wrote 0 to (d * 512) (build d (rowSum d a (span s₀ at (l * (d * 512))) m)) s₀ t
+      → Wrote 0 to (d * 512) (build d (rowSum d a (span s at (l * (d * 512))) l)) s t
   row-all m s s₀ t e z u =
-      let x : sub s₀ at (l * (d * 512)) ≡ sub s at (l * (d * 512)) = z .behind at (l * (d * 512)) (omega arith) h in
-      wrote-over z (wrote-value (ap (λ (X : List ℕ). build d (rowSum d a X m)) x ∙ ap (λ (n : ℕ). build d (rowSum d a (sub s at (l * (d * 512))) n)) e) u)
+      let x : span s₀ at (l * (d * 512)) ≡ span s at (l * (d * 512)) = z .behind at (l * (d * 512)) (omega arith) h in
+      wrote-over z (wrote-value (ap (λ (X : List ℕ). build d (rowSum d a X m)) x ∙ ap (λ (n : ℕ). build d (rowSum d a (span s at (l * (d * 512))) n)) e) u)
 
 -- turned back
 pub row-back : (d l to : ℕ) (a : ℕ → List ℕ) (X s₀ s t : List ℕ) → Wrote 0 to (d * 512) (build d (rowSum d a X l)) s₀ s
-    → Wrote 0 to (d * 512) (untransformed d (sub s to (d * 512))) s t → Wrote 0 to (d * 512) (build d (rowShare d l a X)) s₀ t
+    → Wrote 0 to (d * 512) (untransformed d (span s to (d * 512))) s t → Wrote 0 to (d * 512) (build d (rowShare d l a X)) s₀ t
 unfolding untransformed rowShare rowSum
 row-back d l to a X s₀ s t u v =
-    let r : (j : ℕ) → j < d → intt (block 512 j (sub s to (d * 512))) ≡ rowShare d l a X j =
+    let r : (j : ℕ) → j < d → intt (block 512 j (span s to (d * 512))) ≡ rowShare d l a X j =
     λ (j : ℕ) (i : j < d).
     ap intt (ap (block 512 j) (u .new) ∙ block-build 512 d j (rowSum d a X l) (λ (k : ℕ) (n : k < d). sum-words d a X l k .long) i) in
-    wrote-over u (wrote-value (build-ext d (λ (j : ℕ). intt (block 512 j (sub s to (d * 512)))) (rowShare d l a X) r) v)
+    wrote-over u (wrote-value (build-ext d (λ (j : ℕ). intt (block 512 j (span s to (d * 512)))) (rowShare d l a X) r) v)
 
 -- ---- the shares of a row are words, and depend on its entries only
 

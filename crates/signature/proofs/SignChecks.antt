@@ -21,16 +21,16 @@ use Rattle.signature.proofs.Asked.{sizes}
 
 -- ---- the two parts
 
-joined : (a b c : Bool) (rest : ℕ) → ask 3 a (ask 4 b (ask 5 c rest)) ≡ pick (eqb (ask 3 a (ask 4 b (ask 5 c 0))) 0) rest (ask 3 a (ask 4 b (ask 5 c 0)))
-joined true true true rest = refl
-joined true true false rest = refl
-joined true false c rest = refl
-joined false b c rest = refl
+in-two : (a b c : Bool) (rest : ℕ) → ask 3 a (ask 4 b (ask 5 c rest)) ≡ pick (eqb (ask 3 a (ask 4 b (ask 5 c 0))) 0) rest (ask 3 a (ask 4 b (ask 5 c 0)))
+in-two true true true rest = refl
+in-two true true false rest = refl
+in-two true false c rest = refl
+in-two false b c rest = refl
 
 module _ (p : Params) (key : Key) (n : ℕ) (msg : List ℕ) (T : Coins) (out work : List ℕ) where
   parts : signNo p key n msg T out work ≡ pick (eqb (keyNo p key) 0) (callNo p n msg T out work) (keyNo p key)
   unfolding signNo keyNo callNo
-  parts = joined (keySized p key) (keyGood p key) (sharesGood p key) (callNo p n msg T out work)
+  parts = in-two (keySized p key) (keyGood p key) (sharesGood p key) (callNo p n msg T out work)
 
   module _ (k : ℕ) (e : k ≡ keyNo p key) where
     pub no-key : (k ≡ 0 → ⊥) → k ≡ signNo p key n msg T out work

@@ -10,14 +10,13 @@ use borrow.Author.Tests.{ne-eqb, le-leb, lt-leb}
 use lib.Dec.{leb}
 use lib.ListN.{length, take, drop}
 use lib.Seq.{length-take-le, take-all, take-take, take-add, drop-at}
-use Rattle.hash.specs.Lists.{pick}
+use Rattle.hash.specs.Lists.{zeros, pick}
 use Rattle.hash.specs.Params.{lookupOf}
 use Rattle.hash.specs.declared.params.Edition.{Edition}
 use Rattle.hash.specs.declared.params.Params.{Params}
 use Rattle.hash.specs.declared.params.Selected.{Selected}
 use Rattle.ring.specs.Words.{Below}
 use Rattle.ring.proofs.Sums.{all-below}
-use Rattle.sharing.specs.Blocks.{zeros}
 use Rattle.signature.specs.Attempt.{keyFrom}
 use Rattle.signature.specs.Bits.{repack}
 use Rattle.signature.specs.Checks.{both}

@@ -10,8 +10,8 @@ use mir.Syntax.{w64}
 use mir.Val.{Fits}
 use Rattle.hash.specs.declared.params.Params.{Params}
 use Rattle.ring.specs.Words.{Words}
-use Rattle.sharing.specs.Blocks.{zeros}
-use Rattle.sharing.proofs.Lists.{zeros-words}
+use Rattle.hash.specs.Lists.{zeros}
+use Rattle.ring.proofs.Sums.{words-zeros}
 use Rattle.sharing.specs.Noise.{noiseBytes}
 use Rattle.sharing.proofs.NoisePlaces.{noise-bytes}
 use Rattle.signature.specs.Checks.{workWords}
@@ -19,7 +19,7 @@ use Rattle.signature.specs.Keygen.{atS, atT, atX, Small}
 use Rattle.signature.specs.Keys.{keygenBytes, noisePart, sharePart}
 
 pub cleared : (xs ys : List ℕ) → ys ≡ zeros (length xs) → Words (length xs) ys
-cleared xs ys e = subst (Words (length xs)) (sym e) (zeros-words (length xs))
+cleared xs ys e = subst (Words (length xs)) (sym e) (words-zeros (length xs))
 
 pub fits-low : (x : ℕ) → x ≤ 262400 → Fits w64 x
 fits-low x h = record { fits = omega arith }

@@ -13,7 +13,7 @@ use Rattle.ring.specs.Words.{q, addW, Below, Words}
 use Rattle.ring.specs.Transform.{intt, pointwise}
 use Rattle.ring.specs.Round.{roundW, residues}
 use Rattle.sharing.specs.Blocks.{block, build, totals}
-use Rattle.sharing.specs.Region.{sub}
+use Rattle.sharing.specs.Region.{span}
 use Rattle.sharing.specs.Encoding.{skip, refreshed}
 use Rattle.sharing.specs.Masks.{masks}
 use Rattle.sharing.specs.declared.masks.MaskGen.{MaskGen}
@@ -45,20 +45,20 @@ atR l d = atS d + l * (d * 512)
 
 -- lines 4 and 5 with the noise N, zero encodings from g on, whatever the matrix is: r in the transform domain, and s as it was
 pub record Begun (p : Params) (N : Noise) (g : MaskGen) (s ys : List ℕ) : Type 0 where
-  pub noise : sub ys (atR (p .l) (p .shares)) (p .l * (p .shares * 512)) ≡ transformed (p .l * p .shares) (maskedNoise p N g)
-  pub key : sub ys (atS (p .shares)) (p .l * (p .shares * 512)) ≡ s
+  pub noise : span ys (atR (p .l) (p .shares)) (p .l * (p .shares * 512)) ≡ transformed (p .l * p .shares) (maskedNoise p N g)
+  pub key : span ys (atS (p .shares)) (p .l * (p .shares * 512)) ≡ s
 
 -- the d shares of the last row of w behind line 7, as they were added up: they stand behind the zero encoding
 abbrev pub LastRow : Params → Noise → MaskGen → List ℕ → List ℕ → Type 0
 LastRow p N g A ys =
-    (i : ℕ) → p .k ≡ suc i → sub ys (p .shares * 512) (p .shares * 512) ≡ block (p .shares * 512) i (maskedImage p N g A)
+    (i : ℕ) → p .k ≡ suc i → span ys (p .shares * 512) (p .shares * 512) ≡ block (p .shares * 512) i (maskedImage p N g A)
 
 -- lines 4 to 8: r in the transform domain, the shares of the last row of w, the sum w, and s as it was; h is the generator behind
 pub record Committed (p : Params) (N : Noise) (g : MaskGen) (A : List ℕ) (h : MaskGen) (xs ys : List ℕ) : Type 0 where
-  pub noise : sub ys (atR (p .l) (p .shares)) (p .l * (p .shares * 512)) ≡ transformed (p .l * p .shares) (maskedNoise p N g)
+  pub noise : span ys (atR (p .l) (p .shares)) (p .l * (p .shares * 512)) ≡ transformed (p .l * p .shares) (maskedNoise p N g)
   pub row : LastRow p N g A ys
-  pub image : sub ys (atT (p .l) (p .shares)) (p .k * 512) ≡ totals (p .k) (p .shares) (maskedImage p N g A)
-  pub key : sub ys (atS (p .shares)) (p .l * (p .shares * 512)) ≡ sub xs (atS (p .shares)) (p .l * (p .shares * 512))
+  pub image : span ys (atT (p .l) (p .shares)) (p .k * 512) ≡ totals (p .k) (p .shares) (maskedImage p N g A)
+  pub key : span ys (atS (p .shares)) (p .l * (p .shares * 512)) ≡ span xs (atS (p .shares)) (p .l * (p .shares * 512))
   pub next : h ≡ skip masks (p .shares) (behindProduct p N) g
 
 -- ---- line 14 by the transform: c is the transform of the challenge, X the shares of s in the transform domain, Y those of r
@@ -74,22 +74,22 @@ answeredAt d c X Y i = build d (answered c (block (d * 512) i X) (block (d * 512
 
 -- lines 12 and 13, s at a and r at b: s refreshed, r turned back and refreshed; what is before and behind them as it was
 pub record Renewed (l d a b : ℕ) (g : MaskGen) (xs ys : List ℕ) : Type 0 where
-  pub key : sub ys a (l * (d * 512)) ≡ refreshed masks d g l (sub xs a (l * (d * 512)))
-  pub noise : sub ys b (l * (d * 512)) ≡ refreshed masks d (skip masks d l g) l (untransformed (l * d) (sub xs b (l * (d * 512))))
-  pub front : (e n : ℕ) → d * 512 ≤ e → e + n ≤ a → sub ys e n ≡ sub xs e n
-  pub behind : (e n : ℕ) → b + l * (d * 512) ≤ e → sub ys e n ≡ sub xs e n
+  pub key : span ys a (l * (d * 512)) ≡ refreshed masks d g l (span xs a (l * (d * 512)))
+  pub noise : span ys b (l * (d * 512)) ≡ refreshed masks d (skip masks d l g) l (untransformed (l * d) (span xs b (l * (d * 512))))
+  pub front : (e n : ℕ) → d * 512 ≤ e → e + n ≤ a → span ys e n ≡ span xs e n
+  pub behind : (e n : ℕ) → b + l * (d * 512) ≤ e → span ys e n ≡ span xs e n
   pub long : length ys ≡ length xs
   pub low : Below q ys
 
 -- all of them, of the challenge polynomial c: s refreshed, the shares of z in the place of r, their sum z, and w and its last row as they were; g is the generator behind line 7
 pub record Responded (k l d : ℕ) (c : List ℕ) (g : MaskGen) (xs ys : List ℕ) : Type 0 where
-  pub key : sub ys (atS d) (l * (d * 512)) ≡ refreshed masks d g l (sub xs (atS d) (l * (d * 512)))
-  pub shares : (r : List ℕ) → Words (l * (d * 512)) r → sub xs (atR l d) (l * (d * 512)) ≡ transformed (l * d) r
-      → sub ys (atR l d) (l * (d * 512)) ≡ refreshed masks d (skip masks d (l + l) g) l
-      (maskedResponse d l c (refreshed masks d g l (sub xs (atS d) (l * (d * 512)))) (refreshed masks d (skip masks d l g) l r))
-  pub response : sub ys (atX k l d) (l * 512) ≡ totals l d (sub ys (atR l d) (l * (d * 512)))
-  pub row : sub ys (d * 512) (d * 512) ≡ sub xs (d * 512) (d * 512)
-  pub commitment : sub ys (atT l d) (k * 512) ≡ sub xs (atT l d) (k * 512)
+  pub key : span ys (atS d) (l * (d * 512)) ≡ refreshed masks d g l (span xs (atS d) (l * (d * 512)))
+  pub shares : (r : List ℕ) → Words (l * (d * 512)) r → span xs (atR l d) (l * (d * 512)) ≡ transformed (l * d) r
+      → span ys (atR l d) (l * (d * 512)) ≡ refreshed masks d (skip masks d (l + l) g) l
+      (maskedResponse d l c (refreshed masks d g l (span xs (atS d) (l * (d * 512)))) (refreshed masks d (skip masks d l g) l r))
+  pub response : span ys (atX k l d) (l * 512) ≡ totals l d (span ys (atR l d) (l * (d * 512)))
+  pub row : span ys (d * 512) (d * 512) ≡ span xs (d * 512) (d * 512)
+  pub commitment : span ys (atT l d) (k * 512) ≡ span xs (atT l d) (k * 512)
   pub long : length ys ≡ length xs
   pub low : Below q ys
 
@@ -108,10 +108,10 @@ pub record Answered (p : Params) (N : Noise) (g : MaskGen) (A mu s : List ℕ) (
   pub hash-is : hash ≡ hashOf p N g A mu
   pub challenge-is : o ≡ chalHeld (chalPoly p (hashOf p N g A mu))
   pub row : LastRow p N g A ys
-  pub commitment : sub ys (atT (p .l) (p .shares)) (p .k * 512) ≡ roundW (commitmentOf p N g A)
+  pub commitment : span ys (atT (p .l) (p .shares)) (p .k * 512) ≡ roundW (commitmentOf p N g A)
   pub idle : chalPoly p (hashOf p N g A mu) ≡ none → Begun p N g s ys
-  pub key : (c : List ℤ) → chalPoly p (hashOf p N g A mu) ≡ some c → sub ys (atS (p .shares)) (p .l * (p .shares * 512)) ≡ refreshedKey p N g s
+  pub key : (c : List ℤ) → chalPoly p (hashOf p N g A mu) ≡ some c → span ys (atS (p .shares)) (p .l * (p .shares * 512)) ≡ refreshedKey p N g s
   pub shares : (c : List ℤ) → chalPoly p (hashOf p N g A mu) ≡ some c
-      → sub ys (atR (p .l) (p .shares)) (p .l * (p .shares * 512)) ≡ refreshedResponse p N g s (residues q c)
+      → span ys (atR (p .l) (p .shares)) (p .l * (p .shares * 512)) ≡ refreshedResponse p N g s (residues q c)
   pub response : (c : List ℤ) → chalPoly p (hashOf p N g A mu) ≡ some c
-      → sub ys (atX (p .k) (p .l) (p .shares)) (p .l * 512) ≡ totals (p .l) (p .shares) (refreshedResponse p N g s (residues q c))
+      → span ys (atX (p .k) (p .l) (p .shares)) (p .l * 512) ≡ totals (p .l) (p .shares) (refreshedResponse p N g s (residues q c))

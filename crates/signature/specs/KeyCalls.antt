@@ -7,7 +7,7 @@ use Rattle.hash.specs.Params.{lookupOf, selectedNo}
 use Rattle.hash.specs.declared.params.Edition.{Edition}
 use Rattle.hash.specs.declared.params.Params.{Params}
 use Rattle.hash.specs.declared.params.Selected.{Selected}
-use Rattle.sharing.specs.Blocks.{zeros}
+use Rattle.hash.specs.Lists.{zeros}
 use Rattle.signature.specs.Keys.{keygenOf, expandOf, refreshOf}
 use Rattle.signature.specs.Checks.{ask, signingKeySized, expandedKeySized, publicKeyGood, fullShareGood, shareWordsGood, maskSeedSized, keygenSeedsSized, keygenBuffersSized}
 

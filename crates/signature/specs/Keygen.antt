@@ -7,7 +7,7 @@ use Rattle.hash.specs.Params.{ShareCount}
 use Rattle.hash.specs.declared.params.Params.{Params}
 use Rattle.ring.specs.Round.{roundT}
 use Rattle.sharing.specs.Blocks.{block, totals}
-use Rattle.sharing.specs.Region.{sub, Wrote}
+use Rattle.sharing.specs.Region.{span, Wrote}
 use Rattle.sharing.specs.declared.masks.MaskGen.{MaskGen}
 use Rattle.signature.specs.Bits.{repack}
 use Rattle.signature.specs.Keys.{vkSeed, sharePart, keyShares, keyVector}
@@ -42,20 +42,20 @@ pub record Small (p : Params) : Type 0 where
 
 -- lines 5 to 8, W being the shares of all rows of t with their noise: those of the last row, behind the zero encoding; t, rounded, at `to`
 pub record Rounded (p : Params) (to : ℕ) (W xs ys : List ℕ) : Type 0 where
-  pub row : (i : ℕ) → p .k ≡ suc i → sub ys (p .shares * 512) (p .shares * 512) ≡ block (p .shares * 512) i W
+  pub row : (i : ℕ) → p .k ≡ suc i → span ys (p .shares * 512) (p .shares * 512) ≡ block (p .shares * 512) i W
   pub vector : Wrote (p .shares * 512 + p .shares * 512) to (p .k * 512) (roundT (totals (p .k) (p .shares) W)) xs ys
 
 -- what lines 2 to 8 and the compression leave, of the noise seeds and the generator g: all shares of s in the transform domain; those of the
 -- last row of t, as they were added up; t, rounded; the share x that is written in full
 pub record Generated (p : Params) (coins : List ℕ) (g : MaskGen) (A x ys : List ℕ) : Type 0 where
-  pub shares : sub ys (atS (p .shares)) (p .l * (p .shares * 512)) ≡ keyShares p coins g
+  pub shares : span ys (atS (p .shares)) (p .l * (p .shares * 512)) ≡ keyShares p coins g
   pub row : (i : ℕ) → p .k ≡ suc i
-      → sub ys (p .shares * 512) (p .shares * 512) ≡ block (p .shares * 512) i (maskedImage p (seeded p (p .ut) coins) g A)
-  pub vector : sub ys (atT (p .l) (p .shares)) (p .k * 512) ≡ keyVector p coins g A
-  pub full : sub ys (atX (p .k) (p .l) (p .shares)) (p .l * 512) ≡ x
+      → span ys (p .shares * 512) (p .shares * 512) ≡ block (p .shares * 512) i (maskedImage p (seeded p (p .ut) coins) g A)
+  pub vector : span ys (atT (p .l) (p .shares)) (p .k * 512) ≡ keyVector p coins g A
+  pub full : span ys (atX (p .k) (p .l) (p .shares)) (p .l * 512) ≡ x
 
 -- the signing key of t and x in the work buffer
 unfoldable pub keyOf : Params → List ℕ → List ℕ → List ℕ
 keyOf p seeds work =
-    (vkSeed p seeds ++ repack 7 8 (p .k * 448) (sub work (atT (p .l) (p .shares)) (p .k * 512)))
-    ++ (sharePart p seeds ++ repack 49 8 (p .l * 3136) (sub work (atX (p .k) (p .l) (p .shares)) (p .l * 512)))
+    (vkSeed p seeds ++ repack 7 8 (p .k * 448) (span work (atT (p .l) (p .shares)) (p .k * 512)))
+    ++ (sharePart p seeds ++ repack 49 8 (p .l * 3136) (span work (atX (p .k) (p .l) (p .shares)) (p .l * 512)))

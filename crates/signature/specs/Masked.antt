@@ -7,7 +7,7 @@ use Rattle.hash.specs.declared.params.Params.{Params}
 use Rattle.ring.specs.Words.{addW}
 use Rattle.ring.specs.Transform.{ntt, intt, pointwise, mul}
 use Rattle.sharing.specs.Blocks.{block, build, sumOf, total, totals, each}
-use Rattle.sharing.specs.Region.{sub, Wrote}
+use Rattle.sharing.specs.Region.{span, Wrote}
 use Rattle.sharing.specs.Encoding.{skip, addRep, addNoise, zeroVector}
 use Rattle.sharing.specs.Masks.{masks}
 use Rattle.sharing.specs.Noise.{seedNoise, explicitNoise}
@@ -89,10 +89,10 @@ rowsOf d k l A X = build k (λ (i : ℕ). build d (rowShare d l (λ (m : ℕ). b
 
 -- what a row's step leaves: the d shares R of the row in the region `row`, as they were added up, and their sum at `to`
 pub record Summed (d row to : ℕ) (R xs ys : List ℕ) : Type 0 where
-  pub shares : sub ys row (d * 512) ≡ R
+  pub shares : span ys row (d * 512) ≡ R
   pub sum : Wrote (row + d * 512) to 512 (total d R) xs ys
 
 -- .. and the steps of all k rows, W being their shares: those of the last row, and the sums of all
 pub record SummedAll (d k row to : ℕ) (W xs ys : List ℕ) : Type 0 where
-  pub shares : (i : ℕ) → k ≡ suc i → sub ys row (d * 512) ≡ block (d * 512) i W
+  pub shares : (i : ℕ) → k ≡ suc i → span ys row (d * 512) ≡ block (d * 512) i W
   pub sums : Wrote (row + d * 512) to (k * 512) (totals k d W) xs ys

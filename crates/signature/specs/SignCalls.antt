@@ -5,12 +5,11 @@ use mathlib.Core.Option.{Option, some, none}
 use Prim.Native.Nat.{ℕ, zero, suc}
 use lib.Dec.{eqb, leb}
 use lib.ListN.{length, take}
-use Rattle.hash.specs.Lists.{pick}
+use Rattle.hash.specs.Lists.{zeros, pick}
 use Rattle.hash.specs.Params.{lookupOf, selectedNo}
 use Rattle.hash.specs.declared.params.Edition.{Edition}
 use Rattle.hash.specs.declared.params.Params.{Params}
 use Rattle.hash.specs.declared.params.Selected.{Selected}
-use Rattle.sharing.specs.Blocks.{zeros}
 use Rattle.signature.specs.Checks.{ask, both, signingKeySized, expandedKeySized, publicKeyGood, fullShareGood, shareWordsGood, attemptsAllowed, signSeedsSized, signNoiseGood, signBuffersSized, messageSized}
 use Rattle.signature.specs.Keys.{vkSeed, vkVector, expandOf}
 use Rattle.signature.specs.Matrix.{matrix}

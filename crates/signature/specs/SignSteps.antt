@@ -10,7 +10,7 @@ use Rattle.hash.specs.Lists.{pick}
 use Rattle.hash.specs.declared.params.Params.{Params}
 use Rattle.ring.specs.Words.{q}
 use Rattle.ring.specs.Round.{residues}
-use Rattle.sharing.specs.Region.{sub}
+use Rattle.sharing.specs.Region.{span}
 use Rattle.sharing.specs.declared.masks.MaskGen.{MaskGen}
 use Rattle.signature.specs.Attempt.{atR, Begun, LastRow, hashOf}
 use Rattle.signature.specs.Challenge.{chalPoly}
@@ -69,9 +69,9 @@ EndedAt p vk mu T a s r k xs ys =
 -- what shares the work buffer ys holds at the end of an attempt. Behind a response: s refreshed, the shares of z, and those of the last row
 -- of w. Where there is none: s as it was, and r in the transform domain
 pub record Spent (p : Params) (m : Option (List ℕ)) (N : Noise) (g : MaskGen) (mu s ys : List ℕ) : Type 0 where
-  pub key : sub ys (atS (p .shares)) (p .l * (p .shares * 512)) ≡ refreshedKey p N g s
+  pub key : span ys (atS (p .shares)) (p .l * (p .shares * 512)) ≡ refreshedKey p N g s
   pub shares : (A : List ℕ) (c : List ℤ) → m ≡ some A → chalPoly p (hashOf p N g A mu) ≡ some c
-      → sub ys (atR (p .l) (p .shares)) (p .l * (p .shares * 512)) ≡ refreshedResponse p N g s (residues q c)
+      → span ys (atR (p .l) (p .shares)) (p .l * (p .shares * 512)) ≡ refreshedResponse p N g s (residues q c)
   pub row : (A : List ℕ) → m ≡ some A → LastRow p N g A ys
 
 abbrev pub HeldAs : AttemptEnd → Params → Option (List ℕ) → Noise → MaskGen → List ℕ → List ℕ → List ℕ → Type 0

@@ -6,7 +6,7 @@ ghost use Prim.Native.Nat.{ℕ, _+_, _*_};
 ghost use lib.ListN.{length};
 ghost use Rattle.ring.specs.Words.{q, Below};
 ghost use Rattle.sharing.specs.Noise.{noiseBytes};
-ghost use Rattle.sharing.specs.Region.{sub};
+ghost use Rattle.sharing.specs.Region.{span};
 ghost use Rattle.signature.specs.Attempt.{coinsOf, Within, Begun, Committed};
 ghost use Rattle.signature.specs.Checks.{workWords};
 ghost use Rattle.signature.specs.Keygen.{atS, Small};
@@ -25,7 +25,7 @@ use sharing::masks::start;
 // With noise from seeds: the seeds of one attempt. False where the matrix does not fill.
 fn commit_seeds(work: &mut [u64], p: Params, seed: &[u8], coins: &[u8], g: MaskGen) -> Imaged
     requires { ⌜ Small p × (length (now work) ≡ workWords p) × Below q (now work) × (length (now coins) ≡ noiseBytes p) ⌝ }
-    ensures { λ r. ⌜ (r .ok ≡ filled (matrix p (now (seed .entry)))) × (length (now (work .exit)) ≡ length (now (work .entry))) × Below q (now (work .exit)) × Begun p (seeded p (p .uw) (now (coins .entry))) g (sub (now (work .entry)) (atS (p .shares)) (p .l * (p .shares * 512))) (now (work .exit)) ⌝ }
+    ensures { λ r. ⌜ (r .ok ≡ filled (matrix p (now (seed .entry)))) × (length (now (work .exit)) ≡ length (now (work .entry))) × Below q (now (work .exit)) × Begun p (seeded p (p .uw) (now (coins .entry))) g (span (now (work .entry)) (atS (p .shares)) (p .l * (p .shares * 512))) (now (work .exit)) ⌝ }
     ensures { λ r. ⌜ ((A : List ℕ) → matrix p (now (seed .entry)) ≡ some A → Committed p (seeded p (p .uw) (now (coins .entry))) g A (r .next) (now (work .entry)) (now (work .exit))) ⌝ }
 {
     let l = p.l;
@@ -43,7 +43,7 @@ fn commit_seeds(work: &mut [u64], p: Params, seed: &[u8], coins: &[u8], g: MaskG
 // With explicit noise: one attempt's words.
 fn commit_explicit(work: &mut [u64], p: Params, seed: &[u8], words: &[u64], g: MaskGen) -> Imaged
     requires { ⌜ Small p × (length (now work) ≡ workWords p) × Below q (now work) × (length (now words) ≡ (p .l + p .k) * p .shares * 512) × Below q (now words) ⌝ }
-    ensures { λ r. ⌜ (r .ok ≡ filled (matrix p (now (seed .entry)))) × (length (now (work .exit)) ≡ length (now (work .entry))) × Below q (now (work .exit)) × Begun p (explicit p (now (words .entry))) g (sub (now (work .entry)) (atS (p .shares)) (p .l * (p .shares * 512))) (now (work .exit)) ⌝ }
+    ensures { λ r. ⌜ (r .ok ≡ filled (matrix p (now (seed .entry)))) × (length (now (work .exit)) ≡ length (now (work .entry))) × Below q (now (work .exit)) × Begun p (explicit p (now (words .entry))) g (span (now (work .entry)) (atS (p .shares)) (p .l * (p .shares * 512))) (now (work .exit)) ⌝ }
     ensures { λ r. ⌜ ((A : List ℕ) → matrix p (now (seed .entry)) ≡ some A → Committed p (explicit p (now (words .entry))) g A (r .next) (now (work .entry)) (now (work .exit))) ⌝ }
 {
     let l = p.l;
@@ -68,7 +68,7 @@ pub(crate) fn commit(
 ) -> Imaged
     requires { ⌜ Small p × (length (now work) ≡ workWords p) × Below q (now work) ⌝ }
     requires { ⌜ Within p (coinsOf explicit (now seeds) (now words) (now «mask_seeds»)) a ⌝ }
-    ensures { λ r. ⌜ (r .ok ≡ filled (matrix p (now (seed .entry)))) × (length (now (work .exit)) ≡ length (now (work .entry))) × Below q (now (work .exit)) × Begun p (noiseAt p (coinsOf explicit (now (seeds .entry)) (now (words .entry)) (now («mask_seeds» .entry))) a) (maskAt (coinsOf explicit (now (seeds .entry)) (now (words .entry)) (now («mask_seeds» .entry))) a) (sub (now (work .entry)) (atS (p .shares)) (p .l * (p .shares * 512))) (now (work .exit)) ⌝ }
+    ensures { λ r. ⌜ (r .ok ≡ filled (matrix p (now (seed .entry)))) × (length (now (work .exit)) ≡ length (now (work .entry))) × Below q (now (work .exit)) × Begun p (noiseAt p (coinsOf explicit (now (seeds .entry)) (now (words .entry)) (now («mask_seeds» .entry))) a) (maskAt (coinsOf explicit (now (seeds .entry)) (now (words .entry)) (now («mask_seeds» .entry))) a) (span (now (work .entry)) (atS (p .shares)) (p .l * (p .shares * 512))) (now (work .exit)) ⌝ }
     ensures { λ r. ⌜ ((A : List ℕ) → matrix p (now (seed .entry)) ≡ some A → Committed p (noiseAt p (coinsOf explicit (now (seeds .entry)) (now (words .entry)) (now («mask_seeds» .entry))) a) (maskAt (coinsOf explicit (now (seeds .entry)) (now (words .entry)) (now («mask_seeds» .entry))) a) A (r .next) (now (work .entry)) (now (work .exit))) ⌝ }
 {
     let m = a * 32;

@@ -6,7 +6,7 @@ ghost use Prim.Native.Nat.{ℕ, _+_, _-_, _*_, _≤_, _<_};
 ghost use lib.ListN.{length};
 ghost use Rattle.ring.specs.Words.{q, addW, subW, Below, Words};
 ghost use Rattle.ring.specs.Uniform.{heldOf};
-ghost use Rattle.sharing.specs.Region.{sub, Wrote};
+ghost use Rattle.sharing.specs.Region.{span, Wrote};
 ghost use Rattle.signature.specs.Matrix.{filled};
 ghost use Rattle.signature.specs.Compress.{shareHeader, seededShareOf, collectedOf, compressedOf};
 use hash::params::Edition;
@@ -42,7 +42,7 @@ pub(crate) fn seeded_share(edition: Edition, seeds: &[u8], n: usize, i: usize, j
 // x - r and the polynomial at `at`.
 fn exchange(s: &[u64], at: usize, x: [u64; 512], r: [u64; 512]) -> [u64; 512]
     requires { ⌜ (at + 512 ≤ length (now s)) × Below q (now s) × Words 512 x × Words 512 r ⌝ }
-    ensures { λ y. ⌜ (y ≡ addW (subW x r) (sub (now (s .entry)) at 512)) × Words 512 y ⌝ }
+    ensures { λ y. ⌜ (y ≡ addW (subW x r) (span (now (s .entry)) at 512)) × Words 512 y ⌝ }
 {
     let y = load(s, at);
     let z = sub(x, r);
@@ -60,7 +60,7 @@ pub(crate) fn collect(
     j: usize,
 ) -> Sampled
     requires { ⌜ (1 ≤ d) × (d < 256) × (j < 256) × (at + d * 512 ≤ length (now s)) × Below q (now s) × ((d - 1) * n ≤ length (now seeds)) ⌝ }
-    ensures { λ r. ⌜ (r ≡ heldOf (collectedOf edition n (now (seeds .entry)) (sub (now (s .entry)) at (d * 512)) j (d - 1))) × Words 512 (r .poly) ⌝ }
+    ensures { λ r. ⌜ (r ≡ heldOf (collectedOf edition n (now (seeds .entry)) (span (now (s .entry)) at (d * 512)) j (d - 1))) × Words 512 (r .poly) ⌝ }
 {
     let mut x = load(s, at);
     for i in 1..d {
@@ -87,8 +87,8 @@ pub(crate) fn compress_vector(
     n: usize,
 ) -> bool
     requires { ⌜ (1 ≤ d) × (d < 256) × (l ≤ 256) × (at + l * (d * 512) ≤ to) × (to + l * 512 ≤ length (now s)) × Below q (now s) × ((d - 1) * n ≤ length (now seeds)) ⌝ }
-    ensures { λ r. ⌜ (r ≡ filled (compressedOf edition n (now (seeds .entry)) l d (sub (now (s .entry)) at (l * (d * 512))))) × (length (now (s .exit)) ≡ length (now (s .entry))) × Below q (now (s .exit)) ⌝ }
-    ensures { λ r. ⌜ ((X : List ℕ) → compressedOf edition n (now (seeds .entry)) l d (sub (now (s .entry)) at (l * (d * 512))) ≡ some X → Wrote 0 to (l * 512) X (now (s .entry)) (now (s .exit))) ⌝ }
+    ensures { λ r. ⌜ (r ≡ filled (compressedOf edition n (now (seeds .entry)) l d (span (now (s .entry)) at (l * (d * 512))))) × (length (now (s .exit)) ≡ length (now (s .entry))) × Below q (now (s .exit)) ⌝ }
+    ensures { λ r. ⌜ ((X : List ℕ) → compressedOf edition n (now (seeds .entry)) l d (span (now (s .entry)) at (l * (d * 512))) ≡ some X → Wrote 0 to (l * 512) X (now (s .entry)) (now (s .exit))) ⌝ }
 {
     for j in 0..l {
         let x = collect(s, at + j * (d * 512), d, edition, seeds, n, j);

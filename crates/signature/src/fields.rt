@@ -10,7 +10,7 @@ ghost use lib.IntN.{pos, natAbs};
 ghost use lib.ListN.{length, getD};
 ghost use Rattle.ring.specs.Words.{q, Below, Words, zipTo};
 ghost use Rattle.ring.specs.Round.{roundW, residues};
-ghost use Rattle.sharing.specs.Region.{sub, Kept};
+ghost use Rattle.sharing.specs.Region.{span, Kept};
 ghost use Rattle.signature.specs.Answers.{fieldsOf, FinishedAs};
 ghost use Rattle.signature.specs.Checks.{workWords};
 ghost use Rattle.signature.specs.Form.{hashBytes};
@@ -37,8 +37,8 @@ use sharing::region::load;
 
 // Line 18 for one row: y is at `row`, the rounded w at `at`.
 fn hint_row(s: &[u64], row: usize, at: usize, out: &mut [i64])
-    requires { ⌜ (row + 512 ≤ length (now s)) × (at + 512 ≤ length (now s)) × Below q (now s) × Below 31 (sub (now s) at 512) × (length (now out) ≡ 512) ⌝ }
-    ensures { λ _. ⌜ now (out .exit) ≡ centredAll 31 (zipTo sub31 (sub (now (s .entry)) at 512) (roundW (sub (now (s .entry)) row 512))) ⌝ }
+    requires { ⌜ (row + 512 ≤ length (now s)) × (at + 512 ≤ length (now s)) × Below q (now s) × Below 31 (span (now s) at 512) × (length (now out) ≡ 512) ⌝ }
+    ensures { λ _. ⌜ now (out .exit) ≡ centredAll 31 (zipTo sub31 (span (now (s .entry)) at 512) (roundW (span (now (s .entry)) row 512))) ⌝ }
 {
     let y = round_w(load(s, row));
     hint_into(load(s, at), y, out);
@@ -59,10 +59,10 @@ fn hint_rows(
     hint: &mut [i64],
 ) -> bool
     requires { ⌜ (row + 512 ≤ at) × (row + 512 ≤ wat) × (at + l * 512 ≤ length (now work)) × (wat + k * 512 ≤ length (now work)) × Below q (now work) ⌝ }
-    requires { ⌜ (k ≤ 9) × (l ≤ 7) × Words 512 c × (length (now t) ≡ k * 512) × Below 125 (now t) × Below 31 (sub (now work) wat (k * 512)) × (length (now hint) ≡ k * 512) ⌝ }
+    requires { ⌜ (k ≤ 9) × (l ≤ 7) × Words 512 c × (length (now t) ≡ k * 512) × Below 125 (now t) × Below 31 (span (now work) wat (k * 512)) × (length (now hint) ≡ k * 512) ⌝ }
     ensures { λ r. ⌜ (r ≡ filled (matrixOf k l (now (seed .entry)))) × (length (now (work .exit)) ≡ length (now (work .entry))) × Below q (now (work .exit)) ⌝ }
     ensures { λ r. ⌜ (r ≡ true → Kept 0 row (now (work .entry)) (now (work .exit)) × Kept (row + 512) (length (now (work .entry))) (now (work .entry)) (now (work .exit))) ⌝ }
-    ensures { λ r. ⌜ (r ≡ true → now (hint .exit) ≡ hintRows k l (now (seed .entry)) (sub (now (work .entry)) at (l * 512)) c (now (t .entry)) (sub (now (work .entry)) wat (k * 512))) ⌝ }
+    ensures { λ r. ⌜ (r ≡ true → now (hint .exit) ≡ hintRows k l (now (seed .entry)) (span (now (work .entry)) at (l * 512)) c (now (t .entry)) (span (now (work .entry)) wat (k * 512))) ⌝ }
 {
     for i in 0..k {
         let a = i * 512;
@@ -77,11 +77,11 @@ fn hint_rows(
 
 // Lines 17 and 18: the hint.
 fn make_hint(work: &mut [u64], p: Params, vk: &[u8], c: [i8; 512], hint: &mut [i64]) -> bool
-    requires { ⌜ Tabled p × Small p × (length (now work) ≡ workWords p) × Below q (now work) × Below 31 (sub (now work) (atT (p .l) (p .shares)) (p .k * 512)) ⌝ }
+    requires { ⌜ Tabled p × Small p × (length (now work) ≡ workWords p) × Below q (now work) × Below 31 (span (now work) (atT (p .l) (p .shares)) (p .k * 512)) ⌝ }
     requires { ⌜ (length (now vk) ≡ p .«vk_bytes») × Below 125 (vkVector p (now vk)) × (length (now hint) ≡ p .k * 512) ⌝ }
     ensures { λ r. ⌜ (r ≡ filled (matrix p (vkSeed p (now (vk .entry))))) × (length (now (work .exit)) ≡ length (now (work .entry))) × Below q (now (work .exit)) ⌝ }
     ensures { λ r. ⌜ (r ≡ true → Kept 0 (atRoom (p .shares)) (now (work .entry)) (now (work .exit)) × Kept (atS (p .shares)) (length (now (work .entry))) (now (work .entry)) (now (work .exit))) ⌝ }
-    ensures { λ r. ⌜ ((A : List ℕ) → matrix p (vkSeed p (now (vk .entry))) ≡ some A → now (hint .exit) ≡ hintOf (sub (now (work .entry)) (atT (p .l) (p .shares)) (p .k * 512)) (recovered p A (sub (now (work .entry)) (atX (p .k) (p .l) (p .shares)) (p .l * 512)) (residues q c) (vkVector p (now (vk .entry))))) ⌝ }
+    ensures { λ r. ⌜ ((A : List ℕ) → matrix p (vkSeed p (now (vk .entry))) ≡ some A → now (hint .exit) ≡ hintOf (span (now (work .entry)) (atT (p .l) (p .shares)) (p .k * 512)) (recovered p A (span (now (work .entry)) (atX (p .k) (p .l) (p .shares)) (p .l * 512)) (residues q c) (vkVector p (now (vk .entry))))) ⌝ }
 {
     let k = p.k;
     let l = p.l;
@@ -127,11 +127,11 @@ fn finish_with(
     z: &mut [i64],
     out: &mut [u8],
 ) -> bool
-    requires { ⌜ Tabled p × Small p × (length (now work) ≡ workWords p) × Below q (now work) × Below 31 (sub (now work) (atT (p .l) (p .shares)) (p .k * 512)) ⌝ }
+    requires { ⌜ Tabled p × Small p × (length (now work) ≡ workWords p) × Below q (now work) × Below 31 (span (now work) (atT (p .l) (p .shares)) (p .k * 512)) ⌝ }
     requires { ⌜ (length (now vk) ≡ p .«vk_bytes») × Below 125 (vkVector p (now vk)) × (filled (matrix p (vkSeed p (now vk))) ≡ true) × (length (now hash) ≡ hashBytes p) ⌝ }
     requires { ⌜ (length (now hint) ≡ p .k * 512) × (length (now z) ≡ p .l * 512) × (length (now out) ≡ p .«sig_bytes») ⌝ }
     ensures { λ r. ⌜ (length (now (work .exit)) ≡ length (now (work .entry))) × Below q (now (work .exit)) × Kept 0 (atRoom (p .shares)) (now (work .entry)) (now (work .exit)) × Kept (atS (p .shares)) (length (now (work .entry))) (now (work .entry)) (now (work .exit)) ⌝ }
-    ensures { λ r. ⌜ ((A mu : List ℕ) → matrix p (vkSeed p (now (vk .entry))) ≡ some A → FinishedAs (finished p (signedFields p (record { matrix = A; vector = vkVector p (now (vk .entry)); mu = mu }) (sub (now (work .entry)) (atT (p .l) (p .shares)) (p .k * 512)) (now (hash .entry)) (sub (now (work .entry)) (atX (p .k) (p .l) (p .shares)) (p .l * 512)) c)) r (now (out .entry)) (now (out .exit))) ⌝ }
+    ensures { λ r. ⌜ ((A mu : List ℕ) → matrix p (vkSeed p (now (vk .entry))) ≡ some A → FinishedAs (finished p (signedFields p (record { matrix = A; vector = vkVector p (now (vk .entry)); mu = mu }) (span (now (work .entry)) (atT (p .l) (p .shares)) (p .k * 512)) (now (hash .entry)) (span (now (work .entry)) (atX (p .k) (p .l) (p .shares)) (p .l * 512)) c)) r (now (out .entry)) (now (out .exit))) ⌝ }
 {
     let k = p.k;
     let l = p.l;
@@ -154,10 +154,10 @@ pub(crate) fn finish(
     c: [i8; 512],
     out: &mut [u8],
 ) -> bool
-    requires { ⌜ Tabled p × Small p × (length (now work) ≡ workWords p) × Below q (now work) × Below 31 (sub (now work) (atT (p .l) (p .shares)) (p .k * 512)) ⌝ }
+    requires { ⌜ Tabled p × Small p × (length (now work) ≡ workWords p) × Below q (now work) × Below 31 (span (now work) (atT (p .l) (p .shares)) (p .k * 512)) ⌝ }
     requires { ⌜ (length (now vk) ≡ p .«vk_bytes») × Below 125 (vkVector p (now vk)) × (filled (matrix p (vkSeed p (now vk))) ≡ true) × (length (now hash) ≡ hashBytes p) × (length (now out) ≡ p .«sig_bytes») ⌝ }
     ensures { λ r. ⌜ (length (now (work .exit)) ≡ length (now (work .entry))) × Below q (now (work .exit)) × Kept 0 (atRoom (p .shares)) (now (work .entry)) (now (work .exit)) × Kept (atS (p .shares)) (length (now (work .entry))) (now (work .entry)) (now (work .exit)) ⌝ }
-    ensures { λ r. ⌜ ((A mu : List ℕ) → matrix p (vkSeed p (now (vk .entry))) ≡ some A → FinishedAs (finished p (signedFields p (record { matrix = A; vector = vkVector p (now (vk .entry)); mu = mu }) (sub (now (work .entry)) (atT (p .l) (p .shares)) (p .k * 512)) (now (hash .entry)) (sub (now (work .entry)) (atX (p .k) (p .l) (p .shares)) (p .l * 512)) c)) r (now (out .entry)) (now (out .exit))) ⌝ }
+    ensures { λ r. ⌜ ((A mu : List ℕ) → matrix p (vkSeed p (now (vk .entry))) ≡ some A → FinishedAs (finished p (signedFields p (record { matrix = A; vector = vkVector p (now (vk .entry)); mu = mu }) (span (now (work .entry)) (atT (p .l) (p .shares)) (p .k * 512)) (now (hash .entry)) (span (now (work .entry)) (atX (p .k) (p .l) (p .shares)) (p .l * 512)) c)) r (now (out .entry)) (now (out .exit))) ⌝ }
 {
     let m = p.k * 512;
     let n = p.l * 512;

@@ -5,7 +5,7 @@ ghost use mathlib.Core.Option.{some};
 ghost use Prim.Native.Nat.{ℕ, _+_, _-_, _*_, _/_, _≤_};
 ghost use lib.ListN.{length};
 ghost use Rattle.ring.specs.Words.{q, Below};
-ghost use Rattle.sharing.specs.Region.{sub};
+ghost use Rattle.sharing.specs.Region.{span};
 ghost use Rattle.sharing.specs.Encoding.{addNoise};
 ghost use Rattle.sharing.specs.Masks.{masks, maskStart};
 ghost use Rattle.sharing.specs.Noise.{seedNoise, noiseBytes};
@@ -43,7 +43,7 @@ fn public_vector(
     requires { ⌜ Small p × (p .k * p .rep * p .shares * (p .kappa / 8) ≤ length (now seeds)) ⌝ }
     requires { ⌜ (p .shares * 512 + p .shares * 512 ≤ at) × (at + p .l * (p .shares * 512) ≤ to) × (to + p .k * 512 ≤ length (now s)) × Below q (now s) ⌝ }
     ensures { λ r. ⌜ (r ≡ filled (matrix p (now (seed .entry)))) × (length (now (s .exit)) ≡ length (now (s .entry))) × Below q (now (s .exit)) ⌝ }
-    ensures { λ r. ⌜ ((A : List ℕ) → matrix p (now (seed .entry)) ≡ some A → Rounded p to (addNoise masks (p .shares) g (p .k) (p .rep) (seedNoise (p .shares) (p .rep) (p .ut) (p .kappa / 8) (now (seeds .entry))) (rowsOf (p .shares) (p .k) (p .l) A (sub (now (s .entry)) at (p .l * (p .shares * 512))))) (now (s .entry)) (now (s .exit))) ⌝ }
+    ensures { λ r. ⌜ ((A : List ℕ) → matrix p (now (seed .entry)) ≡ some A → Rounded p to (addNoise masks (p .shares) g (p .k) (p .rep) (seedNoise (p .shares) (p .rep) (p .ut) (p .kappa / 8) (now (seeds .entry))) (rowsOf (p .shares) (p .k) (p .l) A (span (now (s .entry)) at (p .l * (p .shares * 512))))) (now (s .entry)) (now (s .exit))) ⌝ }
 {
     let k = p.k;
     let d = p.shares;

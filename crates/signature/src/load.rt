@@ -6,7 +6,7 @@ ghost use mathlib.Core.Option.{some};
 ghost use Prim.Native.Nat.{ℕ, _+_, _*_, _≤_};
 ghost use lib.ListN.{length};
 ghost use Rattle.ring.specs.Words.{q, Below};
-ghost use Rattle.sharing.specs.Region.{sub, Wrote};
+ghost use Rattle.sharing.specs.Region.{span, Wrote};
 ghost use Rattle.signature.specs.Attempt.{keyFrom};
 ghost use Rattle.signature.specs.Checks.{workWords};
 ghost use Rattle.signature.specs.Keygen.{atS};
@@ -56,7 +56,7 @@ pub(crate) fn load_shares(
     requires { ⌜ Listed p × (length (now work) ≡ workWords p) ⌝ }
     requires { ⌜ (keySized p (keyFrom packed (now key) (now words)) ≡ true) × (sharesGood p (keyFrom packed (now key) (now words)) ≡ true) ⌝ }
     ensures { λ r. ⌜ (r ≡ filled (sharesOf p (keyFrom packed (now (key .entry)) (now (words .entry))))) × (length (now (work .exit)) ≡ length (now (work .entry))) × Below q (now (work .exit)) ⌝ }
-    ensures { λ r. ⌜ ((X : List ℕ) → sharesOf p (keyFrom packed (now (key .entry)) (now (words .entry))) ≡ some X → sub (now (work .exit)) (atS (p .shares)) (p .l * (p .shares * 512)) ≡ X) ⌝ }
+    ensures { λ r. ⌜ ((X : List ℕ) → sharesOf p (keyFrom packed (now (key .entry)) (now (words .entry))) ≡ some X → span (now (work .exit)) (atS (p .shares)) (p .l * (p .shares * 512)) ≡ X) ⌝ }
 {
     let d = p.shares;
     let at = 4 * (d * 512) + 4096;

@@ -7,8 +7,9 @@ ghost use mathlib.Core.Option.{some};
 ghost use Prim.Native.Nat.{ℕ, _+_, _*_, _/_, _≤_, _<_};
 ghost use lib.ListN.{length};
 ghost use Rattle.ring.specs.Words.{q, Below, Words};
-ghost use Rattle.sharing.specs.Blocks.{zeros, build};
-ghost use Rattle.sharing.specs.Region.{sub, Wrote, Kept};
+ghost use Rattle.hash.specs.Lists.{zeros};
+ghost use Rattle.sharing.specs.Blocks.{build};
+ghost use Rattle.sharing.specs.Region.{span, Wrote, Kept};
 ghost use Rattle.sharing.specs.Encoding.{skip, addNoise};
 ghost use Rattle.sharing.specs.Masks.{masks};
 ghost use Rattle.sharing.specs.Noise.{seedNoise, explicitNoise};
@@ -46,7 +47,7 @@ fn clear_at(s: &mut [u64], at: usize, d: usize)
 // The products of a and the d polynomials at `at`, added to those at `to`, all in the transform domain.
 fn add_products(s: &mut [u64], to: usize, at: usize, a: [u64; 512], d: usize)
     requires { ⌜ (to + d * 512 ≤ at) × (at + d * 512 ≤ length (now s)) × Below q (now s) × Words 512 a ⌝ }
-    ensures { λ _. ⌜ Wrote 0 to (d * 512) (build d (accrued a (sub (now (s .entry)) to (d * 512)) (sub (now (s .entry)) at (d * 512)))) (now (s .entry)) (now (s .exit)) ⌝ }
+    ensures { λ _. ⌜ Wrote 0 to (d * 512) (build d (accrued a (span (now (s .entry)) to (d * 512)) (span (now (s .entry)) at (d * 512)))) (now (s .entry)) (now (s .exit)) ⌝ }
 {
     for j in 0..d {
         let b = to + j * 512;
@@ -61,7 +62,7 @@ fn add_products(s: &mut [u64], to: usize, at: usize, a: [u64; 512], d: usize)
 fn row_sums(s: &mut [u64], to: usize, at: usize, seed: &[u8], i: usize, l: usize, d: usize) -> bool
     requires { ⌜ (to + d * 512 ≤ at) × (at + l * (d * 512) ≤ length (now s)) × Below q (now s) × (i < 256) × (l < 256) ⌝ }
     ensures { λ r. ⌜ (r ≡ rowFills (now (seed .entry)) i l) × (length (now (s .exit)) ≡ length (now (s .entry))) × Below q (now (s .exit)) × Kept (to + d * 512) (length (now (s .entry))) (now (s .entry)) (now (s .exit)) ⌝ }
-    ensures { λ r. ⌜ (r ≡ true → Wrote 0 to (d * 512) (build d (rowSum d (rowEntry (now (seed .entry)) i) (sub (now (s .entry)) at (l * (d * 512))) l)) (now (s .entry)) (now (s .exit))) ⌝ }
+    ensures { λ r. ⌜ (r ≡ true → Wrote 0 to (d * 512) (build d (rowSum d (rowEntry (now (seed .entry)) i) (span (now (s .entry)) at (l * (d * 512))) l)) (now (s .entry)) (now (s .exit))) ⌝ }
 {
     clear_at(s, to, d);
     for m in 0..l {
@@ -88,7 +89,7 @@ pub(crate) fn row_at(
 ) -> bool
     requires { ⌜ (to + d * 512 ≤ at) × (at + l * (d * 512) ≤ length (now s)) × Below q (now s) × (i < 256) × (l < 256) ⌝ }
     ensures { λ r. ⌜ (r ≡ rowFills (now (seed .entry)) i l) × (length (now (s .exit)) ≡ length (now (s .entry))) × Below q (now (s .exit)) × Kept (to + d * 512) (length (now (s .entry))) (now (s .entry)) (now (s .exit)) ⌝ }
-    ensures { λ r. ⌜ (r ≡ true → Wrote 0 to (d * 512) (build d (rowShare d l (rowEntry (now (seed .entry)) i) (sub (now (s .entry)) at (l * (d * 512))))) (now (s .entry)) (now (s .exit))) ⌝ }
+    ensures { λ r. ⌜ (r ≡ true → Wrote 0 to (d * 512) (build d (rowShare d l (rowEntry (now (seed .entry)) i) (span (now (s .entry)) at (l * (d * 512))))) (now (s .entry)) (now (s .exit))) ⌝ }
 {
     if !row_sums(s, to, at, seed, i, l, d) {
         return false;
@@ -114,7 +115,7 @@ fn image_row_seeds(
     requires { ⌜ Small p × (i < 256) × (1 ≤ u) × (u ≤ 48) × ((i * p .rep + p .rep) * p .shares * (p .kappa / 8) ≤ length (now seeds)) ⌝ }
     requires { ⌜ (p .shares * 512 ≤ row) × (row + p .shares * 512 ≤ at) × (at + p .l * (p .shares * 512) ≤ to) × (to + 512 ≤ length (now s)) × Below q (now s) ⌝ }
     ensures { λ r. ⌜ (r .ok ≡ rowFills (now (seed .entry)) i (p .l)) × (length (now (s .exit)) ≡ length (now (s .entry))) × Below q (now (s .exit)) × Kept (row + p .shares * 512) to (now (s .entry)) (now (s .exit)) ⌝ }
-    ensures { λ r. ⌜ (r .ok ≡ true → Summed (p .shares) row to (noisedRow (p .shares) (p .l) g (p .rep) (seedNoise (p .shares) (p .rep) u (p .kappa / 8) (now (seeds .entry)) i) (rowEntry (now (seed .entry)) i) (sub (now (s .entry)) at (p .l * (p .shares * 512)))) (now (s .entry)) (now (s .exit)) × (r .next ≡ skip masks (p .shares) (p .rep) g)) ⌝ }
+    ensures { λ r. ⌜ (r .ok ≡ true → Summed (p .shares) row to (noisedRow (p .shares) (p .l) g (p .rep) (seedNoise (p .shares) (p .rep) u (p .kappa / 8) (now (seeds .entry)) i) (rowEntry (now (seed .entry)) i) (span (now (s .entry)) at (p .l * (p .shares * 512)))) (now (s .entry)) (now (s .exit)) × (r .next ≡ skip masks (p .shares) (p .rep) g)) ⌝ }
 {
     let l = p.l;
     let d = p.shares;
@@ -142,7 +143,7 @@ pub(crate) fn image_seeds(
     requires { ⌜ Small p × (1 ≤ u) × (u ≤ 48) × (p .k * p .rep * p .shares * (p .kappa / 8) ≤ length (now seeds)) ⌝ }
     requires { ⌜ (p .shares * 512 ≤ row) × (row + p .shares * 512 ≤ at) × (at + p .l * (p .shares * 512) ≤ to) × (to + p .k * 512 ≤ length (now s)) × Below q (now s) ⌝ }
     ensures { λ r. ⌜ (r .ok ≡ filled (matrix p (now (seed .entry)))) × (length (now (s .exit)) ≡ length (now (s .entry))) × Below q (now (s .exit)) × Kept (row + p .shares * 512) to (now (s .entry)) (now (s .exit)) ⌝ }
-    ensures { λ r. ⌜ ((A : List ℕ) → matrix p (now (seed .entry)) ≡ some A → SummedAll (p .shares) (p .k) row to (addNoise masks (p .shares) g (p .k) (p .rep) (seedNoise (p .shares) (p .rep) u (p .kappa / 8) (now (seeds .entry))) (rowsOf (p .shares) (p .k) (p .l) A (sub (now (s .entry)) at (p .l * (p .shares * 512))))) (now (s .entry)) (now (s .exit)) × (r .next ≡ skip masks (p .shares) (p .k * p .rep) g)) ⌝ }
+    ensures { λ r. ⌜ ((A : List ℕ) → matrix p (now (seed .entry)) ≡ some A → SummedAll (p .shares) (p .k) row to (addNoise masks (p .shares) g (p .k) (p .rep) (seedNoise (p .shares) (p .rep) u (p .kappa / 8) (now (seeds .entry))) (rowsOf (p .shares) (p .k) (p .l) A (span (now (s .entry)) at (p .l * (p .shares * 512))))) (now (s .entry)) (now (s .exit)) × (r .next ≡ skip masks (p .shares) (p .k * p .rep) g)) ⌝ }
 {
     let k = p.k;
     let mut x = g;
@@ -172,7 +173,7 @@ fn image_row_explicit(
     requires { ⌜ Small p × (i < 256) × (i * (p .shares * 512) + p .shares * 512 ≤ length (now words)) × Below q (now words) ⌝ }
     requires { ⌜ (p .shares * 512 ≤ row) × (row + p .shares * 512 ≤ at) × (at + p .l * (p .shares * 512) ≤ to) × (to + 512 ≤ length (now s)) × Below q (now s) ⌝ }
     ensures { λ r. ⌜ (r .ok ≡ rowFills (now (seed .entry)) i (p .l)) × (length (now (s .exit)) ≡ length (now (s .entry))) × Below q (now (s .exit)) × Kept (row + p .shares * 512) to (now (s .entry)) (now (s .exit)) ⌝ }
-    ensures { λ r. ⌜ (r .ok ≡ true → Summed (p .shares) row to (noisedRow (p .shares) (p .l) g 1 (explicitNoise (p .shares) (now (words .entry)) i) (rowEntry (now (seed .entry)) i) (sub (now (s .entry)) at (p .l * (p .shares * 512)))) (now (s .entry)) (now (s .exit)) × (r .next ≡ skip masks (p .shares) 1 g)) ⌝ }
+    ensures { λ r. ⌜ (r .ok ≡ true → Summed (p .shares) row to (noisedRow (p .shares) (p .l) g 1 (explicitNoise (p .shares) (now (words .entry)) i) (rowEntry (now (seed .entry)) i) (span (now (s .entry)) at (p .l * (p .shares * 512)))) (now (s .entry)) (now (s .exit)) × (r .next ≡ skip masks (p .shares) 1 g)) ⌝ }
 {
     let l = p.l;
     let d = p.shares;
@@ -198,7 +199,7 @@ pub(crate) fn image_explicit(
     requires { ⌜ Small p × (p .k * (p .shares * 512) ≤ length (now words)) × Below q (now words) ⌝ }
     requires { ⌜ (p .shares * 512 ≤ row) × (row + p .shares * 512 ≤ at) × (at + p .l * (p .shares * 512) ≤ to) × (to + p .k * 512 ≤ length (now s)) × Below q (now s) ⌝ }
     ensures { λ r. ⌜ (r .ok ≡ filled (matrix p (now (seed .entry)))) × (length (now (s .exit)) ≡ length (now (s .entry))) × Below q (now (s .exit)) × Kept (row + p .shares * 512) to (now (s .entry)) (now (s .exit)) ⌝ }
-    ensures { λ r. ⌜ ((A : List ℕ) → matrix p (now (seed .entry)) ≡ some A → SummedAll (p .shares) (p .k) row to (addNoise masks (p .shares) g (p .k) 1 (explicitNoise (p .shares) (now (words .entry))) (rowsOf (p .shares) (p .k) (p .l) A (sub (now (s .entry)) at (p .l * (p .shares * 512))))) (now (s .entry)) (now (s .exit)) × (r .next ≡ skip masks (p .shares) (p .k) g)) ⌝ }
+    ensures { λ r. ⌜ ((A : List ℕ) → matrix p (now (seed .entry)) ≡ some A → SummedAll (p .shares) (p .k) row to (addNoise masks (p .shares) g (p .k) 1 (explicitNoise (p .shares) (now (words .entry))) (rowsOf (p .shares) (p .k) (p .l) A (span (now (s .entry)) at (p .l * (p .shares * 512))))) (now (s .entry)) (now (s .exit)) × (r .next ≡ skip masks (p .shares) (p .k) g)) ⌝ }
 {
     let k = p.k;
     let mut x = g;

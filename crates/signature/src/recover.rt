@@ -5,7 +5,7 @@ ghost use mathlib.Core.Bool.{true};
 ghost use Prim.Native.Nat.{_+_, _*_, _≤_, _<_};
 ghost use lib.ListN.{length};
 ghost use Rattle.ring.specs.Words.{q, Below, Words, Residues};
-ghost use Rattle.sharing.specs.Region.{sub, Wrote};
+ghost use Rattle.sharing.specs.Region.{span, Wrote};
 ghost use Rattle.signature.specs.Matrix.{rowFills, rowEntry};
 ghost use Rattle.signature.specs.Recover.{scaledBy, recoveredBy};
 use crate::masked::row_at;
@@ -38,7 +38,7 @@ pub(crate) fn recover_row(
     requires { ⌜ (to + 512 ≤ at) × (at + l * 512 ≤ length (now s)) × Below q (now s) × (i < 256) × (l < 256) ⌝ }
     requires { ⌜ Words 512 c × Residues 125 512 t ⌝ }
     ensures { λ r. ⌜ (r ≡ rowFills (now (seed .entry)) i l) × (length (now (s .exit)) ≡ length (now (s .entry))) × Below q (now (s .exit)) ⌝ }
-    ensures { λ r. ⌜ (r ≡ true → Wrote 0 to 512 (recoveredBy l (rowEntry (now (seed .entry)) i) (sub (now (s .entry)) at (l * 512)) c t) (now (s .entry)) (now (s .exit))) ⌝ }
+    ensures { λ r. ⌜ (r ≡ true → Wrote 0 to 512 (recoveredBy l (rowEntry (now (seed .entry)) i) (span (now (s .entry)) at (l * 512)) c t) (now (s .entry)) (now (s .exit))) ⌝ }
 {
     if !row_at(s, to, at, seed, i, l, 1) {
         return false;

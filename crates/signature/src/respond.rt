@@ -6,7 +6,7 @@ ghost use Rattle.hash.specs.Params.{ShareCount};
 ghost use Rattle.ring.specs.Words.{q, addW, Below, Words};
 ghost use Rattle.ring.specs.Transform.{intt, pointwise};
 ghost use Rattle.sharing.specs.Blocks.{build, totals};
-ghost use Rattle.sharing.specs.Region.{sub, Wrote};
+ghost use Rattle.sharing.specs.Region.{span, Wrote};
 ghost use Rattle.sharing.specs.Encoding.{skip};
 ghost use Rattle.sharing.specs.Masks.{masks};
 ghost use Rattle.signature.specs.Attempt.{answered, Renewed, Responded};
@@ -27,7 +27,7 @@ use sharing::shares::decode_at;
 // Line 14 at one share: that of s at a, that of r at b; c is the transform of the challenge.
 fn respond_share(s: &[u64], a: usize, b: usize, c: [u64; 512]) -> [u64; 512]
     requires { ⌜ (a + 512 ≤ length (now s)) × (b + 512 ≤ length (now s)) × Below q (now s) × Words 512 c ⌝ }
-    ensures { λ r. ⌜ (r ≡ addW (intt (pointwise c (sub (now (s .entry)) a 512))) (sub (now (s .entry)) b 512)) × Words 512 r ⌝ }
+    ensures { λ r. ⌜ (r ≡ addW (intt (pointwise c (span (now (s .entry)) a 512))) (span (now (s .entry)) b 512)) × Words 512 r ⌝ }
 {
     let x = load(s, a);
     let y = load(s, b);
@@ -39,7 +39,7 @@ fn respond_share(s: &[u64], a: usize, b: usize, c: [u64; 512]) -> [u64; 512]
 // .. at the d shares of one polynomial, in place of those of r.
 fn respond_at(s: &mut [u64], a: usize, b: usize, c: [u64; 512], d: usize)
     requires { ⌜ (a + d * 512 ≤ b) × (b + d * 512 ≤ length (now s)) × Below q (now s) × Words 512 c ⌝ }
-    ensures { λ _. ⌜ Wrote 0 b (d * 512) (build d (answered c (sub (now (s .entry)) a (d * 512)) (sub (now (s .entry)) b (d * 512)))) (now (s .entry)) (now (s .exit)) ⌝ }
+    ensures { λ _. ⌜ Wrote 0 b (d * 512) (build d (answered c (span (now (s .entry)) a (d * 512)) (span (now (s .entry)) b (d * 512)))) (now (s .entry)) (now (s .exit)) ⌝ }
 {
     for j in 0..d {
         let e = b + j * 512;
@@ -51,7 +51,7 @@ fn respond_at(s: &mut [u64], a: usize, b: usize, c: [u64; 512], d: usize)
 // .. at all l polynomials; c is the challenge.
 fn respond_vector(s: &mut [u64], a: usize, b: usize, c: [u64; 512], l: usize, d: usize)
     requires { ⌜ (a + l * (d * 512) ≤ b) × (b + l * (d * 512) ≤ length (now s)) × Below q (now s) × Words 512 c ⌝ }
-    ensures { λ _. ⌜ Wrote 0 b (l * (d * 512)) (maskedResponse d l c (sub (now (s .entry)) a (l * (d * 512))) (sub (now (s .entry)) b (l * (d * 512)))) (now (s .entry)) (now (s .exit)) ⌝ }
+    ensures { λ _. ⌜ Wrote 0 b (l * (d * 512)) (maskedResponse d l c (span (now (s .entry)) a (l * (d * 512))) (span (now (s .entry)) b (l * (d * 512)))) (now (s .entry)) (now (s .exit)) ⌝ }
 {
     let t = ntt(c);
     for i in 0..l {
@@ -64,7 +64,7 @@ fn respond_vector(s: &mut [u64], a: usize, b: usize, c: [u64; 512], l: usize, d:
 // Line 16: the sums of the l sharings at `at`, one behind the other from `to` on.
 fn decode_vector(s: &mut [u64], at: usize, to: usize, p: Params)
     requires { ⌜ (at + p .l * (p .shares * 512) ≤ to) × (to + p .l * 512 ≤ length (now s)) × Below q (now s) ⌝ }
-    ensures { λ _. ⌜ Wrote 0 to (p .l * 512) (totals (p .l) (p .shares) (sub (now (s .entry)) at (p .l * (p .shares * 512)))) (now (s .entry)) (now (s .exit)) ⌝ }
+    ensures { λ _. ⌜ Wrote 0 to (p .l * 512) (totals (p .l) (p .shares) (span (now (s .entry)) at (p .l * (p .shares * 512)))) (now (s .entry)) (now (s .exit)) ⌝ }
 {
     let l = p.l;
     let d = p.shares;

@@ -4,7 +4,7 @@ ghost use Prim.Native.Nat.{_+_, _*_, _≤_};
 ghost use lib.ListN.{length};
 ghost use Rattle.ring.specs.Words.{q, Below};
 ghost use Rattle.ring.specs.Round.{roundT, roundW};
-ghost use Rattle.sharing.specs.Region.{sub, Wrote};
+ghost use Rattle.sharing.specs.Region.{span, Wrote};
 use ring::poly::round_t;
 use ring::poly::round_w;
 use sharing::region::load;
@@ -13,7 +13,7 @@ use sharing::region::store_at;
 // The k polynomials from `at` on, rounded to the modulus of a public key's t.
 pub(crate) fn round_t_vector(s: &mut [u64], at: usize, k: usize)
     requires { ⌜ (at + k * 512 ≤ length (now s)) × Below q (now s) ⌝ }
-    ensures { λ _. ⌜ Wrote 0 at (k * 512) (roundT (sub (now (s .entry)) at (k * 512))) (now (s .entry)) (now (s .exit)) ⌝ }
+    ensures { λ _. ⌜ Wrote 0 at (k * 512) (roundT (span (now (s .entry)) at (k * 512))) (now (s .entry)) (now (s .exit)) ⌝ }
 {
     for i in 0..k {
         let a = at + i * 512;
@@ -26,7 +26,7 @@ pub(crate) fn round_t_vector(s: &mut [u64], at: usize, k: usize)
 // .. to the modulus of a commitment w.
 pub(crate) fn round_w_vector(s: &mut [u64], at: usize, k: usize)
     requires { ⌜ (at + k * 512 ≤ length (now s)) × Below q (now s) ⌝ }
-    ensures { λ _. ⌜ Wrote 0 at (k * 512) (roundW (sub (now (s .entry)) at (k * 512))) (now (s .entry)) (now (s .exit)) ⌝ }
+    ensures { λ _. ⌜ Wrote 0 at (k * 512) (roundW (span (now (s .entry)) at (k * 512))) (now (s .entry)) (now (s .exit)) ⌝ }
 {
     for i in 0..k {
         let a = at + i * 512;

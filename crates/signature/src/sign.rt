@@ -6,7 +6,7 @@ ghost use mathlib.Core.Option.{some};
 ghost use Prim.Native.Nat.{ℕ, _*_, _/_, _≤_};
 ghost use lib.ListN.{length};
 ghost use Rattle.ring.specs.Words.{q, Below};
-ghost use Rattle.sharing.specs.Region.{sub};
+ghost use Rattle.sharing.specs.Region.{span};
 ghost use Rattle.signature.specs.Attempt.{keyFrom, coinsOf, Within};
 ghost use Rattle.signature.specs.Checks.{workWords};
 ghost use Rattle.signature.specs.Keygen.{atS, Small};
@@ -64,8 +64,8 @@ fn attempt(
     requires { ⌜ (length (now vk) ≡ p .«vk_bytes») × Below 125 (vkVector p (now vk)) × (length (now out) ≡ p .«sig_bytes») ⌝ }
     requires { ⌜ Within p (coinsOf explicit (now seeds) (now noise) (now «mask_seeds»)) a ⌝ }
     ensures { λ r. ⌜ (length (now (work .exit)) ≡ length (now (work .entry))) × Below q (now (work .exit)) ⌝ }
-    ensures { λ r. ⌜ EndedAt p (now (vk .entry)) (now (mu .entry)) (coinsOf explicit (now (seeds .entry)) (now (noise .entry)) (now («mask_seeds» .entry))) a (sub (now (work .entry)) (atS (p .shares)) (p .l * (p .shares * 512))) r (sub (now (work .exit)) (atS (p .shares)) (p .l * (p .shares * 512))) (now (out .entry)) (now (out .exit)) ⌝ }
-    ensures { λ r. ⌜ HeldAt p (now (vk .entry)) (now (mu .entry)) (coinsOf explicit (now (seeds .entry)) (now (noise .entry)) (now («mask_seeds» .entry))) a (sub (now (work .entry)) (atS (p .shares)) (p .l * (p .shares * 512))) r (now (work .exit)) ⌝ }
+    ensures { λ r. ⌜ EndedAt p (now (vk .entry)) (now (mu .entry)) (coinsOf explicit (now (seeds .entry)) (now (noise .entry)) (now («mask_seeds» .entry))) a (span (now (work .entry)) (atS (p .shares)) (p .l * (p .shares * 512))) r (span (now (work .exit)) (atS (p .shares)) (p .l * (p .shares * 512))) (now (out .entry)) (now (out .exit)) ⌝ }
+    ensures { λ r. ⌜ HeldAt p (now (vk .entry)) (now (mu .entry)) (coinsOf explicit (now (seeds .entry)) (now (noise .entry)) (now («mask_seeds» .entry))) a (span (now (work .entry)) (atS (p .shares)) (p .l * (p .shares * 512))) r (now (work .exit)) ⌝ }
 {
     let n = p.kappa / 8;
     let b = p.kappa / 4;
@@ -102,7 +102,7 @@ fn attempt_all(
     requires { ⌜ (length (now vk) ≡ p .«vk_bytes») × Below 125 (vkVector p (now vk)) × (length (now out) ≡ p .«sig_bytes») ⌝ }
     requires { ⌜ (1 ≤ n) × (n ≤ 16) × (coinsGood p n (coinsOf explicit (now seeds) (now noise) (now «mask_seeds»)) ≡ true) ⌝ }
     ensures { λ r. ⌜ length (now (work .exit)) ≡ length (now (work .entry)) ⌝ }
-    ensures { λ r. ⌜ ((msg : List ℕ) → now (mu .entry) ≡ muOf p (now (vk .entry)) msg → answer (r .status) (r .attempts) (now (out .exit)) ≡ kept (signMade p (now (vk .entry)) msg (coinsOf explicit (now (seeds .entry)) (now (noise .entry)) (now («mask_seeds» .entry))) n (matrix p (vkSeed p (now (vk .entry)))) (some (sub (now (work .entry)) (atS (p .shares)) (p .l * (p .shares * 512))))) (now (out .entry))) ⌝ }
+    ensures { λ r. ⌜ ((msg : List ℕ) → now (mu .entry) ≡ muOf p (now (vk .entry)) msg → answer (r .status) (r .attempts) (now (out .exit)) ≡ kept (signMade p (now (vk .entry)) msg (coinsOf explicit (now (seeds .entry)) (now (noise .entry)) (now («mask_seeds» .entry))) n (matrix p (vkSeed p (now (vk .entry)))) (some (span (now (work .entry)) (atS (p .shares)) (p .l * (p .shares * 512))))) (now (out .entry))) ⌝ }
 {
     let mut a: usize = 0;
     while a < n {

@@ -2,7 +2,7 @@
 ghost use Prim.Native.Nat.{_+_, _*_, _≤_};
 ghost use lib.ListN.{length};
 ghost use Rattle.ring.specs.Words.{q, Below};
-ghost use Rattle.sharing.specs.Region.{sub, Wrote};
+ghost use Rattle.sharing.specs.Region.{span, Wrote};
 ghost use Rattle.signature.specs.Masked.{transformed, untransformed};
 use ring::poly::intt;
 use ring::poly::ntt;
@@ -12,7 +12,7 @@ use sharing::region::store_at;
 // The transforms of the n polynomials from `at` on.
 pub(crate) fn ntt_vector(s: &mut [u64], at: usize, n: usize)
     requires { ⌜ (at + n * 512 ≤ length (now s)) × Below q (now s) ⌝ }
-    ensures { λ _. ⌜ Wrote 0 at (n * 512) (transformed n (sub (now (s .entry)) at (n * 512))) (now (s .entry)) (now (s .exit)) ⌝ }
+    ensures { λ _. ⌜ Wrote 0 at (n * 512) (transformed n (span (now (s .entry)) at (n * 512))) (now (s .entry)) (now (s .exit)) ⌝ }
 {
     for i in 0..n {
         let a = at + i * 512;
@@ -25,7 +25,7 @@ pub(crate) fn ntt_vector(s: &mut [u64], at: usize, n: usize)
 // The transforms of the n polynomials from `from` on, put at `to`, before them.
 pub(crate) fn ntt_to(s: &mut [u64], from: usize, to: usize, n: usize)
     requires { ⌜ (to + n * 512 ≤ from) × (from + n * 512 ≤ length (now s)) × Below q (now s) ⌝ }
-    ensures { λ _. ⌜ Wrote 0 to (n * 512) (transformed n (sub (now (s .entry)) from (n * 512))) (now (s .entry)) (now (s .exit)) ⌝ }
+    ensures { λ _. ⌜ Wrote 0 to (n * 512) (transformed n (span (now (s .entry)) from (n * 512))) (now (s .entry)) (now (s .exit)) ⌝ }
 {
     for i in 0..n {
         let p = load(s, from + i * 512);
@@ -37,7 +37,7 @@ pub(crate) fn ntt_to(s: &mut [u64], from: usize, to: usize, n: usize)
 // And back, in place.
 pub(crate) fn intt_vector(s: &mut [u64], at: usize, n: usize)
     requires { ⌜ (at + n * 512 ≤ length (now s)) × Below q (now s) ⌝ }
-    ensures { λ _. ⌜ Wrote 0 at (n * 512) (untransformed n (sub (now (s .entry)) at (n * 512))) (now (s .entry)) (now (s .exit)) ⌝ }
+    ensures { λ _. ⌜ Wrote 0 at (n * 512) (untransformed n (span (now (s .entry)) at (n * 512))) (now (s .entry)) (now (s .exit)) ⌝ }
 {
     for i in 0..n {
         let a = at + i * 512;

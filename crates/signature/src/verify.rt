@@ -8,7 +8,7 @@ ghost use lib.IntN.{pos, natAbs};
 ghost use lib.ListN.{length, getD};
 ghost use Rattle.ring.specs.Words.{q, Below, Words};
 ghost use Rattle.ring.specs.Round.{residues};
-ghost use Rattle.sharing.specs.Region.{sub};
+ghost use Rattle.sharing.specs.Region.{span};
 ghost use Rattle.signature.specs.Answers.{fieldsOf};
 ghost use Rattle.signature.specs.Checks.{ask, sameBytes, properForm};
 ghost use Rattle.signature.specs.Form.{read, hashBytes};
@@ -56,7 +56,7 @@ fn adjust_rows(
     requires { ⌜ (length (now t) ≡ k * 512) × Below 125 (now t) × (length (now hint) ≡ k * 512) × (length (now w) ≡ k * 512) ⌝ }
     requires { ⌜ ((i : ℕ) → i < length (now hint) → natAbs (getD (now hint) i (pos 0)) < 31) ⌝ }
     ensures { λ r. ⌜ r ≡ filled (matrixOf k l (now (seed .entry))) ⌝ }
-    ensures { λ r. ⌜ (r ≡ true → now (w .exit) ≡ adjustedRows k l (now (seed .entry)) (sub (now (s .entry)) 512 (l * 512)) c (now (t .entry)) (now (hint .entry))) ⌝ }
+    ensures { λ r. ⌜ (r ≡ true → now (w .exit) ≡ adjustedRows k l (now (seed .entry)) (span (now (s .entry)) 512 (l * 512)) c (now (t .entry)) (now (hint .entry))) ⌝ }
 {
     for i in 0..k {
         let a = i * 512;
@@ -74,7 +74,7 @@ fn adjust_rows(
 fn place(z: &[i64], l: usize, s: &mut [u64])
     requires { ⌜ (512 + l * 512 ≤ length (now s)) × Below q (now s) × (length (now z) ≡ l * 512) ⌝ }
     requires { ⌜ ((i : ℕ) → i < length (now z) → natAbs (getD (now z) i (pos 0)) < q) ⌝ }
-    ensures { λ _. ⌜ (sub (now (s .exit)) 512 (l * 512) ≡ transformed l (residues q (now (z .entry)))) × (length (now (s .exit)) ≡ length (now (s .entry))) × Below q (now (s .exit)) ⌝ }
+    ensures { λ _. ⌜ (span (now (s .exit)) 512 (l * 512) ≡ transformed l (residues q (now (z .entry)))) × (length (now (s .exit)) ≡ length (now (s .entry))) × Below q (now (s .exit)) ⌝ }
 {
     let b = 512 + l * 512;
     residues_into(z, Q, &mut s[512..b]);

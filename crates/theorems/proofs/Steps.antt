@@ -8,7 +8,7 @@ use Rattle.hash.specs.Params.{orderIndex}
 use Rattle.hash.specs.declared.params.Params.{Params}
 use Rattle.ring.specs.Words.{addW, Words, Linear}
 use Rattle.ring.specs.Transform.{intt, mul}
-use Rattle.ring.proofs.Sums.{words-add}
+use Rattle.ring.proofs.Sums.{add-zero-left, words-add}
 use Rattle.ring.proofs.Theorems.{intt-linear, mul-linear}
 use Rattle.sharing.specs.Blocks.{block, build, total, totals, each}
 use Rattle.sharing.specs.Encoding.{skip, zeroVector}
@@ -16,8 +16,8 @@ use Rattle.sharing.specs.Masks.{masks}
 use Rattle.sharing.specs.declared.masks.MaskGen.{MaskGen}
 use Rattle.sharing.proofs.Carry.{mask-low}
 use Rattle.sharing.proofs.Decode.{words-sum, sum-ext, linear-sum, linear-then, total-linear, totals-build, block-totals}
-use Rattle.sharing.proofs.Lists.{add-zeros-left, block-words, block-build, build-ext, words-build}
-use Rattle.sharing.proofs.Totals.{each-words, each-total, zeroNo-total, refreshed-words, refreshed-totals, noise-words, noise-totals, zeroVector-words, zeroVector-block}
+use Rattle.sharing.proofs.Lists.{block-words, block-build, build-ext, words-build}
+use Rattle.sharing.proofs.Totals.{each-words, each-total, zeroAt-total, refreshed-words, refreshed-totals, noise-words, noise-totals, zeroVector-words, zeroVector-block}
 use Rattle.signature.specs.Masked.{Noise, maskedRow, maskedProduct, maskedNoise, beforeProduct, behindProduct, maskedImage}
 use Rattle.signature.specs.Recover.{productRow}
 use Rattle.signature.specs.Sign.{Public, Coins, concluded, maskedResponse, refreshedKey, refreshedNoise, refreshedResponse, attempted, noiseAt, maskAt, signFrom}
@@ -124,8 +124,8 @@ module _ (p : Params) (power : p .shares ≡ 2 ^ orderIndex (p .shares)) where
         ∙ build-ext l (λ (i : ℕ). addW (total d (block (d * 512) i start)) (noiseTotal d (N .reps) (N .first) i)) (noiseTotal d (N .reps) (N .first))
         (λ (i : ℕ) (h : i < l).
         ap (λ (y : List ℕ). addW y (noiseTotal d (N .reps) (N .first) i))
-        (ap (total d) (zeroVector-block masks mask-low d power g l i h) ∙ zeroNo-total masks mask-low d power i g)
-        ∙ add-zeros-left (noiseTotal d (N .reps) (N .first) i) (words-sum 512 (N .reps) (λ (t : ℕ). total d (N .first i t))))
+        (ap (total d) (zeroVector-block masks mask-low d power g l i h) ∙ zeroAt-total masks mask-low d power i g)
+        ∙ add-zero-left (noiseTotal d (N .reps) (N .first) i) (words-sum 512 (N .reps) (λ (t : ℕ). total d (N .first i t))))
 
     -- line 7
     second-at : (i : ℕ) → i < k → block 512 i (totalsOf p N .second) ≡ noiseTotal d (N .reps) (N .second) i

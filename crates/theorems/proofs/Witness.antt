@@ -8,7 +8,7 @@ use native.Mathlib.Omega.{arith}
 use borrow.Author.Tests.{eq-eqb, ne-eqb}
 use lib.Dec.{eqb, lit<}
 use lib.ListN.{length, getD}
-use Rattle.hash.specs.Lists.{pick}
+use Rattle.hash.specs.Lists.{zeros, pick}
 use Rattle.hash.specs.Params.{ShareCount, lookupOf}
 use Rattle.hash.specs.declared.params.Params.{Params}
 use Rattle.hash.specs.declared.params.Selected.{Selected}
@@ -16,10 +16,11 @@ use Rattle.hash.proofs.Rows.{count-low, found}
 use Rattle.hash.proofs.Table.{getD-table}
 use Rattle.ring.specs.Words.{q, allBelow, Words}
 use Rattle.ring.proofs.Places.{residues-table}
-use Rattle.sharing.specs.Blocks.{zeros, build, sumN}
+use Rattle.sharing.specs.Blocks.{build, sumN}
 use Rattle.sharing.proofs.Built.{zeros-at, sumN-next, sumN-one}
 use Rattle.sharing.proofs.Decode.{sumN-ext}
-use Rattle.sharing.proofs.Lists.{zeros-words, block-at, inside, words-build, block-build}
+use Rattle.ring.proofs.Sums.{words-zeros}
+use Rattle.sharing.proofs.Lists.{block-at, inside, words-build, block-build}
 use Rattle.signature.specs.Checks.{workWords}
 use Rattle.theorems.specs.Unit.{UnitCall, recordOf, wordAt, secretAt, lentAt, noiseTotalAt, Fits, Sound, Alike, SameSecret, EqualTotals}
 use Rattle.theorems.specs.Witness.{Wanted, Has, allOrZero, inFirst, laidFor, recordIn, laid, hadBy}
@@ -40,7 +41,7 @@ module _ (f : ℕ → ℕ) where
   share-words : (b : Bool) → Words 512 (allOrZero b f)
   unfolding allOrZero
   share-words true = residues-table (λ (x : ℕ). f x % q) (λ (x : ℕ). mod-lt (f x) (lit< tt)) 512
-  share-words false = zeros-words 512
+  share-words false = words-zeros 512
 
   share-at : (b : Bool) (x : ℕ) → x < 512 → getD (allOrZero b f) x 0 ≡ pick b (f x % q) 0
   unfolding allOrZero
@@ -107,9 +108,9 @@ module _ (w : Wanted) (d : ℕ) (p : Params) (is : lookupOf (w .set) d (w .editi
       let n : m * (d * 512) ≡ m * p .shares * 512 = omega (arith, ap (λ (x : ℕ). m * x) shares-are) in
       let e7 : eqb (length (v .noise)) (w .attempts * (m * p .shares * 512)) ≡ true = eq-eqb _ _ (noise-words .long ∙ ap (λ (x : ℕ). w .attempts * x) n) in
       let b7 : allBelow q (v .noise) ≡ true = below-yes q (v .noise) (noise-words .low) in
-      let m7 : eqb (length (v .masks)) (w .attempts * 32) ≡ true = eq-eqb _ _ (zeros-words (w .attempts * 32) .long) in
-      let r8 : eqb (length (v .result)) (p .«sig_bytes») ≡ true = eq-eqb _ _ (zeros-words (p .«sig_bytes») .long) in
-      let w8 : eqb (length (v .work)) (workWords p) ≡ true = eq-eqb _ _ (zeros-words (workWords p) .long) in
+      let m7 : eqb (length (v .masks)) (w .attempts * 32) ≡ true = eq-eqb _ _ (words-zeros (w .attempts * 32) .long) in
+      let r8 : eqb (length (v .result)) (p .«sig_bytes») ≡ true = eq-eqb _ _ (words-zeros (p .«sig_bytes») .long) in
+      let w8 : eqb (length (v .work)) (workWords p) ≡ true = eq-eqb _ _ (words-zeros (workWords p) .long) in
       record {
         share-words = subst (λ (x : ℕ). Words (p .l * (x * 512)) (v .words)) (sym shares-are) secret-words;
         coins = rw (e7, b7, m7) refl;

@@ -5,13 +5,13 @@ use mathlib.Core.Bool.{Bool, true}
 use mathlib.Core.List.{List, []}
 use Prim.Native.Nat.{ℕ, _+_, _*_, _%_, _<_}
 use lib.Dec.{eqb}
-use Rattle.hash.specs.Lists.{table, pick}
+use Rattle.hash.specs.Lists.{zeros, table, pick}
 use Rattle.hash.specs.Params.{paramsOf, lookupOf}
 use Rattle.hash.specs.declared.params.Edition.{Edition}
 use Rattle.hash.specs.declared.params.Params.{Params}
 use Rattle.hash.specs.declared.params.Selected.{Selected}
 use Rattle.ring.specs.Words.{q}
-use Rattle.sharing.specs.Blocks.{zeros, build}
+use Rattle.sharing.specs.Blocks.{build}
 use Rattle.signature.specs.Checks.{workWords}
 use Rattle.theorems.specs.Unit.{UnitCall, recordOf, secretAt, noiseTotalAt}
 

@@ -1,5 +1,4 @@
 use lib.Bits.{mask-lt, and-mask}
-use borrow.Author.Needs.{needs}
 use Rattle.hash.proofs.endian.low_byte.Statement.{statement}
 use Rattle.hash.proofs.endian.low_byte.Tie as tie
 

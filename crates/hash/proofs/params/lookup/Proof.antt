@@ -1,9 +1,9 @@
-use mathlib.Core.Path.{_≡_, sym, _∙_}
-use Prim.Native.Nat.{ℕ, _+_, _*_, _≤_}
+use mathlib.Core.Path.{sym, _∙_}
+use Prim.Native.Nat.{_≤_}
 use native.Mathlib.Omega.{arith}
 use borrow.Author.Needs.{needs}
 use borrow.Author.Tests.{eq-eqb, ne-eqb}
-use Rattle.hash.specs.Params.{setIndex, orderIndex, lookupOf}
+use Rattle.hash.specs.Params.{lookupOf}
 use Rattle.hash.proofs.Rows.{set-le, order-le}
 use Rattle.hash.proofs.params.lookup.Statement.{statement}
 use Rattle.hash.proofs.params.lookup.Tie as tie

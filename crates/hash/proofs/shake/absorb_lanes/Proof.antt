@@ -1,9 +1,9 @@
-use mathlib.Core.Path.{_≡_, refl, sym, ap, _∙_}
-use Prim.Native.Nat.{ℕ, _+_, _-_, _*_, _/_, _%_, _≤_}
+use mathlib.Core.Path.{_≡_, _∙_}
+use Prim.Native.Nat.{ℕ, _+_, _-_, _*_, _/_, _%_, _≤_, _<_}
 use mathlib.Core.Logic.{⊎-elim}
 use native.Mathlib.Nat.{add-zero}
 use native.Mathlib.Omega.{arith}
-use lib.ListN.{length, drop}
+use lib.ListN.{length, getD, drop}
 use Rattle.hash.specs.Shake.{absorbFrom, xorLane}
 use Rattle.hash.proofs.Lanes.{last-turn, next-turn}
 use borrow.Author.Needs.{needs}
@@ -73,12 +73,13 @@ loop-again c =
     let b = l .before .before in
     let m = b .args .m .now in
     let h : 8 * l .loop .i + 8 ≤ length (b .args .m .now) = omega arith in
-    let e = c .before .before .load .ensures .0 in (
+    let e = c .before .before .load .ensures in
+    let g : (j : ℕ) → getD (b .args .m .now) j 0 < 256 = λ j. c .before .before .before .before .before .shared-slice-known .given j .fits in (
       search needs,
       ⊎-elim (λ u. omega arith) (λ u. omega arith) (c .if1 .came),
       ⊎-elim
-          (λ u. last-turn (l .loop .s) (c .if1 .s) _ (b .args .n) (l .loop .i) (l .loop .k) _ m (b .pre .0) h (l .loop .inv .1) e (l .loop .inv .2) (omega arith) (u .2 ∙ u .1 .ensures))
-          (λ u. next-turn (l .loop .s) (c .if1 .s) _ (b .args .n) (l .loop .i) (l .loop .k) _ m (b .pre .0) h (l .loop .inv .1) e (l .loop .inv .2) (omega arith) (u .1))
+          (λ u. last-turn (l .loop .s) (c .if1 .s) _ (b .args .n) (l .loop .i) (l .loop .k) _ m (b .pre .0) h g (l .loop .inv .1) e (l .loop .inv .2) (omega arith) (u .2 ∙ u .1 .ensures))
+          (λ u. next-turn (l .loop .s) (c .if1 .s) _ (b .args .n) (l .loop .i) (l .loop .k) _ m (b .pre .0) h g (l .loop .inv .1) e (l .loop .inv .2) (omega arith) (u .1))
           (c .if1 .came),
     )
 

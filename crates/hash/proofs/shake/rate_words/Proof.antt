@@ -1,9 +1,9 @@
-use mathlib.Core.Path.{_≡_, refl, _∙_}
+use mathlib.Core.Path.{refl}
+use Prim.Native.Nat.{_/_, _%_}
 use Rattle.hash.specs.Lists.{table}
-use Rattle.hash.specs.Keccak.{lane}
-use Rattle.hash.specs.Endian.{rateLanes, words}
+use Rattle.hash.specs.Endian.{rateLanes}
 use Rattle.hash.proofs.Shape.{low}
-use Rattle.hash.proofs.Word.{words-are}
+use Rattle.hash.proofs.Word.{rate-words-are}
 use borrow.Author.Needs.{needs}
 use Rattle.hash.proofs.shake.rate_words.Statement.{statement}
 use Rattle.hash.proofs.shake.rate_words.Tie as tie
@@ -12,7 +12,7 @@ returns : tie.Need-returns
 unfolding rateLanes table
 returns c =
     let b = c .before .before .before .before in
-    let e = words-are (b .args .t1) (low (b .args .t1) (b .good .0 .0) (b .good .0 .1 .1)) in
+    let e = rate-words-are (b .args .t1) (λ i. low (b .args .t1) (b .good .0 .0) (b .good .0 .1 .1) (i % 5) (i / 5)) in
     (refl, e)
 
 pub rate-words-spec : {M : Type 1} → statement M

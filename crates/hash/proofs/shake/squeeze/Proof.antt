@@ -1,10 +1,9 @@
-use mathlib.Core.Path.{_≡_, refl, _∙_, ap}
-use Prim.Native.Nat.{ℕ, suc, _+_, _-_, _/_, _%_, _≤_}
+use mathlib.Core.Path.{_≡_, refl, _∙_}
+use Prim.Native.Nat.{_+_, _-_, _/_, _%_, _≤_}
 use mathlib.Core.List.{_++_}
 use native.Mathlib.Omega.{arith}
 use lib.ListN.{length, drop}
-use Rattle.hash.specs.Lists.{table, pasted}
-use Rattle.hash.specs.Keccak.{keccakF}
+use Rattle.hash.specs.Lists.{table}
 use Rattle.hash.specs.Shake.{stream, after}
 use Rattle.hash.proofs.Table.{filled-none}
 use Rattle.hash.proofs.Laid.{one-block, last-block, next}

@@ -5,8 +5,10 @@ use lib.Dec.{lit<}
 use lib.ListN.{length}
 use borrow.Author.Needs.{needs}
 use Rattle.ring.specs.Words.{Below}
-use Rattle.ring.specs.Round.{mapN, rounded}
-use Rattle.ring.proofs.Pairs.{rounded-low, Each, each-start, each-low, each-more, each-end, map2-mapN, below-mapN}
+use Rattle.ring.specs.Poly.{mapN}
+use Rattle.ring.specs.Round.{rounded}
+use Rattle.ring.proofs.Pairs.{Each, each-start, each-low, each-more, each-end, map2-mapN, below-mapN}
+use Rattle.ring.proofs.Mapped.{rounded-lt}
 use Rattle.ring.proofs.poly.round_t.Statement.{statement}
 use Rattle.ring.proofs.poly.round_t.Tie as tie
 
@@ -34,7 +36,7 @@ returns c =
     let l = c .before .loop in
     let f = c .before .before .args .f in
     let e : l .r ≡ mapN (rounded 42 125) f = each-end _ _ _ (l .i) (l .r) (l .inv .1) (omega arith) refl ∙ map2-mapN (rounded 42 125) f in
-    (e, record { long = l .inv .1 .long ∙ l .inv .0; low = subst (Below 125) (sym e) (below-mapN 125 (rounded 42 125) (rounded-low 42 124) f) })
+    (e, record { long = l .inv .1 .long ∙ l .inv .0; low = subst (Below 125) (sym e) (below-mapN 125 (rounded 42 125) (rounded-lt 42 125 (lit< tt)) f) })
 
 pub round-t-spec : {M : Type 1} → statement M
 round-t-spec =

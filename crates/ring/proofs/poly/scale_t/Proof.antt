@@ -6,7 +6,7 @@ use lib.Dec.{lit<}
 use lib.ListN.{length}
 use borrow.Author.Needs.{needs}
 use Rattle.ring.specs.Words.{Below, q}
-use Rattle.ring.specs.Round.{mapN}
+use Rattle.ring.specs.Poly.{mapN}
 use Rattle.ring.proofs.Pairs.{Each, each-start, each-low, each-more, each-end, map2-mapN, below-mapN}
 use Rattle.ring.proofs.poly.scale_t.Statement.{statement}
 use Rattle.ring.proofs.poly.scale_t.Tie as tie

@@ -6,9 +6,9 @@ use lib.Seq.{length-take-le}
 use borrow.Author.Needs.{needs}
 use borrow.Fn.Kinds.{In}
 use borrow.Fn.PlainCycle.{Measures, is, falls, and}
-use Rattle.ring.specs.Residue.{prime, rootOf, bwd, mods, Block}
+use Rattle.ring.specs.Residue.{prime, zeta, bwd, mods, Block}
 use Rattle.ring.specs.Loose.{LooseList, backRange}
-use Rattle.ring.proofs.Bounds.{root-below}
+use Rattle.ring.proofs.Bounds.{zeta-below}
 use Rattle.ring.proofs.Blocks.{node-lt, long-half, first-part, second-part, after-part, laid-long, laid-low, whole-bwd}
 use Rattle.ring.proofs.residue.+invert.{statement}
 use Rattle.ring.proofs.residue.+invert.Tie.{close}
@@ -102,11 +102,11 @@ invert-level-requires t c κs =
     let r = c .before .before .before .before .before .before .before .before .invert in
     let s = c .before .before .before .before .invert2 in (
       laid-long (prime (g .second)) (g .d) (g .k) (g .a .now) l (b .pre .1 .3) (r .last .1 .1 .0) (r .kept .1 .1 .0) (s .last .1 .1 .0) (s .kept .1 .1 .0),
-      root-below (g .second) _ (c .before .zeta .ensures),
+      zeta-below (g .second) _ (c .before .zeta .ensures),
       omega (arith, l),
       b .pre .1 .2,
       laid-low (prime (g .second)) (g .d) (g .k) (g .a .now) l (b .pre .1 .3) (r .last .1 .1 .0) (r .kept .1 .1 .0) (s .last .1 .1 .0) (s .kept .1 .1 .0)
-          (prime (g .second)) _ (rootOf (g .second)) (r .ensures) (s .ensures),
+          (prime (g .second)) _ (zeta (g .second)) (r .ensures) (s .ensures),
     )
 
 invert-first-requires : (t : ℕ) → invert-lts.Need-first-requires (calls t) (invert-at t) invert.Post
@@ -136,7 +136,7 @@ invert-returns t c =
     let w = c .before .before .before .before .zeta in
     let o = c .before .before .level in
     whole-bwd (prime (g .second)) (g .d) (g .k) (g .a .now) (c .before .before .before .before .before .before .before .before .before .before .before .before .before .if1 .taken) (b .pre .1 .3) (r .last .1 .1 .0) (r .kept .1 .1 .0) (s .last .1 .1 .0) (s .kept .1 .1 .0)
-    (prime (g .second)) _ (rootOf (g .second)) (r .ensures) (s .ensures) _ (w .result) (w .ensures) (o .last .1 .0) (o .ensures)
+    (prime (g .second)) _ (zeta (g .second)) (r .ensures) (s .ensures) _ (w .result) (w .ensures) (o .last .1 .0) (o .ensures)
 
 invert-same-length-2 : (t : ℕ) → invert-lts.Need-same-length-2 (calls t) (invert-at t) invert.Post
 invert-same-length-2 t c = c .before .before .first .kept .1 .1 .0
@@ -147,7 +147,7 @@ invert-returns-2 t c =
     let g = b .args in
     let r = c .before .before .first in
     let e : 2 ≡ g .d = omega (arith, c .before .before .before .before .if1 .left, b .pre .1 .1) in
-    subst (λ (m : ℕ). LooseList (prime (g .second)) (backRange m) (bwd (prime (g .second)) (rootOf (g .second)) m (g .k) (mods (prime (g .second)) (g .a .now))) (r .last .1 .1 .0)) e (r .ensures)
+    subst (λ (m : ℕ). LooseList (prime (g .second)) (backRange m) (bwd (prime (g .second)) (zeta (g .second)) m (g .k) (mods (prime (g .second)) (g .a .now))) (r .last .1 .1 .0)) e (r .ensures)
 
 pub +invert-spec : {M : Type 1} → statement M
 +invert-spec = close μ-invert λ t. invert-lts.spec (calls t)

@@ -6,9 +6,9 @@ use lib.Seq.{length-take-le}
 use borrow.Author.Needs.{needs}
 use borrow.Fn.Kinds.{In}
 use borrow.Fn.PlainCycle.{Measures, is, falls, and}
-use Rattle.ring.specs.Residue.{prime, rootOf, fwd, mods, Block}
+use Rattle.ring.specs.Residue.{prime, zeta, fwd, mods, Block}
 use Rattle.ring.specs.Loose.{LooseList, forthRange}
-use Rattle.ring.proofs.Bounds.{root-below}
+use Rattle.ring.proofs.Bounds.{zeta-below}
 use Rattle.ring.proofs.Blocks.{node-lt, long-half, first-block, second-block, after-first, both-kept, whole-fwd}
 use Rattle.ring.proofs.LevelRanges.{forth-low, forth-more}
 use Rattle.ring.proofs.residue.+transform.{statement}
@@ -48,7 +48,7 @@ transform-split-requires t c κs =
     let g = b .args in
     let l = c .before .before .if1 .taken in (
       long-half _ (g .d) (g .k) (g .a .now) l (b .pre .1 .3),
-      root-below (g .second) _ (c .before .zeta .ensures),
+      zeta-below (g .second) _ (c .before .zeta .ensures),
       forth-low (prime (g .second)) (g .d) (omega (arith, l)) (b .pre .1 .2) (g .a .now) (b .pre .1 .3 .low),
     )
 
@@ -143,7 +143,7 @@ transform-returns t c =
     let r = c .before .before .before .before .before .before .transform in
     let o = c .before .before .transform2 in
     whole-fwd _ (g .d) (g .k) (g .a .now) (c .before .before .before .before .before .before .before .before .before .before .before .before .before .if1 .taken) (b .pre .1 .3) (s .last .1 .0) (s .kept .1 .0) (r .last .1 .1 .0) (r .kept .1 .1 .0) (o .last .1 .1 .0)
-    (prime (g .second)) (w .result) _ (s .ensures) _ (rootOf (g .second)) (w .ensures) (r .ensures) (o .ensures)
+    (prime (g .second)) (w .result) _ (s .ensures) _ (zeta (g .second)) (w .ensures) (r .ensures) (o .ensures)
 
 transform-same-length-2 : (t : ℕ) → transform-lts.Need-same-length-2 (calls t) (transform-at t) transform.Post
 transform-same-length-2 t c = c .before .before .last .kept .1 .1 .0
@@ -154,7 +154,7 @@ transform-returns-2 t c =
     let g = b .args in
     let r = c .before .before .last in
     let e : 2 ≡ g .d = omega (arith, c .before .before .before .before .if1 .left, b .pre .1 .1) in
-    subst (λ (m : ℕ). LooseList (prime (g .second)) (forthRange 0) (fwd (prime (g .second)) (rootOf (g .second)) m (g .k) (mods (prime (g .second)) (g .a .now))) (r .last .1 .1 .0)) e (r .ensures)
+    subst (λ (m : ℕ). LooseList (prime (g .second)) (forthRange 0) (fwd (prime (g .second)) (zeta (g .second)) m (g .k) (mods (prime (g .second)) (g .a .now))) (r .last .1 .1 .0)) e (r .ensures)
 
 pub +transform-spec : {M : Type 1} → statement M
 +transform-spec = close μ-transform λ t. transform-lts.spec (calls t)

@@ -11,7 +11,7 @@ use Rattle.ring.proofs.residue.backward.Tie as tie
 invert-requires : tie.Need-invert-requires
 invert-requires c κs =
     let b = c .before .before .before .before .before .before .before .before in
-    let r = c .before .before .before .before .before .rests in
+    let r = c .before .before .before .before .before .reduce-all in
     (c .before .before .powers .ensures, lit≤ tt, lit≤ tt, low-block (b .args .second) (b .args .a .now) (r .last .1 .0) (b .pre) (r .ensures))
 
 scaled-requires : tie.Need-scaled-requires
@@ -24,7 +24,7 @@ scaled-requires c κs =
 returns : tie.Need-returns
 returns c =
     let b = c .before .before .before .before .before .before .before .before .before .before .before .before .before .before .before .before in
-    let r = c .before .before .before .before .before .before .before .before .before .before .before .before .before .rests in
+    let r = c .before .before .before .before .before .before .before .before .before .before .before .before .before .reduce-all in
     let i = c .before .before .before .before .before .before .before .invert in
     let v = c .before .before .before .inverse in
     let s = c .before .before .scaled in

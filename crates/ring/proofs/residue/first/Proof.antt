@@ -1,8 +1,8 @@
 use native.Mathlib.Omega.{arith}
 use lib.ListN.{length-set}
 use borrow.Author.Needs.{needs}
-use Rattle.ring.specs.Residue.{prime, rootOf}
-use Rattle.ring.proofs.Bounds.{root-below}
+use Rattle.ring.specs.Residue.{prime, zeta}
+use Rattle.ring.proofs.Bounds.{zeta-below}
 use Rattle.ring.proofs.Blocks.{first-four}
 use Rattle.ring.proofs.LevelRanges.{back-two}
 use Rattle.ring.proofs.Sums.{below-at}
@@ -14,24 +14,24 @@ back-requires : tie.Need-back-requires
 back-requires c κs =
     let b = c .before .before .before .before in
     let low = below-at _ (prime-pos (b .args .second)) (b .args .a .now) (b .pre .1 .low) in
-    (root-below (b .args .second) _ (c .before .before .zeta .ensures), omega (arith, low 0), omega (arith, low 1))
+    (zeta-below (b .args .second) _ (c .before .before .zeta .ensures), omega (arith, low 0), omega (arith, low 1))
 
 back-requires-2 : tie.Need-back-requires-2
 back-requires-2 c κs =
     let b = c .before .before .before .before .before .before .before .before in
     let low = below-at _ (prime-pos (b .args .second)) (b .args .a .now) (b .pre .1 .low) in
-    (root-below (b .args .second) _ (c .before .before .zeta2 .ensures), omega (arith, low 2), omega (arith, low 3))
+    (zeta-below (b .args .second) _ (c .before .before .zeta2 .ensures), omega (arith, low 2), omega (arith, low 3))
 
 back-requires-3 : tie.Need-back-requires-3
 back-requires-3 c κs =
     let b = c .before .before .before .before .before .before .before .before .before .before in
     let low = below-at _ (prime-pos (b .args .second)) (b .args .a .now) (b .pre .1 .low) in
-    (root-below (b .args .second) _ (c .zeta3 .ensures), omega (arith, low 0, low 1, c .before .before .before .before .before .back .ensures .sum-low), omega (arith, low 2, low 3, c .before .back2 .ensures .sum-low))
+    (zeta-below (b .args .second) _ (c .zeta3 .ensures), omega (arith, low 0, low 1, c .before .before .before .before .before .back .ensures .sum-low), omega (arith, low 2, low 3, c .before .back2 .ensures .sum-low))
 
 back-requires-4 : tie.Need-back-requires-4
 back-requires-4 c κs =
     let b = c .before .before .before .before .before .before .before .before .before .before .before in
-    (root-below (b .args .second) _ (c .before .zeta3 .ensures), omega (arith, c .before .before .before .before .before .before .back .ensures .rest-low), omega (arith, c .before .before .back2 .ensures .rest-low))
+    (zeta-below (b .args .second) _ (c .before .zeta3 .ensures), omega (arith, c .before .before .before .before .before .before .back .ensures .diff-low), omega (arith, c .before .before .back2 .ensures .diff-low))
 
 slice-write-a-3 : tie.Need-slice-write-a-3
 slice-write-a-3 c = simp length-set (omega (arith, c .before .before .before .before .before .before .before .before .before .before .before .before .pre .1 .long))
@@ -47,7 +47,7 @@ returns c =
     let t = c .before .back3 .ensures in
     let u = c .back4 .ensures in
     back-two (prime (b .args .second)) _ _
-    (first-four (prime (b .args .second)) (rootOf (b .args .second)) (b .args .k) (b .args .a .now) (b .pre .1 .long)
+    (first-four (prime (b .args .second)) (zeta (b .args .second)) (b .args .k) (b .args .a .now) (b .pre .1 .long)
     _ _ _ (c .before .before .zeta3 .ensures) _ _ _ _ _ _ _ _ (c .before .before .before .before .before .before .before .before .before .before .zeta .ensures) (c .before .before .before .before .before .before .zeta2 .ensures) r s t u
     (prime-pos (b .args .second)) (b .pre .1 .low))
 

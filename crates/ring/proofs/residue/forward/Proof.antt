@@ -7,13 +7,13 @@ use Rattle.ring.proofs.residue.forward.Tie as tie
 transform-requires : tie.Need-transform-requires
 transform-requires c κs =
     let b = c .before .before .before .before .before .before .before .before in
-    let r = c .before .before .before .before .before .rests in
+    let r = c .before .before .before .before .before .reduce-all in
     (c .before .before .powers .ensures, lit≤ tt, lit≤ tt, top-block (b .args .second) (b .args .a .now) (r .last .1 .0) (b .pre) (r .ensures))
 
 returns : tie.Need-returns
 returns c =
     let b = c .before .before .before .before .before .before .before .before .before .before .before in
-    let r = c .before .before .before .before .before .before .before .before .rests in
+    let r = c .before .before .before .before .before .before .before .before .reduce-all in
     let t = c .before .before .transform in
     top-fwd (b .args .second) (b .args .a .now) (r .last .1 .0) (b .pre) (r .ensures) (t .last .1 .1 .0) (t .ensures)
 

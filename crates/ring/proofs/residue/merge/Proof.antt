@@ -36,8 +36,8 @@ loop-again c =
     let s = c .before .before .before .before .before .before in
     let e = c .back .ensures in
     let pos = prime-pos (s .args .second) in
-    loose-paired-more _ _ _ _ _ _ (s .pre .0) pos (l .i) (l .a) (l .inv) (omega arith) _ _ (e .sum-is) (e .rest-is)
-    (λ (m : ℕ) b x y. (omega (arith, b, x, y, e .sum-low), omega (arith, b, x, y, e .rest-low)))
+    loose-paired-more _ _ _ _ _ _ (s .pre .0) pos (l .i) (l .a) (l .inv) (omega arith) _ _ (e .sum-is) (e .diff-is)
+    (λ (m : ℕ) b x y. (omega (arith, b, x, y, e .sum-low), omega (arith, b, x, y, e .diff-low)))
 
 returns : tie.Need-returns Inv-loop μ-loop
 returns c =

@@ -26,14 +26,14 @@ loop-again : tie.Need-loop-again Inv-loop μ-loop
 unfolding draw
 loop-again c =
     let l = c .before .before .before .before .loop in
-    let d = ap (λ (x : ℕ). x % 2 ^ 49) (c .before .load .ensures .1) in
+    let d = ap (λ (x : ℕ). x % 2 ^ 49) (c .before .load .ensures) in
     (omega arith, front-kept _ _ (l .a) (l .i) (l .at) _ (l .inv .1) d (c .before .before .if1 .left) (omega (arith, c .if2 .taken)))
 
 loop-again-2 : tie.Need-loop-again-2 Inv-loop μ-loop
 unfolding draw
 loop-again-2 c =
     let l = c .before .before .before .before .loop in
-    let d = ap (λ (x : ℕ). x % 2 ^ 49) (c .before .load .ensures .1) in
+    let d = ap (λ (x : ℕ). x % 2 ^ 49) (c .before .load .ensures) in
     (omega arith, front-left _ _ (l .a) (l .i) (l .at) _ (l .inv .1) d (omega (arith, c .if2 .left)))
 
 returns-2 : tie.Need-returns-2 Inv-loop μ-loop

@@ -6,7 +6,7 @@ use lib.ListN.{length}
 use Rattle.hash.specs.Params.{orderIndex}
 use Rattle.ring.specs.Words.{Words}
 use Rattle.ring.proofs.Sums.{residues-append}
-use Rattle.sharing.specs.Blocks.{zeros}
+use Rattle.hash.specs.Lists.{zeros}
 use Rattle.sharing.specs.Encoding.{zeroEncoding}
 use Rattle.sharing.specs.Masks.{masks}
 use Rattle.sharing.proofs.Carry.{mask-low}

@@ -2,7 +2,7 @@ use mathlib.Core.Path.{_≡_, sym, ap, _∙_}
 use Prim.Native.Nat.{_-_, _*_, _≤_}
 use native.Mathlib.Omega.{arith}
 use Rattle.sharing.specs.Blocks.{build}
-use Rattle.sharing.specs.Region.{sub, Wrote}
+use Rattle.sharing.specs.Region.{span, Wrote}
 use Rattle.sharing.proofs.Regions.{wrote-start}
 use Rattle.sharing.specs.Encoding.{skip, lastZero}
 use Rattle.sharing.specs.Masks.{masks}
@@ -16,8 +16,8 @@ use Rattle.sharing.proofs.encoding.refresh_vector.Tie as tie
 
 abbrev Inv-loop : tie.InvT-loop
 Inv-loop s₀ at m p d x₀ i₀ s x i =
-    (i ≤ m) × Wrote (d * 512) at (i * (d * 512)) (build i (renewed masks d x₀ (sub s₀ at (m * (d * 512))))) s₀ s × (x ≡ skip masks d i x₀)
-    × (sub s 0 (d * 512) ≡ lastZero masks d x₀ i (sub s₀ 0 (d * 512)))
+    (i ≤ m) × Wrote (d * 512) at (i * (d * 512)) (build i (renewed masks d x₀ (span s₀ at (m * (d * 512))))) s₀ s × (x ≡ skip masks d i x₀)
+    × (span s 0 (d * 512) ≡ lastZero masks d x₀ i (span s₀ 0 (d * 512)))
 
 abbrev μ-loop : tie.MeasureT-loop
 μ-loop s₀ at m p d x₀ i₀ s x i = m - i
@@ -28,7 +28,7 @@ loop-holds c =
     let d = a .args .p .shares in
     let s = a .args .s .now in (
       search needs,
-      wrote-start (d * 512) (renewed masks d (a .args .g) (sub s (a .args .at) (a .args .m * (d * 512)))) (d * 512)
+      wrote-start (d * 512) (renewed masks d (a .args .g) (span s (a .args .at) (a .args .m * (d * 512)))) (d * 512)
           (a .args .at) s (a .pre .3),
       sym (skip-none masks d (a .args .g)),
       last-none masks d (a .args .g) _,
@@ -77,7 +77,7 @@ returns c =
     let e : l .i ≡ a .args .m = omega arith in (
       refresh-end masks d (d * 512) (a .args .m) (a .args .at) (l .i) g (l .x) (a .args .s .now) (l .s) (a .pre .1) e (l .inv .1),
       l .inv .2 ∙ ap (λ n. skip masks d n g) e,
-      l .inv .3 ∙ ap (λ n. lastZero masks d g n (sub (a .args .s .now) 0 (d * 512))) e,
+      l .inv .3 ∙ ap (λ n. lastZero masks d g n (span (a .args .s .now) 0 (d * 512))) e,
     )
 
 pub refresh-vector-spec : {M : Type 1} → statement M

@@ -1,10 +1,10 @@
 use mathlib.Core.Path.{_≡_, sym, _∙_}
 use Prim.Native.Nat.{_+_, _-_, _*_}
 use native.Mathlib.Omega.{arith}
-use Rattle.sharing.proofs.Regions.{length-sub, put-back, wrote-put}
-use Rattle.sharing.specs.Encoding.{zeroNo}
+use Rattle.sharing.proofs.Regions.{length-span, put-back, wrote-put}
+use Rattle.sharing.specs.Encoding.{zeroAt}
 use Rattle.sharing.specs.Masks.{masks}
-use Rattle.sharing.proofs.Totals.{zero-first, skip-first, zeroNo-words}
+use Rattle.sharing.proofs.Totals.{zero-first, skip-first, zeroAt-words}
 use Rattle.sharing.proofs.Carry.{mask-low}
 use Rattle.hash.proofs.Rows.{count-power}
 use borrow.Author.Needs.{needs}
@@ -16,7 +16,7 @@ zero-encoding-requires c κs =
     let a = c .before .before in
     let at = a .args .at in
     let k : at + a .args .d * 512 - at ≡ a .args .d * 512 = omega arith in
-    (rw k (length-sub (a .args .s .now) at (a .args .d * 512) (a .pre .1)), a .pre .0)
+    (rw k (length-span (a .args .s .now) at (a .args .d * 512) (a .pre .1)), a .pre .0)
 
 returns : tie.Need-returns
 returns c =
@@ -26,8 +26,8 @@ returns c =
     let s = a .args .s .now in
     let k : at + d * 512 - at ≡ d * 512 = omega arith in
     let z = c .before .before .zero-encoding .ensures in
-    let w = zeroNo-words masks mask-low d (count-power d (a .pre .0)) 0 (a .args .g) in (
-      wrote-put at (d * 512) (zeroNo masks d 0 (a .args .g)) s _ (a .pre .1) (w .long) (a .pre .2) (w .low)
+    let w = zeroAt-words masks mask-low d (count-power d (a .pre .0)) 0 (a .args .g) in (
+      wrote-put at (d * 512) (zeroAt masks d 0 (a .args .g)) s _ (a .pre .1) (w .long) (a .pre .2) (w .low)
           (put-back s at k (z .0 ∙ sym (zero-first masks d (a .args .g)))),
       z .1 ∙ sym (skip-first masks d (a .args .g)),
     )

@@ -40,7 +40,7 @@ loop-again c =
     let b = l .before .before in
     let v = l .loop .inv in
     let w : c .signed-low .result ≡ sampleAt (b .args .u) (b .args .b .now) (l .loop .i) =
-    c .signed-low .ensures ∙ rw (c .before .load .ensures .1, b .pre .2) in
+    c .signed-low .ensures ∙ rw (c .before .load .ensures, b .pre .2) in
     (search needs, simp length-set (v .1), sample-more (sampleAt (b .args .u) (b .args .b .now)) (l .loop .p) (l .loop .i) (c .signed-low .result) (omega arith) (v .2) w)
 
 returns : tie.Need-returns Inv-loop μ-loop

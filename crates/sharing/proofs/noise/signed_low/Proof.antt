@@ -3,7 +3,7 @@ use native.Mathlib.Omega.{arith}
 use lib.Pow.{pow-pos}
 use borrow.Author.Tests.{lt-ltb, le-ltb}
 use Rattle.sharing.specs.Noise.{signedLow}
-use Rattle.sharing.proofs.Small.{shifted, half-span, span-le, rest-lt}
+use Rattle.sharing.proofs.Small.{shifted, half-power, power-le, rest-lt}
 use borrow.Author.Needs.{needs}
 use Rattle.sharing.proofs.noise.signed_low.Statement.{statement}
 use Rattle.sharing.proofs.noise.signed_low.Tie as tie
@@ -19,14 +19,14 @@ sub-result c =
 sub-result-2 : tie.Need-sub-result-2
 sub-result-2 c =
     let b = c .before in
-    rw (shifted (b .args .u) (b .pre .0) (b .pre .1)) (omega (arith, span-le (b .args .u) (b .pre .0) (b .pre .1)))
+    rw (shifted (b .args .u) (b .pre .0) (b .pre .1)) (omega (arith, power-le (b .args .u) (b .pre .0) (b .pre .1)))
 
 returns : tie.Need-returns
 unfolding signedLow
 returns c =
     let b = c .before in
     let s = shifted (b .args .u) (b .pre .0) (b .pre .1) in
-    let h = half-span (b .args .u) (b .pre .0) (b .pre .1) in
+    let h = half-power (b .args .u) (b .pre .0) (b .pre .1) in
     let t = rw (s, h) at (c .if1 .taken) in
     rw (s, lt-ltb (b .args .x % 2 ^ b .args .u) (2 ^ (b .args .u - 1)) (omega (arith, t)))
 
@@ -35,7 +35,7 @@ unfolding signedLow
 returns-2 c =
     let b = c .before in
     let s = shifted (b .args .u) (b .pre .0) (b .pre .1) in
-    let h = half-span (b .args .u) (b .pre .0) (b .pre .1) in
+    let h = half-power (b .args .u) (b .pre .0) (b .pre .1) in
     let t = rw (s, h) at (c .if1 .left) in
     rw (s, le-ltb (b .args .x % 2 ^ b .args .u) (2 ^ (b .args .u - 1)) (omega (arith, t)))
 

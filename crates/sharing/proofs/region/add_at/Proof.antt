@@ -3,8 +3,8 @@ use Prim.Native.Nat.{_+_, _-_}
 use native.Mathlib.Omega.{arith}
 use lib.ListN.{length}
 use Rattle.ring.specs.Words.{addW}
-use Rattle.sharing.specs.Region.{sub}
-use Rattle.sharing.proofs.Regions.{length-sub, below-sub, put-back}
+use Rattle.sharing.specs.Region.{span}
+use Rattle.sharing.proofs.Regions.{length-span, below-span, put-back}
 use borrow.Author.Needs.{needs}
 use Rattle.sharing.proofs.region.add_at.Statement.{statement}
 use Rattle.sharing.proofs.region.add_at.Tie as tie
@@ -14,9 +14,9 @@ add-into-requires c κs =
     let a = c .before .before .before in
     let at = a .args .at in
     let k : at + 512 - at ≡ 512 = omega arith in
-    let n = length-sub (a .args .s .now) at 512 (a .pre .0) in
+    let n = length-span (a .args .s .now) at 512 (a .pre .0) in
     let m : length (a .args .p .now) ≡ 512 = search needs in
-    rw k (omega arith, below-sub (a .args .s .now) at 512 (a .pre .1), a .pre .2)
+    rw k (omega arith, below-span (a .args .s .now) at 512 (a .pre .1), a .pre .2)
 
 returns : tie.Need-returns
 returns c =
@@ -24,7 +24,7 @@ returns c =
     let at = a .args .at in
     let xs = a .args .s .now in
     let k : at + 512 - at ≡ 512 = omega arith in
-    let e : c .before .before .add-into .last .0 ≡ addW (sub xs at 512) (a .args .p .now) = rw k at
+    let e : c .before .before .add-into .last .0 ≡ addW (span xs at 512) (a .args .p .now) = rw k at
     (c .before .before .add-into .ensures .0) in
     put-back xs at k e
 

@@ -2,7 +2,7 @@ use Prim.Native.Nat.{_*_}
 use native.Mathlib.Omega.{arith}
 use mathlib.Core.Path.{_∙_}
 use Rattle.sharing.specs.Blocks.{block}
-use Rattle.sharing.specs.Region.{sub}
+use Rattle.sharing.specs.Region.{span}
 use Rattle.sharing.specs.Masks.{masks}
 use Rattle.sharing.proofs.Regions.{wrote-wide}
 use Rattle.sharing.specs.Noise.{explicitNoise}
@@ -29,7 +29,7 @@ returns c =
       rep-once masks d (a .args .g) (d * 512) (a .args .at) (explicitNoise d (a .args .words .now) (a .args .i)) (a .args .s .now) _ _
           (a .pre .0 .3) (wrote-wide (omega arith) v) (w .0),
       w .1,
-      w .2 ∙ last-one masks d (a .args .g) (sub (a .args .s .now) 0 (d * 512)),
+      w .2 ∙ last-one masks d (a .args .g) (span (a .args .s .now) 0 (d * 512)),
     )
 
 pub add-explicit-noise-at-spec : {M : Type 1} → statement M

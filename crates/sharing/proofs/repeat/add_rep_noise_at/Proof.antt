@@ -1,7 +1,7 @@
 use mathlib.Core.Path.{_≡_, sym, ap, _∙_}
 use Prim.Native.Nat.{_-_, _*_, _/_, _≤_}
 use native.Mathlib.Omega.{arith}
-use Rattle.sharing.specs.Region.{sub, Wrote}
+use Rattle.sharing.specs.Region.{span, Wrote}
 use Rattle.sharing.proofs.Regions.{wrote-value}
 use Rattle.sharing.specs.Encoding.{skip, lastZero, addRep}
 use Rattle.sharing.specs.Masks.{masks}
@@ -19,9 +19,9 @@ abbrev Inv-loop : tie.InvT-loop
 Inv-loop s₀ at p u i seeds r x₀ t₀ s x t =
     (t ≤ r)
     × Wrote (p .shares * 512) at (p .shares * 512)
-    (addRep masks (p .shares) x₀ t (seedNoise (p .shares) r u (p .kappa / 8) seeds i) (sub s₀ at (p .shares * 512))) s₀ s
+    (addRep masks (p .shares) x₀ t (seedNoise (p .shares) r u (p .kappa / 8) seeds i) (span s₀ at (p .shares * 512))) s₀ s
     × (x ≡ skip masks (p .shares) t x₀)
-    × (sub s 0 (p .shares * 512) ≡ lastZero masks (p .shares) x₀ t (sub s₀ 0 (p .shares * 512)))
+    × (span s 0 (p .shares * 512) ≡ lastZero masks (p .shares) x₀ t (span s₀ 0 (p .shares * 512)))
 
 abbrev μ-loop : tie.MeasureT-loop
 μ-loop s₀ at p u i seeds r x₀ t₀ s x t = r - t
@@ -73,9 +73,9 @@ returns c =
     let b = c .before .before .before .before .args in
     let e : l .t ≡ b .p .rep = omega arith in (
       wrote-value (ap (λ k. addRep masks (b .p .shares) (b .g) k (seedNoise (b .p .shares) (b .p .rep) (b .u) (b .p .kappa / 8) (b .seeds .now) (b .i))
-          (sub (b .s .now) (b .at) (b .p .shares * 512))) e) (l .inv .1),
+          (span (b .s .now) (b .at) (b .p .shares * 512))) e) (l .inv .1),
       l .inv .2 ∙ ap (λ k. skip masks (b .p .shares) k (b .g)) e,
-      l .inv .3 ∙ ap (λ k. lastZero masks (b .p .shares) (b .g) k (sub (b .s .now) 0 (b .p .shares * 512))) e,
+      l .inv .3 ∙ ap (λ k. lastZero masks (b .p .shares) (b .g) k (span (b .s .now) 0 (b .p .shares * 512))) e,
     )
 
 pub add-rep-noise-at-spec : {M : Type 1} → statement M

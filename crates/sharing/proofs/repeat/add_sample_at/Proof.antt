@@ -5,10 +5,10 @@ use Prim.Native.Nat.{_+_, _*_, _/_}
 use native.Mathlib.Omega.{arith}
 use Rattle.ring.specs.Words.{addW}
 use Rattle.sharing.specs.Blocks.{block}
-use Rattle.sharing.specs.Region.{sub}
+use Rattle.sharing.specs.Region.{span}
 use Rattle.sharing.proofs.Added.{seed-small, seed-inside}
 use Rattle.sharing.proofs.Built.{part-block}
-use Rattle.sharing.proofs.Regions.{sub-words, wrote-put, wrote-value}
+use Rattle.sharing.proofs.Regions.{span-words, wrote-put, wrote-value}
 use borrow.Author.Needs.{needs}
 use Rattle.sharing.proofs.repeat.add_sample_at.Statement.{statement}
 use Rattle.sharing.proofs.repeat.add_sample_at.Tie as tie
@@ -80,8 +80,8 @@ returns c =
     let b = a .args in
     let s = b .s .now in
     let p = c .before .before .before .before .before .sample-u in
-    let x = sub s (b .at) 512 in
-    let w = words-add x (p .result) (sub-words s (b .at) 512 (a .pre .0 .0) (a .pre .0 .1)) in
+    let x = span s (b .at) 512 in
+    let w = words-add x (p .result) (span-words s (b .at) 512 (a .pre .0 .0) (a .pre .0 .1)) in
     let n = b .p .kappa / 8 in
     let m = (b .i * b .p .rep + b .t) * b .p .shares + b .j in
     let e : p .result ≡ sampleU (noiseHeader (b .t) (b .i) (b .j)) (block n m (b .seeds .now)) (b .u) =

@@ -1,7 +1,7 @@
 use Prim.Native.Nat.{_-_, _*_, _/_, _≤_}
 use native.Mathlib.Omega.{arith}
 use Rattle.sharing.specs.Blocks.{build}
-use Rattle.sharing.specs.Region.{sub, Wrote}
+use Rattle.sharing.specs.Region.{span, Wrote}
 use Rattle.sharing.proofs.Regions.{wrote-start}
 use Rattle.sharing.specs.Noise.{seedNoise, noiseHeader}
 use Rattle.sharing.proofs.Samples.{sampleU-words}
@@ -12,7 +12,7 @@ use Rattle.sharing.proofs.repeat.add_samples_at.Tie as tie
 
 abbrev Inv-loop : tie.InvT-loop
 Inv-loop s₀ at p u i t seeds d j₀ s j =
-    (j ≤ d) × Wrote 0 at (j * 512) (build j (added (seeded d (p .rep) u (p .kappa / 8) seeds i t) (sub s₀ at (d * 512)))) s₀ s
+    (j ≤ d) × Wrote 0 at (j * 512) (build j (added (seeded d (p .rep) u (p .kappa / 8) seeds i t) (span s₀ at (d * 512)))) s₀ s
 
 abbrev μ-loop : tie.MeasureT-loop
 μ-loop s₀ at p u i t seeds d j₀ s j = d - j
@@ -22,7 +22,7 @@ loop-holds c =
     let b = c .before .before .args in (
       search needs,
       wrote-start 512 (added (seeded (b .p .shares) (b .p .rep) (b .u) (b .p .kappa / 8) (b .seeds .now) (b .i) (b .t))
-          (sub (b .s .now) (b .at) (b .p .shares * 512))) 0 (b .at) (b .s .now) (c .before .before .pre .0 .1),
+          (span (b .s .now) (b .at) (b .p .shares * 512))) 0 (b .at) (b .s .now) (c .before .before .pre .0 .1),
     )
 
 add-sample-at-requires : tie.Need-add-sample-at-requires Inv-loop μ-loop

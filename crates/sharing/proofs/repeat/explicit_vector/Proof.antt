@@ -2,7 +2,7 @@ use mathlib.Core.Path.{_≡_, ap, _∙_}
 use Prim.Native.Nat.{_-_, _*_, _≤_}
 use native.Mathlib.Omega.{arith}
 use Rattle.sharing.specs.Blocks.{build}
-use Rattle.sharing.specs.Region.{sub, Wrote}
+use Rattle.sharing.specs.Region.{span, Wrote}
 use Rattle.sharing.proofs.Regions.{wrote-start}
 use Rattle.sharing.specs.Encoding.{skip, lastZero}
 use Rattle.sharing.specs.Masks.{masks}
@@ -17,8 +17,8 @@ use Rattle.sharing.proofs.repeat.explicit_vector.Tie as tie
 
 abbrev Inv-loop : tie.InvT-loop
 Inv-loop s₀ at m p words d x₀ i₀ s x i =
-    (i ≤ m) × Wrote (d * 512) at (i * (d * 512)) (build i (noised masks d x₀ 1 (explicitNoise d words) (sub s₀ at (m * (d * 512))))) s₀ s
-    × (x ≡ skip masks d (i * 1) x₀) × (sub s 0 (d * 512) ≡ lastZero masks d x₀ (i * 1) (sub s₀ 0 (d * 512)))
+    (i ≤ m) × Wrote (d * 512) at (i * (d * 512)) (build i (noised masks d x₀ 1 (explicitNoise d words) (span s₀ at (m * (d * 512))))) s₀ s
+    × (x ≡ skip masks d (i * 1) x₀) × (span s 0 (d * 512) ≡ lastZero masks d x₀ (i * 1) (span s₀ 0 (d * 512)))
 
 abbrev μ-loop : tie.MeasureT-loop
 μ-loop s₀ at m p words d x₀ i₀ s x i = m - i
@@ -30,7 +30,7 @@ loop-holds c =
     let s = a .args .s .now in (
       search needs,
       wrote-start (d * 512) (noised masks d (a .args .g) 1 (explicitNoise d (a .args .words .now))
-          (sub s (a .args .at) (a .args .m * (d * 512)))) (d * 512) (a .args .at) s (a .pre .0 .3),
+          (span s (a .args .at) (a .args .m * (d * 512)))) (d * 512) (a .args .at) s (a .pre .0 .3),
       skip-start masks d 1 (a .args .g),
       last-start masks d 1 (a .args .g) _,
     )
@@ -93,7 +93,7 @@ returns c =
       noise-end masks d (d * 512) (a .args .m) (a .args .at) (l .i) g (l .x) (a .args .s .now) (l .s) (a .pre .0 .1) e 1
           (explicitNoise d (a .args .words .now)) (l .inv .1),
       l .inv .2 ∙ ap (λ n. skip masks d n g) k,
-      l .inv .3 ∙ ap (λ n. lastZero masks d g n (sub (a .args .s .now) 0 (d * 512))) k,
+      l .inv .3 ∙ ap (λ n. lastZero masks d g n (span (a .args .s .now) 0 (d * 512))) k,
     )
 
 pub explicit-vector-spec : {M : Type 1} → statement M

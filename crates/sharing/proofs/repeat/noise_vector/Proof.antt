@@ -2,7 +2,7 @@ use mathlib.Core.Path.{_≡_, ap, _∙_}
 use Prim.Native.Nat.{_-_, _*_, _/_, _≤_, _<_}
 use native.Mathlib.Omega.{arith}
 use Rattle.sharing.specs.Blocks.{build}
-use Rattle.sharing.specs.Region.{sub, Wrote}
+use Rattle.sharing.specs.Region.{span, Wrote}
 use Rattle.sharing.proofs.Regions.{wrote-start}
 use Rattle.sharing.specs.Encoding.{skip, lastZero}
 use Rattle.sharing.specs.Masks.{masks}
@@ -19,9 +19,9 @@ abbrev Inv-loop : tie.InvT-loop
 Inv-loop s₀ at m p u seeds d x₀ i₀ s x i =
     (i ≤ m)
     × Wrote (d * 512) at (i * (d * 512))
-    (build i (noised masks d x₀ (p .rep) (seedNoise d (p .rep) u (p .kappa / 8) seeds) (sub s₀ at (m * (d * 512))))) s₀ s
+    (build i (noised masks d x₀ (p .rep) (seedNoise d (p .rep) u (p .kappa / 8) seeds) (span s₀ at (m * (d * 512))))) s₀ s
     × (x ≡ skip masks d (i * p .rep) x₀)
-    × (sub s 0 (d * 512) ≡ lastZero masks d x₀ (i * p .rep) (sub s₀ 0 (d * 512)))
+    × (span s 0 (d * 512) ≡ lastZero masks d x₀ (i * p .rep) (span s₀ 0 (d * 512)))
 
 abbrev μ-loop : tie.MeasureT-loop
 μ-loop s₀ at m p u seeds d x₀ i₀ s x i = m - i
@@ -33,7 +33,7 @@ loop-holds c =
     let d = b .p .shares in (
       search needs,
       wrote-start (d * 512) (noised masks d (b .g) (b .p .rep) (seedNoise d (b .p .rep) (b .u) (b .p .kappa / 8) (b .seeds .now))
-          (sub (b .s .now) (b .at) (b .m * (d * 512)))) (d * 512) (b .at) (b .s .now) (a .pre .0 .3),
+          (span (b .s .now) (b .at) (b .m * (d * 512)))) (d * 512) (b .at) (b .s .now) (a .pre .0 .3),
       skip-start masks d (b .p .rep) (b .g),
       last-start masks d (b .p .rep) (b .g) _,
     )
@@ -98,7 +98,7 @@ returns c =
       noise-end masks (b .p .shares) (b .p .shares * 512) (b .m) (b .at) (l .i) (b .g) (l .x) (b .s .now) (l .s) (a .pre .0 .1) e (b .p .rep)
           (seedNoise (b .p .shares) (b .p .rep) (b .u) (b .p .kappa / 8) (b .seeds .now)) (l .inv .1),
       l .inv .2 ∙ ap (λ k. skip masks (b .p .shares) (k * b .p .rep) (b .g)) e,
-      l .inv .3 ∙ ap (λ k. lastZero masks (b .p .shares) (b .g) (k * b .p .rep) (sub (b .s .now) 0 (b .p .shares * 512))) e,
+      l .inv .3 ∙ ap (λ k. lastZero masks (b .p .shares) (b .g) (k * b .p .rep) (span (b .s .now) 0 (b .p .shares * 512))) e,
     )
 
 pub noise-vector-spec : {M : Type 1} → statement M

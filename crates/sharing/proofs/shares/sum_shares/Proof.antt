@@ -3,17 +3,16 @@ use Prim.Native.Nat.{_-_, _*_, _≤_}
 use native.Mathlib.Omega.{arith}
 use Rattle.ring.specs.Words.{Words}
 use Rattle.sharing.specs.Blocks.{block, sumOf, total}
-use Rattle.sharing.specs.Region.{sub}
-use Rattle.sharing.proofs.Regions.{block-sub}
-use Rattle.ring.proofs.Sums.{words-add}
-use Rattle.sharing.proofs.Lists.{zeros-words}
+use Rattle.sharing.specs.Region.{span}
+use Rattle.sharing.proofs.Regions.{block-span}
+use Rattle.ring.proofs.Sums.{words-zeros, words-add}
 use Rattle.sharing.proofs.Loops.{sum-start, sum-turn}
 use borrow.Author.Needs.{needs}
 use Rattle.sharing.proofs.shares.sum_shares.Statement.{statement}
 use Rattle.sharing.proofs.shares.sum_shares.Tie as tie
 
 abbrev Inv-loop : tie.InvT-loop
-Inv-loop s at d acc₀ j₀ acc j = (j ≤ d) × (acc ≡ sumOf 512 j (λ i. block 512 i (sub s at (d * 512)))) × Words 512 acc
+Inv-loop s at d acc₀ j₀ acc j = (j ≤ d) × (acc ≡ sumOf 512 j (λ i. block 512 i (span s at (d * 512)))) × Words 512 acc
 
 abbrev μ-loop : tie.MeasureT-loop
 μ-loop s at d acc₀ j₀ acc j = d - j
@@ -21,7 +20,7 @@ abbrev μ-loop : tie.MeasureT-loop
 loop-holds : tie.Need-loop-holds Inv-loop μ-loop
 loop-holds c =
     let e = c .zero-poly .ensures in
-    (search needs, e ∙ sum-start 512 _, rw e (zeros-words 512))
+    (search needs, e ∙ sum-start 512 _, rw e (words-zeros 512))
 
 add-into-requires : tie.Need-add-into-requires Inv-loop μ-loop
 add-into-requires c κs =
@@ -38,9 +37,9 @@ loop-again c =
     let d = a .args .p .shares in
     let acc = l .loop .acc in
     let e = c .before .add-into .ensures .0 in
-    let x = c .before .before .before .before .load .ensures .0 ∙ sym (block-sub 512 d (l .loop .j) s at (omega arith)) in (
+    let x = c .before .before .before .before .load .ensures .0 ∙ sym (block-span 512 d (l .loop .j) s at (omega arith)) in (
       search needs,
-      sum-turn 512 (l .loop .j) (λ i. block 512 i (sub s at (d * 512))) acc _ (c .before .before .before .before .load .result)
+      sum-turn 512 (l .loop .j) (λ i. block 512 i (span s at (d * 512))) acc _ (c .before .before .before .before .load .result)
           (l .loop .inv .1) x e,
       rw e (words-add acc (c .before .before .before .before .load .result) (l .loop .inv .2)),
     )
@@ -51,7 +50,7 @@ returns c =
     let l = c .before in
     let a = c .before .before .before .before in
     let e : l .loop .j ≡ a .args .p .shares = omega arith in
-    (l .loop .inv .1 ∙ ap (λ n. sumOf 512 n (λ i. block 512 i (sub (a .args .s .now) (a .args .at) (a .args .p .shares * 512)))) e, l .loop .inv .2)
+    (l .loop .inv .1 ∙ ap (λ n. sumOf 512 n (λ i. block 512 i (span (a .args .s .now) (a .args .at) (a .args .p .shares * 512)))) e, l .loop .inv .2)
 
 pub sum-shares-spec : {M : Type 1} → statement M
 sum-shares-spec =

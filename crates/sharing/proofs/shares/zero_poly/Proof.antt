@@ -1,10 +1,8 @@
 use mathlib.Core.Path.{refl}
-use Rattle.sharing.specs.Blocks.{zeros}
 use Rattle.sharing.proofs.shares.zero_poly.Statement.{statement}
 use Rattle.sharing.proofs.shares.zero_poly.Tie as tie
 
 returns : tie.Need-returns
-unfolding zeros
 returns c = refl
 
 pub zero-poly-spec : {M : Type 1} → statement M

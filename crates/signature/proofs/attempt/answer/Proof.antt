@@ -7,7 +7,7 @@ use borrow.Author.Tests.{not-true, not-false}
 use Rattle.hash.proofs.Rows.{count-power}
 use Rattle.hash.specs.Shake.{shake256}
 use Rattle.ring.specs.Round.{roundW}
-use Rattle.sharing.specs.Region.{sub}
+use Rattle.sharing.specs.Region.{span}
 use Rattle.signature.specs.Challenge.{headed, ordered}
 use Rattle.signature.specs.Keygen.{atT}
 use Rattle.signature.proofs.Attempts.{answer-none, answer-made}
@@ -22,7 +22,7 @@ returns c =
     let b = a .args in
     let p = b .p in
     let z = c .before .before .before .before .before .before .challenge-at .ensures in
-    let W = sub (b .work .now) (atT (p .l) (p .shares)) (p .k * 512) in
+    let W = span (b .work .now) (atT (p .l) (p .shares)) (p .k * 512) in
     let e = z .1 ∙ ap (λ (n : ℕ). shake256 (headed 104 (p .k) ++ ordered (p .edition) (roundW W) (b .mu .now)) n) (a .pre .3) in
     ((z .0 .long, z .0 .low), λ N h A s u. answer-none p N h (b .g) A (b .mu .now) s (b .work .now) _ _ _ u (z .0) e (z .2) (not-true _ (c .if1 .taken)))
 
@@ -42,7 +42,7 @@ returns-2 c =
     let b = a .args in
     let p = b .p in
     let z = c .before .before .before .before .before .before .before .before .before .before .before .before .challenge-at .ensures in
-    let W = sub (b .work .now) (atT (p .l) (p .shares)) (p .k * 512) in
+    let W = span (b .work .now) (atT (p .l) (p .shares)) (p .k * 512) in
     let e = z .1 ∙ ap (λ (n : ℕ). shake256 (headed 104 (p .k) ++ ordered (p .edition) (roundW W) (b .mu .now)) n) (a .pre .3) in
     let v = c .before .before .respond .ensures in
     ((v .long ∙ z .0 .long, v .low), λ N h A s u. answer-made p N h (b .g) A (b .mu .now) s (b .work .now) _ _ _ u (z .0) e (z .2) (count-power (p .shares) (a .pre .0 .count)) _ _ (not-false _ (c .before .before .before .before .before .before .if1 .left)) (c .before .before .before .before .from-signed .ensures .0) v)

@@ -5,8 +5,8 @@ use native.Mathlib.Omega.{arith}
 use lib.ListN.{length}
 use Rattle.hash.specs.Shake.{shake256}
 use Rattle.ring.specs.Words.{Below}
-use Rattle.sharing.specs.Region.{sub}
-use Rattle.sharing.proofs.Regions.{length-sub}
+use Rattle.sharing.specs.Region.{span}
+use Rattle.sharing.proofs.Regions.{length-span}
 use Rattle.signature.specs.Challenge.{headed, ordered}
 use Rattle.ring.proofs.Mapped.{rounded-residues}
 use borrow.Author.Needs.{needs}
@@ -19,7 +19,7 @@ hash-at-requires c κs =
     let b = a .args in
     let u = c .before .before .before .before .round-w-vector .ensures in
     let n = u .long in
-    (omega (arith, n, a .pre .0), a .pre .2, subst (Below 31) (sym (u .new)) (rounded-residues 44 31 (b .k * 512) (omega arith) (sub (b .s .now) (b .at) (b .k * 512)) (length-sub (b .s .now) (b .at) (b .k * 512) (a .pre .0)) .low))
+    (omega (arith, n, a .pre .0), a .pre .2, subst (Below 31) (sym (u .new)) (rounded-residues 44 31 (b .k * 512) (omega arith) (span (b .s .now) (b .at) (b .k * 512)) (length-span (b .s .now) (b .at) (b .k * 512) (a .pre .0)) .low))
 
 returns : tie.Need-returns
 returns c =

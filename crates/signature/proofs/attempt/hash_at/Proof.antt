@@ -5,7 +5,7 @@ use native.Mathlib.Omega.{arith}
 use lib.ListN.{length, replicate}
 use Rattle.hash.specs.Shake.{shake256}
 use Rattle.ring.specs.Words.{Below}
-use Rattle.sharing.specs.Region.{sub}
+use Rattle.sharing.specs.Region.{span}
 use Rattle.signature.specs.Challenge.{headed, ordered}
 use Rattle.signature.proofs.Fronts.{front-in, front-is, copied-from, copied-long, copied-room}
 use Rattle.signature.proofs.Rounded.{below-up}
@@ -20,7 +20,7 @@ to-bytes-requires c κs =
     let n = b .k * 512 in
     let h : n ≤ length (replicate {A = ℕ} 4608 0) = omega (arith, a .pre .1) in
     let e = copied-from n (b .at) (replicate 4608 0) (b .s .now) h (a .pre .0) in
-    (copied-room n (b .at) (replicate 4608 0) (b .s .now) h (a .pre .0), subst (Below 256) (sym e) (below-up 31 256 (sub (b .s .now) (b .at) n) (omega arith) (a .pre .2)))
+    (copied-room n (b .at) (replicate 4608 0) (b .s .now) h (a .pre .0), subst (Below 256) (sym e) (below-up 31 256 (span (b .s .now) (b .at) n) (omega arith) (a .pre .2)))
 
 part-chal-hash-end : tie.Need-part-chal-hash-end
 part-chal-hash-end c =

@@ -14,7 +14,7 @@ returns c =
     let g = c .before .before .before .before .before in
     let h : a .at / 8 + 8 ≤ length (a .buf .now) = omega (arith, g .before .before .if1 .taken) in
     let x = word-whole (a .buf .now) (a .at / 8) (λ j. g .before .before .before .slice-known .given j .fits) h in
-    spliced-in (a .buf .now) _ (a .at) (a .v) (a .w) _ _ h (s .pre .1 .1) (g .load .ensures .1 ∙ x) (c .before .before .before .spliced .ensures) (c .before .before .put-word .ensures)
+    spliced-in (a .buf .now) _ (a .at) (a .v) (a .w) _ _ h (s .pre .1 .1) (g .load .ensures ∙ x) (c .before .before .before .spliced .ensures) (c .before .before .put-word .ensures)
 
 pub put-bits-spec : {M : Type 1} → statement M
 put-bits-spec =

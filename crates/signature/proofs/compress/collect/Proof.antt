@@ -3,7 +3,7 @@ use Prim.Native.Nat.{_-_, _*_, _≤_, _<_}
 use native.Mathlib.Nat.{mul-le-mul-right}
 use native.Mathlib.Omega.{arith}
 use Rattle.ring.specs.Words.{Words}
-use Rattle.sharing.specs.Region.{sub}
+use Rattle.sharing.specs.Region.{span}
 use Rattle.signature.specs.Compress.{collectedOf}
 use Rattle.signature.proofs.Collected.{collect-start, collect-turn, collect-stop, collect-end}
 use borrow.Author.Tests.{not-true, not-false}
@@ -14,7 +14,7 @@ use Rattle.signature.proofs.compress.collect.Tie as tie
 
 abbrev Inv-loop : tie.InvT-loop
 Inv-loop s at d edition seeds n j x₀ i₀ x i =
-    (1 ≤ i) × (i ≤ d) × (collectedOf edition n seeds (sub s at (d * 512)) j (i - 1) ≡ some x) × Words 512 x
+    (1 ≤ i) × (i ≤ d) × (collectedOf edition n seeds (span s at (d * 512)) j (i - 1) ≡ some x) × Words 512 x
 
 abbrev μ-loop : tie.MeasureT-loop
 μ-loop s at d edition seeds n j x₀ i₀ x i =

@@ -5,7 +5,7 @@ use Rattle.sharing.proofs.Lists.{inside}
 use Rattle.sharing.proofs.Built.{block-is}
 use Rattle.signature.specs.Compress.{shareHeader, seededShareOf}
 use Rattle.ring.specs.Uniform.{heldOf}
-use Rattle.sharing.specs.Region.{sub}
+use Rattle.sharing.specs.Region.{span}
 use Rattle.ring.specs.Uniform.{sampleQ}
 use mathlib.Core.List.{List}
 use borrow.Author.Needs.{needs}
@@ -39,7 +39,7 @@ returns c =
     let b = c .before .before .before .before .before .args in
     let a = (b .i - 1) * b .n in
     let k : a + b .n - a ≡ b .n = omega arith in
-    (c .sample-q .ensures .0 ∙ ap (λ (m : ℕ). heldOf (sampleQ (c .before .before .before .share-header .result) (sub (b .seeds .now) a m))) k ∙ ap (λ (t : List ℕ). heldOf (sampleQ t (sub (b .seeds .now) a (b .n)))) (c .before .before .before .share-header .ensures) ∙ ap (λ (t : List ℕ). heldOf (sampleQ (shareHeader (b .edition) (b .i) (b .j)) t)) (sym (block-is (b .n) (b .i - 1) (b .seeds .now))), c .sample-q .ensures .1)
+    (c .sample-q .ensures .0 ∙ ap (λ (m : ℕ). heldOf (sampleQ (c .before .before .before .share-header .result) (span (b .seeds .now) a m))) k ∙ ap (λ (t : List ℕ). heldOf (sampleQ t (span (b .seeds .now) a (b .n)))) (c .before .before .before .share-header .ensures) ∙ ap (λ (t : List ℕ). heldOf (sampleQ (shareHeader (b .edition) (b .i) (b .j)) t)) (sym (block-is (b .n) (b .i - 1) (b .seeds .now))), c .sample-q .ensures .1)
 
 pub seeded-share-spec : {M : Type 1} → statement M
 seeded-share-spec =

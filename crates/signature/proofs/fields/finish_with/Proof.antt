@@ -8,8 +8,8 @@ use borrow.Author.Tests.{not-true, not-false}
 use Rattle.ring.specs.Words.{q, Below}
 use Rattle.ring.specs.Round.{residues}
 use Rattle.ring.specs.Uniform.{heldOf}
-use Rattle.sharing.specs.Region.{sub}
-use Rattle.sharing.proofs.Regions.{length-sub, sub-words}
+use Rattle.sharing.specs.Region.{span}
+use Rattle.sharing.proofs.Regions.{length-span, span-words}
 use Rattle.signature.specs.Answers.{FinishedAs}
 use Rattle.signature.specs.Form.{Fields}
 use Rattle.signature.specs.Keygen.{atT, atX}
@@ -31,7 +31,7 @@ centred-into-requires c κs = let a = c .before .before .before .before .before 
     let p = b .p in
     let x = atX (p .k) (p .l) (p .shares) in
     let e : p .l * 512 ≡ x + p .l * 512 - x = omega arith in
-    let w = sub-words (b .work .now) x (p .l * 512) (room p (a .pre .0 .1) (length (b .work .now)) (a .pre .0 .2) .2) (a .pre .0 .3) in
+    let w = span-words (b .work .now) x (p .l * 512) (room p (a .pre .0 .1) (length (b .work .now)) (a .pre .0 .2) .2) (a .pre .0 .3) in
     subst (λ (j : ℕ). (length (b .z .now) ≡ length (take j (drop x (b .work .now)))) × Below q (take j (drop x (b .work .now))) × (0 < q) × (q < 2 ^ 62)) e
     (a .pre .1 .1 .1 ∙ sym (w .long), w .low, lit< tt, lit< tt)
 
@@ -46,15 +46,15 @@ write-fields-requires c κs = let a = c .before .before .before .before .before 
     let T = a .pre .0 .0 in
     let R = room p (a .pre .0 .1) (length (b .work .now)) (a .pre .0 .2) in
     let x = atX (p .k) (p .l) (p .shares) in
-    let z = sub-words (b .work .now) x (p .l * 512) (R .2) (a .pre .0 .3) in
+    let z = span-words (b .work .now) x (p .l * 512) (R .2) (a .pre .0 .3) in
     let e : x + p .l * 512 - x ≡ p .l * 512 = omega arith in
     let f = c .before .before .before .before .before .before .before .before .before .before .before .centred-into .ensures ∙ ap (λ (j : ℕ). centredAll q (take j (drop x (b .work .now)))) e in
     let M = matrix p (vkSeed p (b .vk .now)) in
-    let v = sub (b .work .now) x (p .l * 512) in
+    let v = span (b .work .now) x (p .l * 512) in
     let y = recovered p (heldOf M .poly) v (residues q (b .c)) (vkVector p (b .vk .now)) in
-    let w = sub (b .work .now) (atT (p .l) (p .shares)) (p .k * 512) in
+    let w = span (b .work .now) (atT (p .l) (p .shares)) (p .k * 512) in
     let h = c .before .before .before .before .before .before .before .make-hint .ensures .1 .1 (heldOf M .poly) (filled-some M (a .pre .1 .0 .2)) in (
-      (T, a .pre .1 .0 .3, omega (arith, hint-length w y h, length-sub (b .work .now) (atT (p .l) (p .shares)) (p .k * 512) (R .1), T .rows-low), omega (arith, response-length v f, z .long, T .columns-low), a .pre .1 .1 .2),
+      (T, a .pre .1 .0 .3, omega (arith, hint-length w y h, length-span (b .work .now) (atT (p .l) (p .shares)) (p .k * 512) (R .1), T .rows-low), omega (arith, response-length v f, z .long, T .columns-low), a .pre .1 .1 .2),
       (hint-small w y h (a .pre .0 .4), response-small v f (z .low)),
     )
 
@@ -70,7 +70,7 @@ returns-2 c = let a = c .before .before .before .before .before .before .before 
       (m .0 .1, m .0 .2, k .0, k .1),
       (λ (A mu : List ℕ) g.
           subst (λ (y : Fields). FinishedAs (finished p y) (c .before .before .write-fields .result) (b .out .now) (c .before .before .write-fields .last .1 .1 .1 .1 .0))
-          (fields-are p (record { matrix = A; vector = vkVector p (b .vk .now); mu = mu }) (sub (b .work .now) (atT (p .l) (p .shares)) (p .k * 512)) (b .hash .now) (sub (b .work .now) x (p .l * 512)) (b .c) _ _ (m .1 .1 A g) f)
+          (fields-are p (record { matrix = A; vector = vkVector p (b .vk .now); mu = mu }) (span (b .work .now) (atT (p .l) (p .shares)) (p .k * 512)) (b .hash .now) (span (b .work .now) x (p .l * 512)) (b .c) _ _ (m .1 .1 A g) f)
           (c .before .before .write-fields .ensures)),
     )
 

@@ -8,13 +8,13 @@ use borrow.Author.Tests.{not-true, not-false}
 use Rattle.ring.proofs.Sums.{length-zip}
 use Rattle.ring.specs.Words.{q, Below, Residues}
 use Rattle.sharing.specs.Blocks.{build}
-use Rattle.sharing.specs.Region.{sub, Kept}
+use Rattle.sharing.specs.Region.{span, Kept}
 use Rattle.sharing.proofs.Lists.{inside}
 use Rattle.sharing.proofs.Built.{block-is, build-none}
-use Rattle.sharing.proofs.Regions.{block-sub, length-sub, kept-all, kept-front, kept-behind, kept-then}
+use Rattle.sharing.proofs.Regions.{block-span, length-span, kept-all, kept-front, kept-behind, kept-then}
 use Rattle.signature.specs.Matrix.{buildAll, matrixAt, matrixOf, filled, rowEntry}
 use Rattle.signature.specs.Recover.{sub31, centredAll, recoveredBy, hintRow, hintRows}
-use Rattle.signature.proofs.Adjusted.{sub-residues, length-subZ}
+use Rattle.signature.proofs.Adjusted.{span-residues, length-spanZ}
 use Rattle.signature.proofs.Centred.{length-centred}
 use Rattle.signature.proofs.Entries.{all-none, all-more, all-not}
 use Rattle.signature.proofs.Hints.{part-below, hint-long, hint-turn}
@@ -28,7 +28,7 @@ abbrev Inv-loop : tie.InvT-loop
 Inv-loop work₀ row at wat seed k l c t hint₀ i₀ work hint i =
     (i ≤ k) × (filled (buildAll i (λ j. buildAll l (matrixAt seed j))) ≡ true) × (length work ≡ length work₀) × Below q work
     × Kept (row + 512) (length work₀) work₀ work × (length hint ≡ k * 512)
-    × (take (i * 512) hint ≡ centredAll 31 (build i (hintRow l seed (sub work₀ at (l * 512)) c t (sub work₀ wat (k * 512)))))
+    × (take (i * 512) hint ≡ centredAll 31 (build i (hintRow l seed (span work₀ at (l * 512)) c t (span work₀ wat (k * 512)))))
     × Kept 0 row work₀ work
 
 abbrev μ-loop : tie.MeasureT-loop
@@ -48,7 +48,7 @@ recover-row-requires c κs = let a = c .before .before .before .before .before .
     let h : l .i < a .args .k = c .before .before .loop-test .taken in
     let m = inside (l .i) (a .args .k) 512 h in (
       (a .pre .0 .0, omega (arith, a .pre .0 .2, l .inv .2), l .inv .3, omega (arith, h, a .pre .1 .0), omega (arith, a .pre .1 .1)),
-      (a .pre .1 .2, subst (Residues 125 512) (sym (c .load .ensures .0)) (sub-residues 125 (a .args .t .now) (l .i * 512) 512 (omega (arith, m, a .pre .1 .3)) (a .pre .1 .4))),
+      (a .pre .1 .2, subst (Residues 125 512) (sym (c .load .ensures .0)) (span-residues 125 (a .args .t .now) (l .i * 512) 512 (omega (arith, m, a .pre .1 .3)) (a .pre .1 .4))),
     )
 
 returns : tie.Need-returns Inv-loop μ-loop
@@ -71,7 +71,7 @@ hint-row-requires c κs = let a = c .before .before .before .before .before .bef
     let u = z .1 (not-false _ (c .before .before .if1 .left)) in
     let n : l .i * 512 + 512 - l .i * 512 ≡ 512 = omega arith in
     let s = u .behind (b .wat + l .i * 512) 512 (omega arith) (omega (arith, a .pre .0 .1)) ∙ v .4 .same (b .wat + l .i * 512) 512 (omega (arith, a .pre .0 .1)) (omega (arith, m, a .pre .0 .3)) in
-    rw n (omega (arith, z .0 .1, v .2, a .pre .0 .1, a .pre .0 .3), omega (arith, m, z .0 .1, v .2, a .pre .0 .3), z .0 .2, subst (Below 31) (sym s) (part-below 31 (b .work .now) (b .wat) (b .k) (l .i) h (a .pre .1 .5)), length-subZ (l .hint) (l .i * 512) 512 (omega (arith, m, v .5)))
+    rw n (omega (arith, z .0 .1, v .2, a .pre .0 .1, a .pre .0 .3), omega (arith, m, z .0 .1, v .2, a .pre .0 .3), z .0 .2, subst (Below 31) (sym s) (part-below 31 (b .work .now) (b .wat) (b .k) (l .i) h (a .pre .1 .5)), length-spanZ (l .hint) (l .i * 512) 512 (omega (arith, m, v .5)))
 
 loop-again : tie.Need-loop-again Inv-loop μ-loop
 loop-again c = let a = c .before .before .before .before .before .before .before .before .before .before .before .before .before .before .before in
@@ -83,15 +83,15 @@ loop-again c = let a = c .before .before .before .before .before .before .before
     let z = c .before .before .before .before .before .before .before .recover-row .ensures in
     let e : c .before .before .before .before .before .before .before .recover-row .result ≡ true = not-false _ (c .before .before .before .before .if1 .left) in
     let u = z .1 e in
-    let Z = sub (b .work .now) (b .at) (b .l * 512) in
-    let W = sub (b .work .now) (b .wat) (b .k * 512) in
+    let Z = span (b .work .now) (b .at) (b .l * 512) in
+    let W = span (b .work .now) (b .wat) (b .k * 512) in
     let X = c .before .hint-row .last .1 .1 .1 .0 in
     let x = c .before .hint-row .ensures in
     let k : l .i * 512 + 512 ≤ length (l .hint) = omega (arith, m, v .5) in
-    let f = u .behind (b .wat + l .i * 512) 512 (omega arith) (omega (arith, a .pre .0 .1)) ∙ v .4 .same (b .wat + l .i * 512) 512 (omega (arith, a .pre .0 .1)) (omega (arith, m, a .pre .0 .3)) ∙ sym (block-sub 512 (b .k) (l .i) (b .work .now) (b .wat) h) in
+    let f = u .behind (b .wat + l .i * 512) 512 (omega arith) (omega (arith, a .pre .0 .1)) ∙ v .4 .same (b .wat + l .i * 512) 512 (omega (arith, a .pre .0 .1)) (omega (arith, m, a .pre .0 .3)) ∙ sym (block-span 512 (b .k) (l .i) (b .work .now) (b .wat) h) in
     let g = u .new ∙ ap (λ y. recoveredBy (b .l) (rowEntry (b .seed .now) (l .i)) y (b .c) (c .before .before .before .before .before .before .before .before .load .result)) (v .4 .same (b .at) (b .l * 512) (a .pre .0 .0) (a .pre .0 .2))
     ∙ ap (recoveredBy (b .l) (rowEntry (b .seed .now) (l .i)) Z (b .c)) (c .before .before .before .before .before .before .before .before .load .ensures .0 ∙ sym (block-is 512 (l .i) (b .t .now))) in
-    let o : length X ≡ 512 = ap (λ y. length y) x ∙ length-centred 31 _ ∙ length-zip sub31 _ _ ∙ length-sub (c .before .before .before .before .before .before .before .recover-row .last .0) (b .wat + l .i * 512) 512 (omega (arith, m, z .0 .1, v .2, a .pre .0 .3)) in (
+    let o : length X ≡ 512 = ap (λ y. length y) x ∙ length-centred 31 _ ∙ length-zip sub31 _ _ ∙ length-span (c .before .before .before .before .before .before .before .recover-row .last .0) (b .wat + l .i * 512) 512 (omega (arith, m, z .0 .1, v .2, a .pre .0 .3)) in (
       omega (arith, h),
       all-more (l .i) (λ j. buildAll (b .l) (matrixAt (b .seed .now) j)) (v .1) (sym (z .0 .0) ∙ e),
       z .0 .1 ∙ v .2,
@@ -113,7 +113,7 @@ returns-2 c = let b = c .before .before .before .before .before .args in
         (λ _. (v .7, v .4)),
         (λ _.
             sym (take-all (b .k * 512) (l .hint) (omega (arith, v .5))) ∙ ap (λ n. take (n * 512) (l .hint)) (sym e) ∙ v .6
-            ∙ ap (λ n. centredAll 31 (build n (hintRow (b .l) (b .seed .now) (sub (b .work .now) (b .at) (b .l * 512)) (b .c) (b .t .now) (sub (b .work .now) (b .wat) (b .k * 512))))) e),
+            ∙ ap (λ n. centredAll 31 (build n (hintRow (b .l) (b .seed .now) (span (b .work .now) (b .at) (b .l * 512)) (b .c) (b .t .now) (span (b .work .now) (b .wat) (b .k * 512))))) e),
       ),
     )
 

@@ -7,8 +7,8 @@ use lib.ListN.{length, take, drop, replicate}
 use Rattle.ring.specs.Words.{q, Below, Words}
 use Rattle.ring.specs.Transform.{ntt}
 use Rattle.ring.specs.Round.{residues}
-use Rattle.sharing.specs.Region.{sub}
-use Rattle.sharing.proofs.Regions.{length-sub, sub-words, kept-front, kept-behind, kept-then, kept-less}
+use Rattle.sharing.specs.Region.{span}
+use Rattle.sharing.proofs.Regions.{length-span, span-words, kept-front, kept-behind, kept-then, kept-less}
 use Rattle.signature.specs.Bits.{repack}
 use Rattle.signature.specs.Keygen.{atT, atX}
 use Rattle.signature.specs.Keys.{vkSeed, vkVector}
@@ -66,8 +66,8 @@ returns c =
     let l = p .l in
     let d = p .shares in
     let seed : List ℕ = take (p .kappa / 8) (b .vk .now) in
-    let z = sub (b .work .now) (atX k l d) (l * 512) in
-    let w = sub (b .work .now) (atT l d) (k * 512) in
+    let z = span (b .work .now) (atX k l d) (l * 512) in
+    let w = span (b .work .now) (atT l d) (k * 512) in
     let x = residues q (b .c) in
     let m : p .kappa / 8 + p .k * 448 - p .kappa / 8 ≡ p .k * 448 = omega arith in
     let n : p .kappa / 8 - 0 ≡ p .kappa / 8 = omega arith in
@@ -89,8 +89,8 @@ returns c =
         (λ (A : List ℕ) (g : matrix p seed ≡ some A).
             r .1 .1 (f ∙ some-filled (matrix p seed) A g)
             ∙ hint-parts k l e (u .new) y t (u .behind (atT l d) (k * 512) (omega arith) (omega (arith, o)))
-            ∙ hint-all p seed A z x (vkVector p (b .vk .now)) w g (sub-words (b .work .now) (atX k l d) (l * 512) (R .2) (a .pre .0 .3))
-            (subst (Words 512) (c .before .before .before .before .before .before .before .before .before .before .from-signed .ensures .0) (c .before .before .before .before .before .before .before .before .before .before .from-signed .ensures .1)) (length-repack 8 7 (p .k * 512) _) (length-sub (b .work .now) (atT l d) (k * 512) (R .1))),
+            ∙ hint-all p seed A z x (vkVector p (b .vk .now)) w g (span-words (b .work .now) (atX k l d) (l * 512) (R .2) (a .pre .0 .3))
+            (subst (Words 512) (c .before .before .before .before .before .before .before .before .before .before .from-signed .ensures .0) (c .before .before .before .before .before .before .before .before .before .before .from-signed .ensures .1)) (length-repack 8 7 (p .k * 512) _) (length-span (b .work .now) (atT l d) (k * 512) (R .1))),
       ),
     )
 

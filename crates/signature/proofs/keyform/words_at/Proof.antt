@@ -2,8 +2,8 @@ use Prim.Native.Nat.{ℕ, _+_, _-_}
 use mathlib.Core.Path.{_≡_, ap, _∙_}
 use native.Mathlib.Omega.{arith}
 use lib.ListN.{length}
-use Rattle.sharing.specs.Region.{sub}
-use Rattle.sharing.proofs.Regions.{length-sub, put-back}
+use Rattle.sharing.specs.Region.{span}
+use Rattle.sharing.proofs.Regions.{length-span, put-back}
 use Rattle.signature.specs.Bits.{repack}
 use borrow.Author.Needs.{needs}
 use Rattle.signature.proofs.keyform.words_at.Statement.{statement}
@@ -18,8 +18,8 @@ returns c =
     let w = a .args .w in
     let xs = a .args .words .now in
     let k : at + n - at ≡ n = omega arith in
-    let e : c .before .before .pack .last .1 .1 .0 ≡ repack w 8 (length (sub o at n)) xs = rw k at (c .before .before .pack .ensures) in
-    put-back o at k (e ∙ ap (λ (m : ℕ). repack w 8 m xs) (length-sub o at n (a .pre .1 .0)))
+    let e : c .before .before .pack .last .1 .1 .0 ≡ repack w 8 (length (span o at n)) xs = rw k at (c .before .before .pack .ensures) in
+    put-back o at k (e ∙ ap (λ (m : ℕ). repack w 8 m xs) (length-span o at n (a .pre .1 .0)))
 
 pub words-at-spec : {M : Type 1} → statement M
 words-at-spec =

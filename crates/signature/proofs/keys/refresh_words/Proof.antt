@@ -8,7 +8,7 @@ use Rattle.ring.proofs.Sums.{below-zeros}
 use Rattle.signature.proofs.Renewed.{refresh-laid, refresh-all}
 use Rattle.ring.specs.Words.{q, Below}
 use Rattle.sharing.specs.Blocks.{build}
-use Rattle.sharing.specs.Region.{sub, Wrote}
+use Rattle.sharing.specs.Region.{span, Wrote}
 use Rattle.sharing.specs.Encoding.{skip}
 use Rattle.sharing.specs.Masks.{masks}
 use Rattle.sharing.proofs.Lists.{inside}
@@ -21,7 +21,7 @@ use Rattle.signature.proofs.keys.refresh_words.Tie as tie
 
 abbrev Inv-loop : tie.InvT-loop
 Inv-loop s₀ p l d x₀ z₀ i₀ s x z i =
-    (i ≤ l) × Wrote 0 0 (i * (d * 512)) (build i (renewed masks d x₀ (sub s₀ 0 (l * (d * 512))))) s₀ s × (x ≡ skip masks d i x₀)
+    (i ≤ l) × Wrote 0 0 (i * (d * 512)) (build i (renewed masks d x₀ (span s₀ 0 (l * (d * 512))))) s₀ s × (x ≡ skip masks d i x₀)
     × (length z ≡ 16384) × Below q z
 
 abbrev μ-loop : tie.MeasureT-loop
@@ -33,7 +33,7 @@ loop-holds c =
     let d = a .args .p .shares in
     let s = a .args .s .now in (
       search needs,
-      wrote-start (d * 512) (renewed masks d (a .args .g) (sub s 0 (a .args .p .l * (d * 512)))) 0 0 s (a .pre .0 .low),
+      wrote-start (d * 512) (renewed masks d (a .args .g) (span s 0 (a .args .p .l * (d * 512)))) 0 0 s (a .pre .0 .low),
       sym (skip-none masks d (a .args .g)),
       length-replicate {A = ℕ} 16384 0,
       below-zeros q (lit< tt) 16384,

@@ -3,8 +3,8 @@ use Prim.Native.Nat.{_+_, _-_, _*_}
 use native.Mathlib.Omega.{arith}
 use lib.ListN.{length}
 use borrow.Author.Tests.{not-true, not-false}
-use Rattle.sharing.specs.Region.{sub}
-use Rattle.sharing.proofs.Regions.{length-sub, wrote-value}
+use Rattle.sharing.specs.Region.{span}
+use Rattle.sharing.proofs.Regions.{length-span, wrote-value}
 use Rattle.signature.proofs.Loads.{part-loaded, part-value}
 use borrow.Author.Needs.{needs}
 use Rattle.signature.proofs.load.load_part.Statement.{statement}
@@ -23,7 +23,7 @@ decompress-shares-requires c κs =
     let b = a .args in
     let n = b .p .l * (b .p .shares * 512) in
     let k : b .at + n - b .at ≡ n = omega arith in
-    ((a .pre .0 .0, a .pre .0 .1), (ap (λ m. length (sub (b .s .now) (b .at) m)) k ∙ length-sub (b .s .now) (b .at) n (a .pre .1 .0), a .pre .0 .2))
+    ((a .pre .0 .0, a .pre .0 .1), (ap (λ m. length (span (b .s .now) (b .at) m)) k ∙ length-span (b .s .now) (b .at) n (a .pre .1 .0), a .pre .0 .2))
 
 returns-2 : tie.Need-returns-2
 returns-2 c =

@@ -1,7 +1,7 @@
 use mathlib.Core.Path.{sym, ap, _∙_}
 use Prim.Native.Nat.{_+_, _*_}
 use native.Mathlib.Omega.{arith}
-use Rattle.sharing.specs.Region.{sub}
+use Rattle.sharing.specs.Region.{span}
 use Rattle.signature.specs.Matrix.{filled}
 use Rattle.signature.proofs.Loads.{packed-long, packed-low, packed-shares, expanded-long, expanded-low, expanded-shares}
 use Rattle.signature.proofs.Expanded.{vk-in, key-part-long, key-part-low}
@@ -62,7 +62,7 @@ returns-2 c =
     let w = cleared (b .work .now) _ (c .before .before .before .before .before .before .before .clear .ensures) in
     let u = c .before .before .load-words .ensures in
     let e = expanded-shares (b .p) (b .key .now) (b .words .now) (b .packed) y in
-    ((sym (some-filled _ (b .words .now) (sym e)), u .long ∙ w .long, u .low), λ X f. ap (λ m. sub (c .before .before .load-words .last .0) (4 * (b .p .shares * 512) + 4096) m) (sym n) ∙ u .new ∙ some-same (b .words .now) X (e ∙ f))
+    ((sym (some-filled _ (b .words .now) (sym e)), u .long ∙ w .long, u .low), λ X f. ap (λ m. span (c .before .before .load-words .last .0) (4 * (b .p .shares * 512) + 4096) m) (sym n) ∙ u .new ∙ some-same (b .words .now) X (e ∙ f))
 
 pub load-shares-spec : {M : Type 1} → statement M
 load-shares-spec =

@@ -1,7 +1,7 @@
 use Prim.Native.Nat.{_-_, _*_, _≤_}
 use native.Mathlib.Omega.{arith}
 use Rattle.sharing.specs.Blocks.{build}
-use Rattle.sharing.specs.Region.{sub, Wrote}
+use Rattle.sharing.specs.Region.{span, Wrote}
 use Rattle.sharing.proofs.Regions.{wrote-start, wrote-end}
 use Rattle.signature.specs.Masked.{accrued}
 use Rattle.signature.proofs.Rows.{accrue-turn}
@@ -10,7 +10,7 @@ use Rattle.signature.proofs.masked.add_products.Statement.{statement}
 use Rattle.signature.proofs.masked.add_products.Tie as tie
 
 abbrev Inv-loop : tie.InvT-loop
-Inv-loop s₀ to at a d j₀ s j = (j ≤ d) × Wrote 0 to (j * 512) (build j (accrued a (sub s₀ to (d * 512)) (sub s₀ at (d * 512)))) s₀ s
+Inv-loop s₀ to at a d j₀ s j = (j ≤ d) × Wrote 0 to (j * 512) (build j (accrued a (span s₀ to (d * 512)) (span s₀ at (d * 512)))) s₀ s
 
 abbrev μ-loop : tie.MeasureT-loop
 μ-loop s₀ to at a d j₀ s j = d - j
@@ -20,7 +20,7 @@ loop-holds c =
     let a = c .before in
     let b = a .args in
     let s = b .s .now in
-    (search needs, wrote-start 512 (accrued (b .a) (sub s (b .to) (b .d * 512)) (sub s (b .at) (b .d * 512))) 0 (b .to) s (a .pre .2))
+    (search needs, wrote-start 512 (accrued (b .a) (span s (b .to) (b .d * 512)) (span s (b .at) (b .d * 512))) 0 (b .to) s (a .pre .2))
 
 load-requires : tie.Need-load-requires Inv-loop μ-loop
 load-requires c κs =
@@ -51,7 +51,7 @@ returns : tie.Need-returns Inv-loop μ-loop
 returns c =
     let b = c .before .before .before .args in
     let s = b .s .now in
-    wrote-end 512 (accrued (b .a) (sub s (b .to) (b .d * 512)) (sub s (b .at) (b .d * 512))) (omega arith) (c .before .loop .inv .1)
+    wrote-end 512 (accrued (b .a) (span s (b .to) (b .d * 512)) (span s (b .at) (b .d * 512))) (omega arith) (c .before .loop .inv .1)
 
 pub add-products-spec : {M : Type 1} → statement M
 add-products-spec =

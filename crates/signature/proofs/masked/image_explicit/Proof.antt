@@ -4,7 +4,7 @@ use Prim.Native.Nat.{_+_, _-_, _*_, _≤_, _<_}
 use native.Mathlib.Omega.{arith}
 use Rattle.hash.proofs.Rows.{count-power}
 use Rattle.sharing.specs.Blocks.{build}
-use Rattle.sharing.specs.Region.{sub, Wrote}
+use Rattle.sharing.specs.Region.{span, Wrote}
 use Rattle.sharing.specs.Encoding.{skip}
 use Rattle.sharing.specs.Masks.{masks}
 use Rattle.sharing.specs.Noise.{explicitNoise}
@@ -25,9 +25,9 @@ abbrev Inv-loop : tie.InvT-loop
 Inv-loop s₀ row at to p seed words k x₀ i₀ s x i =
     (i ≤ k) × (filled (buildAll i (λ j. buildAll (p .l) (matrixAt seed j))) ≡ true)
     × Wrote (row + p .shares * 512) to (i * 512)
-    (build i (imaged (p .shares) (p .l) 1 (explicitNoise (p .shares) words) x₀ seed (sub s₀ at (p .l * (p .shares * 512))))) s₀ s
+    (build i (imaged (p .shares) (p .l) 1 (explicitNoise (p .shares) words) x₀ seed (span s₀ at (p .l * (p .shares * 512))))) s₀ s
     × (x ≡ skip masks (p .shares) (i * 1) x₀)
-    × RowsDone (p .shares) (p .l) 1 (explicitNoise (p .shares) words) x₀ seed (sub s₀ at (p .l * (p .shares * 512))) row s i
+    × RowsDone (p .shares) (p .l) 1 (explicitNoise (p .shares) words) x₀ seed (span s₀ at (p .l * (p .shares * 512))) row s i
 
 abbrev μ-loop : tie.MeasureT-loop
 μ-loop s₀ row at to p seed words k x₀ i₀ s x i = k - i
@@ -38,7 +38,7 @@ loop-holds c =
     let b = a .args in
     let p = b .p in
     let f = explicitNoise (p .shares) (b .words .now) in
-    let X = sub (b .s .now) (b .at) (p .l * (p .shares * 512)) in (
+    let X = span (b .s .now) (b .at) (p .l * (p .shares * 512)) in (
       search needs,
       all-none (λ j. buildAll (p .l) (matrixAt (b .seed .now) j)),
       wrote-start 512 (imaged (p .shares) (p .l) 1 f (b .g) (b .seed .now) X) (b .row + p .shares * 512) (b .to) (b .s .now) (a .pre .1 .4),
@@ -106,7 +106,7 @@ returns-2 c =
     let e : l .i ≡ p .k = omega arith in
     let f = explicitNoise (p .shares) (b .words .now) in
     let o : l .i * 1 ≡ p .k = omega (arith, e) in
-    ((sym (v .1) ∙ ap (λ n. filled (buildAll n (λ j. buildAll (p .l) (matrixAt (b .seed .now) j)))) e, v .2 .long, v .2 .low, kept-front (v .2)), λ A m. (image-end (p .shares) (p .k) (p .l) 1 f (b .g) (b .seed .now) A (sub (b .s .now) (b .at) (p .l * (p .shares * 512))) (count-power (p .shares) (a .pre .0 .0 .count)) m (b .row) (b .to) (l .i) (b .s .now) (l .s) e (v .2) (v .4), v .3 ∙ ap (λ n. skip masks (p .shares) n (b .g)) o))
+    ((sym (v .1) ∙ ap (λ n. filled (buildAll n (λ j. buildAll (p .l) (matrixAt (b .seed .now) j)))) e, v .2 .long, v .2 .low, kept-front (v .2)), λ A m. (image-end (p .shares) (p .k) (p .l) 1 f (b .g) (b .seed .now) A (span (b .s .now) (b .at) (p .l * (p .shares * 512))) (count-power (p .shares) (a .pre .0 .0 .count)) m (b .row) (b .to) (l .i) (b .s .now) (l .s) e (v .2) (v .4), v .3 ∙ ap (λ n. skip masks (p .shares) n (b .g)) o))
 
 pub image-explicit-spec : {M : Type 1} → statement M
 image-explicit-spec =

@@ -4,7 +4,7 @@ use Prim.Native.Nat.{_+_, _-_, _*_, _/_, _≤_, _<_}
 use native.Mathlib.Omega.{arith}
 use Rattle.hash.proofs.Rows.{count-power}
 use Rattle.sharing.specs.Blocks.{build}
-use Rattle.sharing.specs.Region.{sub, Wrote}
+use Rattle.sharing.specs.Region.{span, Wrote}
 use Rattle.sharing.specs.Encoding.{skip}
 use Rattle.sharing.specs.Masks.{masks}
 use Rattle.sharing.specs.Noise.{seedNoise}
@@ -24,9 +24,9 @@ abbrev Inv-loop : tie.InvT-loop
 Inv-loop s₀ row at to p u seed seeds k x₀ i₀ s x i =
     (i ≤ k) × (filled (buildAll i (λ j. buildAll (p .l) (matrixAt seed j))) ≡ true)
     × Wrote (row + p .shares * 512) to (i * 512)
-    (build i (imaged (p .shares) (p .l) (p .rep) (seedNoise (p .shares) (p .rep) u (p .kappa / 8) seeds) x₀ seed (sub s₀ at (p .l * (p .shares * 512))))) s₀ s
+    (build i (imaged (p .shares) (p .l) (p .rep) (seedNoise (p .shares) (p .rep) u (p .kappa / 8) seeds) x₀ seed (span s₀ at (p .l * (p .shares * 512))))) s₀ s
     × (x ≡ skip masks (p .shares) (i * (p .rep)) x₀)
-    × RowsDone (p .shares) (p .l) (p .rep) (seedNoise (p .shares) (p .rep) u (p .kappa / 8) seeds) x₀ seed (sub s₀ at (p .l * (p .shares * 512))) row s i
+    × RowsDone (p .shares) (p .l) (p .rep) (seedNoise (p .shares) (p .rep) u (p .kappa / 8) seeds) x₀ seed (span s₀ at (p .l * (p .shares * 512))) row s i
 
 abbrev μ-loop : tie.MeasureT-loop
 μ-loop s₀ row at to p u seed seeds k x₀ i₀ s x i = k - i
@@ -37,7 +37,7 @@ loop-holds c =
     let b = a .args in
     let p = b .p in
     let f = seedNoise (p .shares) (p .rep) (b .u) (p .kappa / 8) (b .seeds .now) in
-    let X = sub (b .s .now) (b .at) (p .l * (p .shares * 512)) in (
+    let X = span (b .s .now) (b .at) (p .l * (p .shares * 512)) in (
       search needs,
       all-none (λ j. buildAll (p .l) (matrixAt (b .seed .now) j)),
       wrote-start 512 (imaged (p .shares) (p .l) (p .rep) f (b .g) (b .seed .now) X) (b .row + p .shares * 512) (b .to) (b .s .now) (a .pre .1 .4),
@@ -104,7 +104,7 @@ returns-2 c =
     let v = l .inv in
     let e : l .i ≡ p .k = omega arith in
     let f = seedNoise (p .shares) (p .rep) (b .u) (p .kappa / 8) (b .seeds .now) in
-    ((sym (v .1) ∙ ap (λ n. filled (buildAll n (λ j. buildAll (p .l) (matrixAt (b .seed .now) j)))) e, v .2 .long, v .2 .low, kept-front (v .2)), λ A m. (image-end (p .shares) (p .k) (p .l) (p .rep) f (b .g) (b .seed .now) A (sub (b .s .now) (b .at) (p .l * (p .shares * 512))) (count-power (p .shares) (a .pre .0 .0 .count)) m (b .row) (b .to) (l .i) (b .s .now) (l .s) e (v .2) (v .4), v .3 ∙ ap (λ n. skip masks (p .shares) (n * p .rep) (b .g)) e))
+    ((sym (v .1) ∙ ap (λ n. filled (buildAll n (λ j. buildAll (p .l) (matrixAt (b .seed .now) j)))) e, v .2 .long, v .2 .low, kept-front (v .2)), λ A m. (image-end (p .shares) (p .k) (p .l) (p .rep) f (b .g) (b .seed .now) A (span (b .s .now) (b .at) (p .l * (p .shares * 512))) (count-power (p .shares) (a .pre .0 .0 .count)) m (b .row) (b .to) (l .i) (b .s .now) (l .s) e (v .2) (v .4), v .3 ∙ ap (λ n. skip masks (p .shares) (n * p .rep) (b .g)) e))
 
 pub image-seeds-spec : {M : Type 1} → statement M
 image-seeds-spec =

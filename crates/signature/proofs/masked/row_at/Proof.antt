@@ -3,7 +3,7 @@ use mathlib.Core.Bool.{true}
 use Prim.Native.Nat.{_*_}
 use native.Mathlib.Omega.{arith}
 use lib.ListN.{length}
-use Rattle.sharing.specs.Region.{sub}
+use Rattle.sharing.specs.Region.{span}
 use Rattle.sharing.proofs.Regions.{kept-behind}
 use Rattle.signature.specs.Matrix.{rowEntry}
 use borrow.Author.Tests.{not-true, not-false}
@@ -33,7 +33,7 @@ returns-2 c =
     let b = c .before .before .before .before .before .before .before .before .before .before .before .args in
     let z = c .before .before .before .before .before .before .before .row-sums .ensures in
     let e : c .before .before .before .before .before .before .before .row-sums .result ≡ true = not-false _ (c .before .before .before .before .if1 .left) in
-    let w = row-back (b .d) (b .l) (b .to) (rowEntry (b .seed .now) (b .i)) (sub (b .s .now) (b .at) (b .l * (b .d * 512))) (b .s .now) _ _ (z .1 e) (c .before .before .intt-vector .ensures) in
+    let w = row-back (b .d) (b .l) (b .to) (rowEntry (b .seed .now) (b .i)) (span (b .s .now) (b .at) (b .l * (b .d * 512))) (b .s .now) _ _ (z .1 e) (c .before .before .intt-vector .ensures) in
     ((sym e ∙ z .0 .0, w .long, w .low, kept-behind (length (b .s .now)) (omega arith) w), λ _. w)
 
 pub row-at-spec : {M : Type 1} → statement M

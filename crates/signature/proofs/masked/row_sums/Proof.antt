@@ -5,7 +5,7 @@ use Prim.Native.Nat.{_-_, _*_, _≤_}
 use native.Mathlib.Omega.{arith}
 use Rattle.ring.specs.Transform.{ntt}
 use Rattle.sharing.specs.Blocks.{build}
-use Rattle.sharing.specs.Region.{sub, Wrote}
+use Rattle.sharing.specs.Region.{span, Wrote}
 use lib.ListN.{length}
 use Rattle.sharing.proofs.Lists.{inside}
 use Rattle.sharing.proofs.Regions.{kept-behind, kept-then}
@@ -20,7 +20,7 @@ use Rattle.signature.proofs.masked.row_sums.Statement.{statement}
 use Rattle.signature.proofs.masked.row_sums.Tie as tie
 
 abbrev Inv-loop : tie.InvT-loop
-Inv-loop s₀ to at seed i l d m₀ s m = (m ≤ l) × (filled (buildAll m (matrixAt seed i)) ≡ true) × Wrote 0 to (d * 512) (build d (rowSum d (rowEntry seed i) (sub s₀ at (l * (d * 512))) m)) s₀ s
+Inv-loop s₀ to at seed i l d m₀ s m = (m ≤ l) × (filled (buildAll m (matrixAt seed i)) ≡ true) × Wrote 0 to (d * 512) (build d (rowSum d (rowEntry seed i) (span s₀ at (l * (d * 512))) m)) s₀ s
 
 abbrev μ-loop : tie.MeasureT-loop
 μ-loop s₀ to at seed i l d m₀ s m = l - m

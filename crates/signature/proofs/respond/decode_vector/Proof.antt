@@ -1,7 +1,7 @@
 use Prim.Native.Nat.{_-_, _*_, _≤_}
 use native.Mathlib.Omega.{arith}
 use Rattle.sharing.specs.Blocks.{block, build, total}
-use Rattle.sharing.specs.Region.{sub, Wrote}
+use Rattle.sharing.specs.Region.{span, Wrote}
 use Rattle.sharing.proofs.Lists.{inside}
 use Rattle.sharing.proofs.Regions.{wrote-start}
 use Rattle.sharing.proofs.Turns.{decode-turn, decode-end}
@@ -10,7 +10,7 @@ use Rattle.signature.proofs.respond.decode_vector.Statement.{statement}
 use Rattle.signature.proofs.respond.decode_vector.Tie as tie
 
 abbrev Inv-loop : tie.InvT-loop
-Inv-loop s₀ at to p l d i₀ s i = (i ≤ l) × Wrote 0 to (i * 512) (build i (λ j. total d (block (d * 512) j (sub s₀ at (l * (d * 512)))))) s₀ s
+Inv-loop s₀ at to p l d i₀ s i = (i ≤ l) × Wrote 0 to (i * 512) (build i (λ j. total d (block (d * 512) j (span s₀ at (l * (d * 512)))))) s₀ s
 
 abbrev μ-loop : tie.MeasureT-loop
 μ-loop s₀ at to p l d i₀ s i = l - i
@@ -20,7 +20,7 @@ loop-holds c =
     let a = c .before in
     let b = a .args in
     let s = b .s .now in
-    (search needs, wrote-start 512 (λ j. total (b .p .shares) (block (b .p .shares * 512) j (sub s (b .at) (b .p .l * (b .p .shares * 512))))) 0 (b .to) s (a .pre .2))
+    (search needs, wrote-start 512 (λ j. total (b .p .shares) (block (b .p .shares * 512) j (span s (b .at) (b .p .l * (b .p .shares * 512))))) 0 (b .to) s (a .pre .2))
 
 mul-a : tie.Need-mul-a Inv-loop μ-loop
 mul-a c =

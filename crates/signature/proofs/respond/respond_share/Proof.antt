@@ -1,7 +1,7 @@
 use mathlib.Core.Path.{_≡_, _∙_}
 use Rattle.ring.specs.Words.{addW}
 use Rattle.ring.specs.Transform.{intt, pointwise}
-use Rattle.sharing.specs.Region.{sub}
+use Rattle.sharing.specs.Region.{span}
 use borrow.Author.Needs.{needs}
 use Rattle.signature.proofs.respond.respond_share.Statement.{statement}
 use Rattle.signature.proofs.respond.respond_share.Tie as tie
@@ -9,7 +9,7 @@ use Rattle.signature.proofs.respond.respond_share.Tie as tie
 returns : tie.Need-returns
 returns c =
     let b = c .before .before .before .before .before .before .args in
-    let e : c .add .result ≡ addW (intt (pointwise (b .c) (sub (b .s .now) (b .a) 512))) (sub (b .s .now) (b .b) 512) =
+    let e : c .add .result ≡ addW (intt (pointwise (b .c) (span (b .s .now) (b .a) 512))) (span (b .s .now) (b .b) 512) =
     c .add .ensures .0 ∙ cc (c .before .intt .ensures .0, c .before .before .pointwise .ensures .0, c .before .before .before .load2 .ensures .0, c .before .before .before .before .load .ensures .0) in
     (e, c .add .ensures .1)
 

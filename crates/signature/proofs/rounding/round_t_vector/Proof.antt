@@ -2,7 +2,7 @@ use mathlib.Core.Path.{ap, _∙_}
 use Prim.Native.Nat.{_-_, _*_, _≤_}
 use native.Mathlib.Omega.{arith}
 use Rattle.sharing.specs.Blocks.{block, build}
-use Rattle.sharing.specs.Region.{sub, Wrote}
+use Rattle.sharing.specs.Region.{span, Wrote}
 use Rattle.sharing.proofs.Regions.{wrote-value, wrote-start}
 use Rattle.signature.proofs.Rounded.{round-end, below-up}
 use Rattle.ring.specs.Words.{q}
@@ -14,7 +14,7 @@ use Rattle.signature.proofs.rounding.round_t_vector.Tie as tie
 
 abbrev Inv-loop : tie.InvT-loop
 Inv-loop s₀ at k i₀ s i =
-    (i ≤ k) × Wrote 0 at (i * 512) (build i (λ j. roundT (block 512 j (sub s₀ at (k * 512))))) s₀ s
+    (i ≤ k) × Wrote 0 at (i * 512) (build i (λ j. roundT (block 512 j (span s₀ at (k * 512))))) s₀ s
 
 abbrev μ-loop : tie.MeasureT-loop
 μ-loop s₀ at k i₀ s i =
@@ -23,7 +23,7 @@ abbrev μ-loop : tie.MeasureT-loop
 loop-holds : tie.Need-loop-holds Inv-loop μ-loop
 loop-holds c =
     let a = c .before in
-    (search needs, wrote-start 512 (λ j. roundT (block 512 j (sub (a .args .s .now) (a .args .at) (a .args .k * 512)))) 0 (a .args .at) (a .args .s .now) (a .pre .1))
+    (search needs, wrote-start 512 (λ j. roundT (block 512 j (span (a .args .s .now) (a .args .at) (a .args .k * 512)))) 0 (a .args .at) (a .args .s .now) (a .pre .1))
 
 load-requires : tie.Need-load-requires Inv-loop μ-loop
 load-requires c κs =

@@ -5,7 +5,7 @@ use native.Mathlib.Omega.{arith}
 use lib.ListN.{length, replicate}
 use borrow.Author.Tests.{not-true, not-false}
 use borrow.Rule.Slice.PartMut.{mid-len}
-use Rattle.sharing.specs.Region.{sub}
+use Rattle.sharing.specs.Region.{span}
 use Rattle.signature.specs.Attempt.{coinsOf}
 use Rattle.signature.specs.Keygen.{atS}
 use Rattle.signature.specs.Keys.{vkSeed}
@@ -50,7 +50,7 @@ returns-2 c =
     let e = seed-front p (b .vk .now) in
     let fill = ap (λ (l : List ℕ). filled (matrix p l)) (sym e) ∙ sym (z .0 .0) ∙ not-false _ (c .before .before .before .before .before .before .before .before .if1 .left) in
     let u = answered-all p (b .vk .now) (b .mu .now) (noiseAt p T (b .a)) (maskAt T (b .a)) _ _ (b .work .now) _ _ _ _ e (z .1) (v .1) in
-    let s = sub (b .work .now) (atS (p .shares)) (p .l * (p .shares * 512)) in
+    let s = span (b .work .now) (atS (p .shares)) (p .l * (p .shares * 512)) in
     let no = not-true _ (c .if2 .taken) in
     let m = ended-stuck p (b .vk .now) (b .mu .now) (noiseAt p T (b .a)) (maskAt T (b .a)) s _ _ _ fill u no in
     ((v .0 .0 ∙ z .0 .1, v .0 .1), (record { status = status-filled _ _ _ fill m; values = (fill, m, refl) }, shares-idle p (b .vk .now) (b .mu .now) (noiseAt p T (b .a)) (maskAt T (b .a)) s _ _ _ fill u no))
@@ -66,7 +66,7 @@ part-finish-end c =
     let e = seed-front p (b .vk .now) in
     let fill = ap (λ (l : List ℕ). filled (matrix p l)) (sym e) ∙ sym (z .0 .0) ∙ not-false _ (c .before .before .before .before .before .before .before .before .before .before .before .if1 .left) in
     let u = answered-all p (b .vk .now) (b .mu .now) (noiseAt p T (b .a)) (maskAt T (b .a)) _ _ (b .work .now) _ _ _ _ e (z .1) (v .1) in
-    front-in (p .kappa / 4) (replicate 64 0) (c .before .before .before .before .before .before .before .before .answer .last .1 .1 .1 .0) (a .pre .0 .0 .hash-low) (hash-long p (b .vk .now) (b .mu .now) (noiseAt p T (b .a)) (maskAt T (b .a)) (sub (b .work .now) (atS (p .shares)) (p .l * (p .shares * 512))) _ _ _ fill u)
+    front-in (p .kappa / 4) (replicate 64 0) (c .before .before .before .before .before .before .before .before .answer .last .1 .1 .1 .0) (a .pre .0 .0 .hash-low) (hash-long p (b .vk .now) (b .mu .now) (noiseAt p T (b .a)) (maskAt T (b .a)) (span (b .work .now) (atS (p .shares)) (p .l * (p .shares * 512))) _ _ _ fill u)
 
 finish-requires : tie.Need-finish-requires
 finish-requires c κs =
@@ -76,7 +76,7 @@ finish-requires c κs =
     let z = c .before .before .before .before .before .before .before .before .before .before .before .before .before .before .before .before .before .commit .ensures in
     let v = c .before .before .before .before .before .before .before .before .before .before .answer .ensures in
     let T = coinsOf (b .explicit) (b .seeds .now) (b .noise .now) (b .mask-seeds .now) in
-    let s = sub (b .work .now) (atS (p .shares)) (p .l * (p .shares * 512)) in
+    let s = span (b .work .now) (atS (p .shares)) (p .l * (p .shares * 512)) in
     let e = seed-front p (b .vk .now) in
     let fill = ap (λ (l : List ℕ). filled (matrix p l)) (sym e) ∙ sym (z .0 .0) ∙ not-false _ (c .before .before .before .before .before .before .before .before .before .before .before .before .before .if1 .left) in
     let u = answered-all p (b .vk .now) (b .mu .now) (noiseAt p T (b .a)) (maskAt T (b .a)) _ _ (b .work .now) _ _ _ _ e (z .1) (v .1) in
@@ -94,7 +94,7 @@ returns-3 c =
     let v = c .before .before .before .before .before .before .before .before .before .before .before .before .before .before .before .before .answer .ensures in
     let f = c .before .before .before .before .before .finish .ensures in
     let T = coinsOf (b .explicit) (b .seeds .now) (b .noise .now) (b .mask-seeds .now) in
-    let s = sub (b .work .now) (atS (p .shares)) (p .l * (p .shares * 512)) in
+    let s = span (b .work .now) (atS (p .shares)) (p .l * (p .shares * 512)) in
     let e = seed-front p (b .vk .now) in
     let fill = ap (λ (l : List ℕ). filled (matrix p l)) (sym e) ∙ sym (z .0 .0) ∙ not-false _ (c .before .before .before .before .before .before .before .before .before .before .before .before .before .before .before .before .before .before .before .if1 .left) in
     let u = answered-all p (b .vk .now) (b .mu .now) (noiseAt p T (b .a)) (maskAt T (b .a)) _ _ (b .work .now) _ _ _ _ e (z .1) (v .1) in
@@ -117,7 +117,7 @@ returns-4 c =
     let T = coinsOf (b .explicit) (b .seeds .now) (b .noise .now) (b .mask-seeds .now) in
     let N = noiseAt p T (b .a) in
     let g = maskAt T (b .a) in
-    let s = sub (b .work .now) (atS (p .shares)) (p .l * (p .shares * 512)) in
+    let s = span (b .work .now) (atS (p .shares)) (p .l * (p .shares * 512)) in
     let e = seed-front p (b .vk .now) in
     let fill = ap (λ (l : List ℕ). filled (matrix p l)) (sym e) ∙ sym (z .0 .0) ∙ not-false _ (c .before .before .before .before .before .before .before .before .before .before .before .before .before .before .before .before .before .before .before .if1 .left) in
     let u = answered-all p (b .vk .now) (b .mu .now) (noiseAt p T (b .a)) (maskAt T (b .a)) _ _ (b .work .now) _ _ _ _ e (z .1) (v .1) in

@@ -6,7 +6,7 @@ use Prim.Native.Nat.{ℕ, _-_, _*_, _≤_}
 use native.Mathlib.Omega.{arith}
 use lib.ListN.{length}
 use Rattle.ring.specs.Words.{q, Below}
-use Rattle.sharing.specs.Region.{sub}
+use Rattle.sharing.specs.Region.{span}
 use Rattle.signature.specs.Attempt.{coinsOf}
 use Rattle.signature.specs.Keygen.{atS}
 use Rattle.signature.specs.Keys.{vkSeed}
@@ -23,8 +23,8 @@ abbrev Inv-loop : tie.InvT-loop
 Inv-loop work₀ p vk mu explicit seeds noise mask-seeds n out₀ a₀ work out a =
     (a ≤ n) × (length work ≡ length work₀) × Below q work × (out ≡ out₀) × (1 ≤ a → filled (matrix p (vkSeed p vk)) ≡ true)
     × ((A : List ℕ) → matrix p (vkSeed p vk) ≡ some A
-    → signFrom p (publicBy p vk mu A) (coinsOf explicit seeds noise mask-seeds) n 0 (sub work₀ (atS (p .shares)) (p .l * (p .shares * 512)))
-    ≡ signFrom p (publicBy p vk mu A) (coinsOf explicit seeds noise mask-seeds) (n - a) a (sub work (atS (p .shares)) (p .l * (p .shares * 512))))
+    → signFrom p (publicBy p vk mu A) (coinsOf explicit seeds noise mask-seeds) n 0 (span work₀ (atS (p .shares)) (p .l * (p .shares * 512)))
+    ≡ signFrom p (publicBy p vk mu A) (coinsOf explicit seeds noise mask-seeds) (n - a) a (span work (atS (p .shares)) (p .l * (p .shares * 512))))
 
 abbrev μ-loop : tie.MeasureT-loop
 μ-loop work₀ p vk mu explicit seeds noise mask-seeds n out₀ a₀ work out a = n - a
@@ -35,7 +35,7 @@ loop-holds c =
     let b = a .args in
     let p = b .p in
     let e : b .n ≡ b .n - 0 = omega arith in
-    (omega arith, refl, a .pre .0 .3, refl, λ o. absurd (omega (arith, o)), λ (A : List ℕ) h. ap (λ (m : ℕ). signFrom p (publicBy p (b .vk .now) (b .mu .now) A) (coinsOf (b .explicit) (b .seeds .now) (b .noise .now) (b .mask-seeds .now)) m 0 (sub (b .work .now) (atS (p .shares)) (p .l * (p .shares * 512)))) e)
+    (omega arith, refl, a .pre .0 .3, refl, λ o. absurd (omega (arith, o)), λ (A : List ℕ) h. ap (λ (m : ℕ). signFrom p (publicBy p (b .vk .now) (b .mu .now) A) (coinsOf (b .explicit) (b .seeds .now) (b .noise .now) (b .mask-seeds .now)) m 0 (span (b .work .now) (atS (p .shares)) (p .l * (p .shares * 512)))) e)
 
 attempt-requires : tie.Need-attempt-requires Inv-loop μ-loop
 attempt-requires c κs =

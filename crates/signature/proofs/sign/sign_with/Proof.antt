@@ -6,7 +6,7 @@ use lib.ListN.{length, replicate}
 use borrow.Author.Tests.{not-true, not-false}
 use Rattle.ring.specs.Uniform.{heldOf}
 use Rattle.ring.specs.Words.{Below}
-use Rattle.sharing.specs.Region.{sub}
+use Rattle.sharing.specs.Region.{span}
 use Rattle.signature.specs.Attempt.{keyFrom, coinsOf}
 use Rattle.signature.specs.Keygen.{atS}
 use Rattle.signature.specs.Keys.{vkVector}
@@ -87,7 +87,7 @@ returns-2 c =
     let r = c .before .before .before .before .before .before .before .before .attempt-all .ensures in
     ap (signing _ _ _) (c .before .before .clear2 .ensures)
     ∙ end-made p K (b .message .now) T (b .n) (b .out .now) (b .work .now) (c .before .before .before .before .before .before .before .before .attempt-all .last .0) (r .0 ∙ z .0 .1)
-    _ (sub (c .before .before .before .before .before .before .before .before .before .before .before .before .before .before .before .before .before .before .before .before .before .load-shares .last .0) (atS (p .shares)) (p .l * (p .shares * 512))) e (f ∙ ap (λ (l : List ℕ). some l) (sym x)) _ _ _ (r .1 (b .message .now) m)
+    _ (span (c .before .before .before .before .before .before .before .before .before .before .before .before .before .before .before .before .before .before .before .before .before .load-shares .last .0) (atS (p .shares)) (p .l * (p .shares * 512))) e (f ∙ ap (λ (l : List ℕ). some l) (sym x)) _ _ _ (r .1 (b .message .now) m)
 
 pub sign-with-spec : {M : Type 1} → statement M
 sign-with-spec =

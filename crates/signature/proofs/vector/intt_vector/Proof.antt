@@ -3,7 +3,7 @@ use Prim.Native.Nat.{_-_, _*_, _≤_}
 use native.Mathlib.Omega.{arith}
 use Rattle.ring.specs.Transform.{intt}
 use Rattle.sharing.specs.Blocks.{block, build}
-use Rattle.sharing.specs.Region.{sub, Wrote}
+use Rattle.sharing.specs.Region.{span, Wrote}
 use Rattle.sharing.proofs.Regions.{wrote-value, wrote-start, wrote-end}
 use Rattle.sharing.proofs.Turns.{map-turn}
 use Rattle.signature.specs.Masked.{untransformed}
@@ -12,7 +12,7 @@ use Rattle.signature.proofs.vector.intt_vector.Statement.{statement}
 use Rattle.signature.proofs.vector.intt_vector.Tie as tie
 
 abbrev Inv-loop : tie.InvT-loop
-Inv-loop s₀ at n i₀ s i = (i ≤ n) × Wrote 0 at (i * 512) (build i (λ j. intt (block 512 j (sub s₀ at (n * 512))))) s₀ s
+Inv-loop s₀ at n i₀ s i = (i ≤ n) × Wrote 0 at (i * 512) (build i (λ j. intt (block 512 j (span s₀ at (n * 512))))) s₀ s
 
 abbrev μ-loop : tie.MeasureT-loop
 μ-loop s₀ at n i₀ s i = n - i
@@ -20,7 +20,7 @@ abbrev μ-loop : tie.MeasureT-loop
 loop-holds : tie.Need-loop-holds Inv-loop μ-loop
 loop-holds c =
     let a = c .before in
-    (search needs, wrote-start 512 (λ j. intt (block 512 j (sub (a .args .s .now) (a .args .at) (a .args .n * 512)))) 0 (a .args .at) (a .args .s .now) (a .pre .1))
+    (search needs, wrote-start 512 (λ j. intt (block 512 j (span (a .args .s .now) (a .args .at) (a .args .n * 512)))) 0 (a .args .at) (a .args .s .now) (a .pre .1))
 
 load-requires : tie.Need-load-requires Inv-loop μ-loop
 load-requires c κs =
@@ -42,7 +42,7 @@ returns : tie.Need-returns Inv-loop μ-loop
 unfolding untransformed
 returns c =
     let a = c .before .before .before in
-    wrote-end 512 (λ j. intt (block 512 j (sub (a .args .s .now) (a .args .at) (a .args .n * 512)))) (omega arith) (c .before .loop .inv .1)
+    wrote-end 512 (λ j. intt (block 512 j (span (a .args .s .now) (a .args .at) (a .args .n * 512)))) (omega arith) (c .before .loop .inv .1)
 
 pub intt-vector-spec : {M : Type 1} → statement M
 intt-vector-spec =

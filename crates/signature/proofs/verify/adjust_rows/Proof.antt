@@ -9,13 +9,13 @@ use Rattle.ring.specs.Round.{residues}
 use Rattle.ring.proofs.Sums.{length-zip}
 use Rattle.ring.specs.Words.{q, Below, Residues, zipTo}
 use Rattle.sharing.specs.Blocks.{block, build}
-use Rattle.sharing.specs.Region.{sub}
+use Rattle.sharing.specs.Region.{span}
 use Rattle.sharing.proofs.Lists.{inside}
 use Rattle.sharing.proofs.Built.{block-is, build-none}
-use Rattle.sharing.proofs.Regions.{put-back, length-put, length-sub}
+use Rattle.sharing.proofs.Regions.{put-back, length-put, length-span}
 use Rattle.signature.specs.Matrix.{buildAll, matrixAt, matrixOf, filled, rowEntry}
 use Rattle.signature.specs.Recover.{add31, blockZ, recoveredBy, adjustedRows}
-use Rattle.signature.proofs.Adjusted.{adjustedAt, sub-residues, length-subZ, part-small, adjust-turn}
+use Rattle.signature.proofs.Adjusted.{adjustedAt, span-residues, length-spanZ, part-small, adjust-turn}
 use Rattle.signature.proofs.Entries.{all-none, all-more, all-not}
 use Rattle.signature.proofs.Rounded.{below-up}
 use borrow.Author.Needs.{needs}
@@ -32,7 +32,7 @@ use Rattle.signature.proofs.residues.adjust.Reads as adjust-reads
 abbrev Inv-loop : tie.InvT-loop
 Inv-loop s₀ seed k l c t hint w₀ i₀ s w i =
     (i ≤ k) × (filled (buildAll i (λ j. buildAll l (matrixAt seed j))) ≡ true) × (length s ≡ length s₀) × Below q s
-    × (sub s 512 (l * 512) ≡ sub s₀ 512 (l * 512)) × (length w ≡ k * 512) × (take (i * 512) w ≡ build i (adjustedAt l seed (sub s₀ 512 (l * 512)) c t hint))
+    × (span s 512 (l * 512) ≡ span s₀ 512 (l * 512)) × (length w ≡ k * 512) × (take (i * 512) w ≡ build i (adjustedAt l seed (span s₀ 512 (l * 512)) c t hint))
 
 abbrev μ-loop : tie.MeasureT-loop
 μ-loop s₀ seed k l c t hint w₀ i₀ s w i = k - i
@@ -59,7 +59,7 @@ recover-row-requires c κs = let a = c .before .before .before .before .before .
     let h : l .i < a .args .k = c .before .before .loop-test .taken in
     let m = inside (l .i) (a .args .k) 512 h in (
       (omega arith, omega (arith, p .0, l .inv .2), l .inv .3, omega (arith, h, p .2), omega (arith, p .3)),
-      (p .4, subst (Residues 125 512) (sym (c .load .ensures .0)) (sub-residues 125 (a .args .t .now) (l .i * 512) 512 (omega (arith, m, t .0)) (t .1))),
+      (p .4, subst (Residues 125 512) (sym (c .load .ensures .0)) (span-residues 125 (a .args .t .now) (l .i * 512) 512 (omega (arith, m, t .0)) (t .1))),
     )
 
 same-length : tie.Need-same-length Inv-loop μ-loop
@@ -113,8 +113,8 @@ adjust-requires c κs = let a = c .before .before .before .before .before .befor
     let m = inside (l .i) (a .args .k) 512 h in
     let n : l .i * 512 + 512 - l .i * 512 ≡ 512 = omega arith in
     let g : l .i * 512 + 512 ≤ length (a .args .hint .now) = omega (arith, m, t .2) in
-    let w = length-sub (l .w) (l .i * 512) 512 (omega (arith, m, l .inv .5)) in
-    let x = length-subZ (a .args .hint .now) (l .i * 512) 512 g in
+    let w = length-span (l .w) (l .i * 512) 512 (omega (arith, m, l .inv .5)) in
+    let x = length-spanZ (a .args .hint .now) (l .i * 512) 512 g in
     rw n ((c .before .before .round-w .ensures .1, x, w), λ (i : ℕ) (o : i < length (take 512 (drop (l .i * 512) (a .args .hint .now)))). part-small 31 (l .i * 512) 512 (a .args .hint .now) g (a .pre .1 .1) i (omega (arith, o, x)))
 
 add-i : tie.Need-add-i Inv-loop μ-loop
@@ -139,7 +139,7 @@ loop-again c =
     let x : X ≡ zipTo add31 (c .before .before .before .before .before .round-w .result) (residues 31 (blockZ (l .i) (b .hint .now))) = rw n at (c .before .before .adjust .ensures) in
     let k : l .i * 512 + 512 ≤ length (l .w) = omega (arith, m, v .5) in
     let o : length X ≡ 512 = ap (λ y. length y) x ∙ length-zip add31 (c .before .before .before .before .before .round-w .result) (residues 31 (blockZ (l .i) (b .hint .now))) ∙ c .before .before .before .before .before .round-w .ensures .1 .long in
-    let Z = sub (b .s .now) 512 (b .l * 512) in
+    let Z = span (b .s .now) 512 (b .l * 512) in
     let r : c .before .before .before .before .before .before .load2 .result ≡ recoveredBy (b .l) (rowEntry (b .seed .now) (l .i)) Z (b .c) (block 512 (l .i) (b .t .now)) =
     c .before .before .before .before .before .before .load2 .ensures .0 ∙ u .new ∙ ap (λ y. recoveredBy (b .l) (rowEntry (b .seed .now) (l .i)) y (b .c) (c .before .before .before .before .before .before .before .before .before .before .before .before .load .result)) (v .4)
     ∙ ap (recoveredBy (b .l) (rowEntry (b .seed .now) (l .i)) Z (b .c)) (c .before .before .before .before .before .before .before .before .before .before .before .before .load .ensures .0 ∙ sym (block-is 512 (l .i) (b .t .now))) in (
@@ -168,7 +168,7 @@ returns-2 c = let b = c .before .before .before .before .before .before .args in
       sym (v .1) ∙ ap (λ n. filled (buildAll n (λ j. buildAll (b .l) (matrixAt (b .seed .now) j)))) e,
       λ _.
           sym (take-all (b .k * 512) (l .w) (omega (arith, v .5))) ∙ ap (λ n. take (n * 512) (l .w)) (sym e) ∙ v .6
-          ∙ ap (λ n. build n (adjustedAt (b .l) (b .seed .now) (sub (b .s .now) 512 (b .l * 512)) (b .c) (b .t .now) (b .hint .now))) e,
+          ∙ ap (λ n. build n (adjustedAt (b .l) (b .seed .now) (span (b .s .now) 512 (b .l * 512)) (b .c) (b .t .now) (b .hint .now))) e,
     )
 
 pub adjust-rows-spec : {M : Type 1} → statement M

@@ -9,7 +9,7 @@ use Rattle.ring.specs.Transform.{ntt}
 use Rattle.ring.specs.Round.{residues}
 use Rattle.ring.proofs.Sums.{words-zeros}
 use Rattle.ring.proofs.Signs.{below-residues}
-use Rattle.sharing.specs.Region.{sub}
+use Rattle.sharing.specs.Region.{span}
 use Rattle.signature.specs.Bits.{repack}
 use Rattle.signature.specs.Keys.{vkSeed, vkVector}
 use Rattle.signature.specs.Masked.{transformed}
@@ -128,7 +128,7 @@ returns c = let a = c .before .before .before .before .before .before .before .b
     let e = ap (λ (j : ℕ). take j (b .vk .now)) o in
     let t = unpacked-is 7 (p .k * 512) (replicate 4608 0) (c .before .before .before .before .before .before .before .before .before .before .before .before .before .before .before .unpack .last .1 .1 .0) _ (omega (arith, T .rows-low)) (c .before .before .before .before .before .before .before .before .before .before .before .before .before .before .before .unpack .ensures)
     ∙ ap (λ (j : ℕ). repack 8 7 (p .k * 512) (take j (drop (p .kappa / 8) (b .vk .now)))) m in
-    let s : sub (c .before .before .before .before .before .before .before .before .before .before .before .before .place .last .1 .1 .0) 512 (l * 512) ≡ transformed l z = c .before .before .before .before .before .before .before .before .before .before .before .before .place .ensures .0 in
+    let s : span (c .before .before .before .before .before .before .before .before .before .before .before .before .place .last .1 .1 .0) 512 (l * 512) ≡ transformed l z = c .before .before .before .before .before .before .before .before .before .before .before .before .place .ensures .0 in
     let y : c .before .before .before .before .before .before .before .before .before .ntt .result ≡ ntt x = c .before .before .before .before .before .before .before .before .before .ntt .ensures .0 ∙ ap ntt (c .before .before .before .before .before .before .before .before .before .before .from-signed .ensures .0) in
     let r = c .before .before .before .adjust-rows .ensures in
     let f = r .0 ∙ ap (λ (v : List ℕ). filled (matrixOf k l v)) e in (

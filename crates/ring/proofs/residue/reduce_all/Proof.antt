@@ -4,9 +4,9 @@ use native.Mathlib.Omega.{arith}
 use lib.ListN.{length}
 use borrow.Author.Needs.{needs}
 use Rattle.ring.specs.Residue.{prime}
-use Rattle.ring.proofs.Pairs.{Each, each-start, each-more, each-end, map2-mods}
-use Rattle.ring.proofs.residue.rests.Statement.{statement}
-use Rattle.ring.proofs.residue.rests.Tie as tie
+use Rattle.ring.proofs.Pairs.{Each, each-start, each-more, each-end, map2-mapN}
+use Rattle.ring.proofs.residue.reduce_all.Statement.{statement}
+use Rattle.ring.proofs.residue.reduce_all.Tie as tie
 
 abbrev Inv-loop : tie.InvT-loop
 Inv-loop second a₀ i₀ a i = Each (λ (x : ℕ) (y : ℕ). x % prime second) a₀ a₀ i a
@@ -26,10 +26,10 @@ returns : tie.Need-returns Inv-loop μ-loop
 returns c =
     let l = c .before .loop in
     let s = c .before .before .before .args in
-    each-end _ _ _ (l .i) (l .a) (l .inv) (omega arith) refl ∙ map2-mods (prime (s .second)) (s .a .now)
+    each-end _ _ _ (l .i) (l .a) (l .inv) (omega arith) refl ∙ map2-mapN (λ (x : ℕ). x % prime (s .second)) (s .a .now)
 
-pub rests-spec : {M : Type 1} → statement M
-rests-spec =
+pub reduce-all-spec : {M : Type 1} → statement M
+reduce-all-spec =
     tie.close (tie.spec Inv-loop μ-loop loop-holds (λ c. search needs) (λ c. search needs) (λ c κs. search needs)
     (λ c. search needs) (λ c. search needs) (λ c. search needs) (λ c. search needs) loop-again (λ c. search needs)
     returns)
