@@ -20,14 +20,17 @@ use Rattle.sharing.proofs.Built.{length-block, block-map, block-zip, block-resi
 use Rattle.sharing.proofs.Decode.{words-sum}
 use Rattle.sharing.specs.Region.{span, put}
 use Rattle.sharing.proofs.Regions.{length-span}
-use Rattle.signature.specs.Masked.{transformed}
-use Rattle.signature.specs.Matrix.{matrix, rowEntry}
-use Rattle.signature.specs.Recover.{add31, productRow, recoveredRow, recovered, adjusted, recoveredBy, blockZ, adjustedRows}
+use Rattle.signature.specs.MaskedSteps.{transformed}
+use Rattle.signature.specs.Matrix.{matrix}
+use Rattle.signature.specs.MatrixSteps.{rowMade}
+use Rattle.signature.specs.Recover.{add31, productRow, recoveredRow, recovered, adjusted}
+use Rattle.signature.specs.RecoverSteps.{recoveredBy, blockZ, adjustedRows}
+use Rattle.signature.proofs.Entries.{made-entry, matrix-entry-words}
 use Rattle.signature.proofs.Recovered.{recovered-row}
 
 -- row i of them
 abbrev pub adjustedAt : ℕ → List ℕ → List ℕ → List ℕ → List ℕ → List ℤ → ℕ → List ℕ
-adjustedAt l seed Z C t h i = adjusted (recoveredBy l (rowEntry seed i) Z C (block 512 i t)) (blockZ i h)
+adjustedAt l seed Z C t h i = adjusted (recoveredBy l (rowMade l seed i) Z C (block 512 i t)) (blockZ i h)
 
 pub span-residues : (p : ℕ) (xs : List ℕ) (a k : ℕ) → a + k ≤ length xs → Below p xs → Residues p k (span xs a k)
 span-residues p xs a k h b = record { long = length-span xs a k h; low = below-take p k (drop a xs) (below-drop p a xs b) }
@@ -50,7 +53,7 @@ take-put {A} xs ys a n h e =
 
 -- a row more: y is the rounded row, X what is put behind the i rows of w
 pub adjust-turn : (l : ℕ) (seed Z C t : List ℕ) (h : List ℤ) (i : ℕ) (w X y r : List ℕ) → i * 512 + 512 ≤ length w
-    → take (i * 512) w ≡ build i (adjustedAt l seed Z C t h) → r ≡ recoveredBy l (rowEntry seed i) Z C (block 512 i t) → y ≡ roundW r
+    → take (i * 512) w ≡ build i (adjustedAt l seed Z C t h) → r ≡ recoveredBy l (rowMade l seed i) Z C (block 512 i t) → y ≡ roundW r
     → X ≡ zipTo add31 y (residues 31 (blockZ i h)) → length X ≡ 512
     → take ((i + 1) * 512) (put w (i * 512) 512 X) ≡ build (i + 1) (adjustedAt l seed Z C t h)
 unfolding adjusted
@@ -96,14 +99,15 @@ module _ (p : Params) (A z c t : List ℕ) where
   pub adjusted-long : (h : List ℤ) → length (adjusted (recovered p A z c t) h) ≡ p .k * 512
   adjusted-long h = length-adjusted (recovered p A z c t) h ∙ recovered-long
 
-module _ (p : Params) (seed A z c t : List ℕ) (e : matrix p seed ≡ some A) (wz : Words (p .l * 512) z) (wc : Words 512 c) (lt : length t ≡ p .k * 512) where
-  -- the code's row i
-  pub row-block : (i : ℕ) → i < p .k → recoveredBy (p .l) (rowEntry seed i) (transformed (p .l) z) (ntt c) (block 512 i t) ≡ block 512 i (recovered p A z c t)
-  unfolding recovered
-  row-block i o =
-      let g : i * 512 + 512 ≤ p .k * 512 = inside i (p .k) 512 o in
-      recovered-row (p .k) (p .l) seed A z c t e wz wc i o (scaled-words (block 512 i t) (length-block 512 i t (omega (arith, g, lt))))
-      ∙ sym (block-build 512 (p .k) i (recoveredRow (p .l) A z c t) (row-long p A z c t) o)
+-- row i of y, of a row T of the matrix
+pub row-block : (p : Params) (i : ℕ) (T A z c t : List ℕ) → i < p .k → ((m : ℕ) → m < p .l → block 512 m T ≡ ntt (block 512 (i * p .l + m) A))
+    → ((m : ℕ) → m < p .l → Words 512 (block 512 (i * p .l + m) A)) → Words (p .l * 512) z → Words 512 c → length t ≡ p .k * 512
+    → recoveredBy (p .l) T (transformed (p .l) z) (ntt c) (block 512 i t) ≡ block 512 i (recovered p A z c t)
+unfolding recovered
+row-block p i T A z c t o e wa wz wc lt =
+    let g : i * 512 + 512 ≤ p .k * 512 = inside i (p .k) 512 o in
+    recovered-row (p .l) i T A z c t e wa wz wc (scaled-words (block 512 i t) (length-block 512 i t (omega (arith, g, lt))))
+    ∙ sym (block-build 512 (p .k) i (recoveredRow (p .l) A z c t) (row-long p A z c t) o)
 
 pub adjusted-all : (p : Params) (seed A z c t : List ℕ) (h : List ℤ) → matrix p seed ≡ some A → Words (p .l * 512) z → Words 512 c → length t ≡ p .k * 512
     → adjustedRows (p .k) (p .l) seed (transformed (p .l) z) (ntt c) t h ≡ adjusted (recovered p A z c t) h
@@ -111,7 +115,7 @@ unfolding adjustedRows
 adjusted-all p seed A z c t h e wz wc lt =
     let Y : List ℕ = recovered p A z c t in
     let f : (i : ℕ) → i < p .k → adjustedAt (p .l) seed (transformed (p .l) z) (ntt c) t h i ≡ block 512 i (adjusted Y h) =
-    λ (i : ℕ) (o : i < p .k). ap (λ (v : List ℕ). adjusted v (blockZ i h)) (row-block p seed A z c t e wz wc lt i o) ∙ sym (adjust-block Y h i) in
+    λ (i : ℕ) (o : i < p .k). ap (λ (v : List ℕ). adjusted v (blockZ i h)) (row-block p i (rowMade (p .l) seed i) A z c t o (λ (m : ℕ) (n : m < p .l). made-entry (p .k) (p .l) seed A e i m o n) (λ (m : ℕ) (n : m < p .l). matrix-entry-words (p .k) (p .l) seed A e i m o n) wz wc lt) ∙ sym (adjust-block Y h i) in
     build-ext (p .k) (adjustedAt (p .l) seed (transformed (p .l) z) (ntt c) t h) (λ (i : ℕ). block 512 i (adjusted Y h)) f
     ∙ blocks-all 512 (p .k) (adjusted Y h) (adjusted-long p A z c t h)
 

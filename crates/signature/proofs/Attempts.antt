@@ -18,13 +18,12 @@ use Rattle.sharing.specs.Region.{span, Wrote}
 use Rattle.sharing.specs.Encoding.{skip, refreshed}
 use Rattle.sharing.specs.Masks.{masks}
 use Rattle.sharing.specs.declared.masks.MaskGen.{MaskGen}
-use Rattle.sharing.proofs.Totals.{skip-add}
-use Rattle.signature.specs.Attempt.{atR, Begun, LastRow, Committed, Responded, Answered, commitmentOf, hashOf}
+use Rattle.signature.specs.Attempt.{atR, keyIn, Begun, LastRow, Committed, Responded, Answered, commitmentOf, hashOf}
 use Rattle.signature.specs.Bounds.{checkBounds}
 use Rattle.signature.specs.Challenge.{headed, ordered, challenge, chalHash, chalPoly, chalHeld}
 use Rattle.signature.specs.Form.{Fields, write}
 use Rattle.signature.specs.Keygen.{atS, atT, atX}
-use Rattle.signature.specs.Masked.{Noise, maskedNoise, behindProduct}
+use Rattle.signature.specs.Masked.{Noise, maskedNoise}
 use Rattle.signature.specs.Sign.{Public, Attempted, made, over, stuck, answer, Coins, signedFields, finished, challenged, concluded, maskedResponse, refreshedKey, refreshedNoise, refreshedResponse, attempted, noiseAt, maskAt, signFrom}
 use Rattle.signature.specs.declared.challenge.Challenged.{Challenged}
 use Rattle.ring.proofs.Checks.{absurd-bool}
@@ -32,43 +31,30 @@ use Rattle.signature.proofs.Masking.{masked-words}
 
 -- ---- lines 4 to 16 on the work buffer: s₁ behind the commitment, s₂ before the response, where s and r are as they were, s₃ behind it
 
-module _ (p : Params) (N : Noise) (g x : MaskGen) (A c s₀ s₁ s₂ s₃ : List ℕ) (power : p .shares ≡ 2 ^ orderIndex (p .shares))
-    (u : Committed p N g A x s₀ s₁)
-    (hs : span s₂ (atS (p .shares)) (p .l * (p .shares * 512)) ≡ span s₁ (atS (p .shares)) (p .l * (p .shares * 512)))
+module _ (p : Params) (N : Noise) (g x y : MaskGen) (A c s s₁ s₂ s₃ : List ℕ) (power : p .shares ≡ 2 ^ orderIndex (p .shares))
+    (u : Committed p N g A s x s₁) (hs : keyIn p s₂ ≡ keyIn p s₁)
     (hr : span s₂ (atR (p .l) (p .shares)) (p .l * (p .shares * 512)) ≡ span s₁ (atR (p .l) (p .shares)) (p .l * (p .shares * 512)))
-    (v : Responded (p .k) (p .l) (p .shares) c x s₂ s₃) where
-  skip-behind : (n : ℕ) → skip masks (p .shares) n x ≡ skip masks (p .shares) (behindProduct p N + n) g
-  skip-behind n = ap (skip masks (p .shares) n) (u .next) ∙ skip-add masks (p .shares) (behindProduct p N) n g
+    (v : Responded (p .k) (p .l) (p .shares) c x y s₂ s₃) where
+  abbrev refreshedAt : MaskGen → List ℕ → List ℕ
+  refreshedAt h X = refreshed masks (p .shares) h (p .l) X
 
   -- line 12, the key of the next attempt
-  pub key-left : span s₃ (atS (p .shares)) (p .l * (p .shares * 512)) ≡ refreshedKey p N g (span s₀ (atS (p .shares)) (p .l * (p .shares * 512)))
+  pub key-left : keyIn p s₃ ≡ refreshedKey p N g A s .shares
   unfolding refreshedKey
-  key-left =
-      v .key ∙ ap (refreshed masks (p .shares) x (p .l)) (hs ∙ u .key)
-      ∙ ap (λ (h : MaskGen). refreshed masks (p .shares) h (p .l) (span s₀ (atS (p .shares)) (p .l * (p .shares * 512)))) (u .next)
+  key-left = v .key ∙ ap (refreshedAt x) (hs ∙ u .begun .key) ∙ ap (λ (h : MaskGen). refreshedAt h s) (u .next)
 
   -- line 15
-  pub shares-left : span s₃ (atR (p .l) (p .shares)) (p .l * (p .shares * 512))
-      ≡ refreshedResponse p N g (span s₀ (atS (p .shares)) (p .l * (p .shares * 512))) c
+  pub shares-left : span s₃ (atR (p .l) (p .shares)) (p .l * (p .shares * 512)) ≡ refreshedResponse p N g A s c .shares
   unfolding refreshedKey refreshedNoise refreshedResponse
   shares-left =
-      let S = span s₀ (atS (p .shares)) (p .l * (p .shares * 512)) in
-      let R = maskedNoise p N g in
-      let Z : MaskGen → MaskGen → MaskGen → List ℕ → List ℕ = λ (a b h : MaskGen) (X : List ℕ).
-      refreshed masks (p .shares) a (p .l) (maskedResponse (p .shares) (p .l) c (refreshed masks (p .shares) b (p .l) X) (refreshed masks (p .shares) h (p .l) R)) in
-      let y = skip masks (p .shares) (p .l) x in
-      let z = skip masks (p .shares) (p .l + p .l) x in
-      let n : behindProduct p N + (p .l + p .l) ≡ behindProduct p N + p .l + p .l = omega arith in
-      v .shares R (masked-words p N g power) (hr ∙ u .noise)
-      ∙ ap (Z z x y) (hs ∙ u .key)
-      ∙ ap (λ (h : MaskGen). Z z h y S) (u .next)
-      ∙ ap (λ (h : MaskGen). Z z (skip masks (p .shares) (behindProduct p N) g) h S) (skip-behind (p .l))
-      ∙ ap (λ (h : MaskGen). Z h (skip masks (p .shares) (behindProduct p N) g) (skip masks (p .shares) (behindProduct p N + p .l) g) S)
-      (skip-behind (p .l + p .l) ∙ ap (λ (m : ℕ). skip masks (p .shares) m g) n)
+      let R = maskedNoise p N g .shares in
+      let on : MaskGen → MaskGen = λ (h : MaskGen). skip masks (p .shares) (p .l) h in
+      let Z : MaskGen → List ℕ → List ℕ = λ (h : MaskGen) (X : List ℕ).
+      refreshedAt (on (on h)) (maskedResponse (p .shares) (p .l) c (refreshedAt h X) (refreshedAt (on h) R)) in
+      v .shares R (masked-words p N g power) (hr ∙ u .begun .noise) ∙ ap (Z x) (hs ∙ u .begun .key) ∙ ap (λ (h : MaskGen). Z h s) (u .next)
 
   -- line 16
-  pub response-left : span s₃ (atX (p .k) (p .l) (p .shares)) (p .l * 512)
-      ≡ totals (p .l) (p .shares) (refreshedResponse p N g (span s₀ (atS (p .shares)) (p .l * (p .shares * 512))) c)
+  pub response-left : span s₃ (atX (p .k) (p .l) (p .shares)) (p .l * 512) ≡ totals (p .l) (p .shares) (refreshedResponse p N g A s c .shares)
   response-left = v .response ∙ ap (totals (p .l) (p .shares)) shares-left
 
 -- ---- lines 9 to 16 behind the commitment: s₁ before them, s₂ behind the challenge, s₃ behind the response
@@ -81,7 +67,7 @@ filled-no : (o : Option (List ℤ)) → o ≡ none → chalHeld o .ok ≡ false
 unfolding chalHeld
 filled-no o e = ap (λ (x : Option (List ℤ)). chalHeld x .ok) e
 
-module _ (p : Params) (N : Noise) (h g : MaskGen) (A mu s s₁ s₂ hash : List ℕ) (o : Challenged) (u : Committed p N h A g s s₁)
+module _ (p : Params) (N : Noise) (h g : MaskGen) (A mu s s₁ s₂ hash : List ℕ) (o : Challenged) (u : Committed p N h A s g s₁)
     (w : Wrote 0 (atT (p .l) (p .shares)) (p .k * 512) (roundW (span s₁ (atT (p .l) (p .shares)) (p .k * 512))) s₁ s₂)
     (eh : hash ≡ shake256 (headed 104 (p .k) ++ ordered (p .edition) (roundW (span s₁ (atT (p .l) (p .shares)) (p .k * 512))) mu) (p .kappa / 4))
     (eo : o ≡ chalHeld (challenge (p .edition) (p .omega) (shake256 (headed 99 (p .omega) ++ hash) 2176))) where
@@ -99,7 +85,7 @@ module _ (p : Params) (N : Noise) (h g : MaskGen) (A mu s s₁ s₂ hash : List 
   row-there : LastRow p N h A s₂
   row-there i e = w .front (p .shares * 512) (p .shares * 512) (omega arith) (omega arith) ∙ u .row i e
 
-  pub answer-none : o .ok ≡ false → Answered p N h A mu (span s (atS (p .shares)) (p .l * (p .shares * 512))) o hash s₂
+  pub answer-none : o .ok ≡ false → Answered p N h A mu s o hash s₂
   answer-none e =
       let no : (c : List ℤ) → chalPoly p (hashOf p N h A mu) ≡ some c → true ≡ false =
       λ (c : List ℤ) (f : chalPoly p (hashOf p N h A mu) ≡ some c).
@@ -110,18 +96,18 @@ module _ (p : Params) (N : Noise) (h g : MaskGen) (A mu s s₁ s₂ hash : List 
         row = row-there;
         commitment = commitment-there;
         idle = λ f. record {
-          noise = w .front (atR (p .l) (p .shares)) (p .l * (p .shares * 512)) (omega arith) (omega arith) ∙ u .noise;
-          key = w .front (atS (p .shares)) (p .l * (p .shares * 512)) (omega arith) (omega arith) ∙ u .key;
+          noise = w .front (atR (p .l) (p .shares)) (p .l * (p .shares * 512)) (omega arith) (omega arith) ∙ u .begun .noise;
+          key = w .front (atS (p .shares)) (p .l * (p .shares * 512)) (omega arith) (omega arith) ∙ u .begun .key;
         };
         key = λ (c : List ℤ) f. absurd-bool (no c f);
         shares = λ (c : List ℤ) f. absurd-bool (no c f);
         response = λ (c : List ℤ) f. absurd-bool (no c f);
       }
 
-  pub answer-made : (power : p .shares ≡ 2 ^ orderIndex (p .shares)) (r s₃ : List ℕ) → o .ok ≡ true → r ≡ residues q (o .poly)
-      → Responded (p .k) (p .l) (p .shares) r g s₂ s₃
-      → Answered p N h A mu (span s (atS (p .shares)) (p .l * (p .shares * 512))) o hash s₃
-  answer-made power r s₃ ok er v =
+  pub answer-made : (power : p .shares ≡ 2 ^ orderIndex (p .shares)) (r s₃ : List ℕ) (y : MaskGen) → o .ok ≡ true → r ≡ residues q (o .poly)
+      → Responded (p .k) (p .l) (p .shares) r g y s₂ s₃
+      → Answered p N h A mu s o hash s₃
+  answer-made power r s₃ y ok er v =
       let L = p .l * (p .shares * 512) in
       let poly : (c : List ℤ) → chalPoly p (hashOf p N h A mu) ≡ some c → r ≡ residues q c =
       λ (c : List ℤ) (f : chalPoly p (hashOf p N h A mu) ≡ some c).
@@ -135,13 +121,13 @@ module _ (p : Params) (N : Noise) (h g : MaskGen) (A mu s s₁ s₂ hash : List 
         commitment = v .commitment ∙ commitment-there;
         idle = λ (f : chalPoly p (hashOf p N h A mu) ≡ none).
             absurd-bool (sym ok ∙ ap (λ (x : Challenged). x .ok) challenge-there ∙ filled-no (chalPoly p (hashOf p N h A mu)) f);
-        key = λ (c : List ℤ) f. key-left p N h g A r s s₁ s₂ s₃ power u hs hr v;
+        key = λ (c : List ℤ) f. key-left p N h g y A r s s₁ s₂ s₃ power u hs hr v;
         shares = λ (c : List ℤ) f.
-            shares-left p N h g A r s s₁ s₂ s₃ power u hs hr v
-            ∙ ap (refreshedResponse p N h (span s (atS (p .shares)) (p .l * (p .shares * 512)))) (poly c f);
+            shares-left p N h g y A r s s₁ s₂ s₃ power u hs hr v
+            ∙ ap (λ (x : List ℕ). refreshedResponse p N h A s x .shares) (poly c f);
         response = λ (c : List ℤ) f.
-            response-left p N h g A r s s₁ s₂ s₃ power u hs hr v
-            ∙ ap (λ (x : List ℕ). totals (p .l) (p .shares) (refreshedResponse p N h (span s (atS (p .shares)) (p .l * (p .shares * 512))) x)) (poly c f);
+            response-left p N h g y A r s s₁ s₂ s₃ power u hs hr v
+            ∙ ap (λ (x : List ℕ). totals (p .l) (p .shares) (refreshedResponse p N h A s x .shares)) (poly c f);
       }
 
 -- ---- the ends of one attempt
@@ -149,12 +135,12 @@ module _ (p : Params) (N : Noise) (h g : MaskGen) (A mu s s₁ s₂ hash : List 
 -- line 19, with the challenge polynomial c
 abbrev pub fieldsFor : Params → Public → Noise → MaskGen → List ℕ → List ℤ → Fields
 fieldsFor p P N g s c =
-    signedFields p P (roundW (commitmentOf p N g (P .matrix))) (hashOf p N g (P .matrix) (P .mu)) (totals (p .l) (p .shares) (refreshedResponse p N g s (residues q c))) c
+    signedFields p P (roundW (commitmentOf p N g (P .matrix))) (hashOf p N g (P .matrix) (P .mu)) (totals (p .l) (p .shares) (refreshedResponse p N g (P .matrix) s (residues q c) .shares)) c
 
 module _ (p : Params) (P : Public) (N : Noise) (g : MaskGen) (s : List ℕ) where
   abbrev at-challenge : Option (List ℤ) → Attempted
   at-challenge o =
-      challenged p P (roundW (commitmentOf p N g (P .matrix))) (hashOf p N g (P .matrix) (P .mu)) (λ (c : List ℕ). totals (p .l) (p .shares) (refreshedResponse p N g s c)) o
+      challenged p P (roundW (commitmentOf p N g (P .matrix))) (hashOf p N g (P .matrix) (P .mu)) (λ (c : List ℕ). totals (p .l) (p .shares) (refreshedResponse p N g (P .matrix) s c .shares)) o
 
   -- check 11
   pub attempt-stuck : chalPoly p (hashOf p N g (P .matrix) (P .mu)) ≡ none → attempted p P N g s ≡ stuck
@@ -210,17 +196,17 @@ module _ (p : Params) (P : Public) (N : Noise) (g : MaskGen) (s hash ys : List �
         ≡ finished p (signedFields p P (span ys (atT (p .l) (p .shares)) (p .k * 512)) hash (span ys (atX (p .k) (p .l) (p .shares)) (p .l * 512)) (o .poly))
     left-on =
         attempt-on p P N g s (o .poly) chal-is
-        ∙ ap (λ (W : List ℕ). finished p (signedFields p P W (hashOf p N g (P .matrix) (P .mu)) (totals (p .l) (p .shares) (refreshedResponse p N g s (residues q (o .poly)))) (o .poly)))
+        ∙ ap (λ (W : List ℕ). finished p (signedFields p P W (hashOf p N g (P .matrix) (P .mu)) (totals (p .l) (p .shares) (refreshedResponse p N g (P .matrix) s (residues q (o .poly)) .shares)) (o .poly)))
         (sym (u .commitment))
-        ∙ ap (λ (H : List ℕ). finished p (signedFields p P (span ys (atT (p .l) (p .shares)) (p .k * 512)) H (totals (p .l) (p .shares) (refreshedResponse p N g s (residues q (o .poly)))) (o .poly)))
+        ∙ ap (λ (H : List ℕ). finished p (signedFields p P (span ys (atT (p .l) (p .shares)) (p .k * 512)) H (totals (p .l) (p .shares) (refreshedResponse p N g (P .matrix) s (residues q (o .poly)) .shares)) (o .poly)))
         (sym (u .hash-is))
         ∙ ap (λ (Z : List ℕ). finished p (signedFields p P (span ys (atT (p .l) (p .shares)) (p .k * 512)) hash Z (o .poly)))
         (sym (u .response (o .poly) chal-is))
 
-    pub left-shares : span ys (atR (p .l) (p .shares)) (p .l * (p .shares * 512)) ≡ refreshedResponse p N g s (residues q (o .poly))
+    pub left-shares : span ys (atR (p .l) (p .shares)) (p .l * (p .shares * 512)) ≡ refreshedResponse p N g (P .matrix) s (residues q (o .poly)) .shares
     left-shares = u .shares (o .poly) chal-is
 
-    pub left-key : span ys (atS (p .shares)) (p .l * (p .shares * 512)) ≡ refreshedKey p N g s
+    pub left-key : keyIn p ys ≡ refreshedKey p N g (P .matrix) s .shares
     left-key = u .key (o .poly) chal-is
 
 -- ---- the attempts in order
@@ -235,7 +221,7 @@ module _ (p : Params) (P : Public) (T : Coins) (n m a : ℕ) (s : List ℕ) (lef
   unfolding signFrom
   sign-stuck e = rw (left, signFrom, e, add-one)
 
-  pub sign-next : (t : List ℕ) → t ≡ refreshedKey p (noiseAt p T a) (maskAt T a) s → attempted p P (noiseAt p T a) (maskAt T a) s ≡ over
+  pub sign-next : (t : List ℕ) → t ≡ refreshedKey p (noiseAt p T a) (maskAt T a) (P .matrix) s .shares → attempted p P (noiseAt p T a) (maskAt T a) s ≡ over
       → signFrom p P T n a s ≡ signFrom p P T m (a + 1) t
   unfolding signFrom
   sign-next t h e = rw (left, signFrom, e, add-one, h)

@@ -21,7 +21,7 @@ use Rattle.sharing.specs.declared.masks.MaskGen.{MaskGen}
 use Rattle.sharing.proofs.Lists.{inside}
 use Rattle.sharing.proofs.NoisePlaces.{noise-bytes}
 use Rattle.sharing.proofs.Regions.{length-span}
-use Rattle.signature.specs.Attempt.{coinsOf, Within, Begun, Committed}
+use Rattle.signature.specs.Attempt.{coinsOf, Within, Committed}
 use Rattle.signature.specs.Checks.{both}
 use Rattle.signature.specs.Keygen.{Small}
 use Rattle.signature.specs.Masked.{Noise, seeded, explicit}
@@ -83,14 +83,10 @@ module _ (p : Params) (seeds words masks : List ℕ) (a : ℕ) where
   unfolding maskAt
   mask-at x = refl
 
-pub begun-at : (p : Params) {N M : Noise} {g h : MaskGen} {s ys : List ℕ} → N ≡ M → g ≡ h → Begun p N g s ys → Begun p M h s ys
-begun-at p {N} {M} {g} {h} {s} {ys} e f c =
-    subst (λ (k : MaskGen). Begun p M k s ys) f (subst (λ (K : Noise). Begun p K g s ys) e c)
-
-pub committed-at : (p : Params) {N M : Noise} {g h : MaskGen} (A : List ℕ) {y : MaskGen} {xs ys : List ℕ} → N ≡ M → g ≡ h
-    → Committed p N g A y xs ys → Committed p M h A y xs ys
-committed-at p {N} {M} {g} {h} A {y} {xs} {ys} e f c =
-    subst (λ (k : MaskGen). Committed p M k A y xs ys) f (subst (λ (K : Noise). Committed p K g A y xs ys) e c)
+pub committed-at : (p : Params) {N M : Noise} {g h : MaskGen} (A : List ℕ) {y : MaskGen} {s ys : List ℕ} → N ≡ M → g ≡ h
+    → Committed p N g A s y ys → Committed p M h A s y ys
+committed-at p {N} {M} {g} {h} A {y} {s} {ys} e f c =
+    subst (λ (k : MaskGen). Committed p M k A s y ys) f (subst (λ (K : Noise). Committed p K g A s y ys) e c)
 
 -- check 7: the coins hold each of the n attempts allowed
 module _ (p : Params) (n a : ℕ) (l : a < n) (most : n ≤ 16) where

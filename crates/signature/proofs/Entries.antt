@@ -9,14 +9,21 @@ use native.Mathlib.Nat.{not-suc-le-zero}
 use native.Mathlib.Decide.{decLt}
 use native.Mathlib.Numerals.{add-one}
 use native.Mathlib.Omega.{arith}
+use lib.ListN.{length}
 use Rattle.ring.specs.Words.{Words}
+use Rattle.ring.specs.Transform.{ntt, intt}
 use Rattle.ring.specs.Uniform.{heldOf}
 use Rattle.ring.proofs.Draws.{sampleQ-words}
+use Rattle.ring.proofs.Theorems.{ntt-words, intt-ntt}
 use Rattle.ring.proofs.Filled.{none-some, some-filled, none-filled, not-filled, filled-some, held-is}
 use Rattle.sharing.specs.Blocks.{block, build}
-use Rattle.sharing.proofs.Lists.{words-build, block-build}
-use Rattle.sharing.proofs.Built.{block-of, build-none, build-next}
-use Rattle.signature.specs.Matrix.{joinedTo, buildAll, matrixAt, matrixOf, matrixHeader, filled, rowEntry}
+use Rattle.sharing.specs.Region.{span}
+use Rattle.sharing.proofs.Lists.{words-build, block-build, build-ext, build-nest, blocks-all, length-build}
+use Rattle.sharing.proofs.Regions.{block-span}
+use Rattle.sharing.proofs.Built.{block-is, block-of, build-none, build-next}
+use Rattle.signature.specs.Matrix.{joinedTo, buildAll, matrixAt, matrixOf, matrixHeader, filled}
+use Rattle.signature.specs.MatrixSteps.{rowEntry, rowMade}
+use Rattle.signature.specs.MaskedSteps.{untransformed}
 
 -- ---- two of them
 
@@ -98,6 +105,10 @@ all-some (suc n) f A e =
 
 -- ---- the matrix
 
+pub made-long : (l : ℕ) (seed : List ℕ) (i : ℕ) → length (rowMade l seed i) ≡ l * 512
+unfolding rowMade
+made-long l seed i = length-build 512 l (λ (m : ℕ). ntt (rowEntry seed i m)) (λ (m : ℕ) (o : m < l). ntt-words (rowEntry seed i m) .long)
+
 module _ (k l : ℕ) (seed A : List ℕ) (e : matrixOf k l seed ≡ some A) where
   rows : All k (λ (i : ℕ). buildAll l (matrixAt seed i)) A
   unfolding matrixOf
@@ -131,3 +142,30 @@ module _ (k l : ℕ) (seed A : List ℕ) (e : matrixOf k l seed ≡ some A) wher
 
   pub matrix-at : (i m : ℕ) → i < k → m < l → matrixAt seed i m ≡ some (block 512 (i * l + m) A)
   matrix-at i m hi hm = row i hi .here m hm ∙ ap some (entry-is i m hi hm)
+
+  pub matrix-entry-words : (i m : ℕ) → i < k → m < l → Words 512 (block 512 (i * l + m) A)
+  matrix-entry-words i m hi hm = rw (← entry-is i m hi hm) (entry-words i m hi hm)
+
+  -- the rows as they are made
+  pub made-entry : (i m : ℕ) → i < k → m < l → block 512 m (rowMade l seed i) ≡ ntt (block 512 (i * l + m) A)
+  unfolding rowMade
+  made-entry i m hi hm =
+      block-build 512 l m (λ (j : ℕ). ntt (rowEntry seed i j)) (λ (j : ℕ) (o : j < l). ntt-words (rowEntry seed i j) .long) hm ∙ ap ntt (entry-is i m hi hm)
+
+  -- M holds all of them: turned back it is the matrix
+  pub made-all : (M : List ℕ) → span M 0 (k * (l * 512)) ≡ build k (rowMade l seed) → untransformed (k * l) M ≡ A
+  unfolding untransformed
+  made-all M e =
+      let F : ℕ → List ℕ = λ (j : ℕ). intt (block 512 j M) in
+      let G : ℕ → List ℕ = λ (j : ℕ). block 512 j A in
+      let at : (i m : ℕ) → i < k → m < l → F (i * l + m) ≡ G (i * l + m) =
+      λ (i m : ℕ) (hi : i < k) (hm : m < l).
+      let z : i * (l * 512) ≡ 0 + i * (l * 512) = omega arith in
+      let r : block (l * 512) i M ≡ rowMade l seed i =
+      block-is (l * 512) i M ∙ ap (λ (n : ℕ). span M n (l * 512)) z ∙ sym (block-span (l * 512) k i M 0 hi) ∙ ap (block (l * 512) i) e
+      ∙ block-build (l * 512) k i (rowMade l seed) (λ (j : ℕ) (o : j < k). made-long l seed j) hi in
+      ap intt (sym (block-of 512 l i m M hm) ∙ ap (block 512 m) r ∙ made-entry i m hi hm) ∙ intt-ntt (G (i * l + m)) (matrix-entry-words i m hi hm) in
+      build-nest k l F
+      ∙ build-ext k (λ (i : ℕ). build l (λ (m : ℕ). F (i * l + m))) (λ (i : ℕ). build l (λ (m : ℕ). G (i * l + m)))
+      (λ (i : ℕ) (hi : i < k). build-ext l (λ (m : ℕ). F (i * l + m)) (λ (m : ℕ). G (i * l + m)) (λ (m : ℕ) (hm : m < l). at i m hi hm))
+      ∙ sym (build-nest k l G) ∙ blocks-all 512 (k * l) A (matrix-words .long)

@@ -1,7 +1,6 @@
 -- The hint h = w - y, row by row, and as the definition has it.
 use mathlib.Core.Path.{_≡_, sym, ap, subst, _∙_}
 use mathlib.Core.List.{List, _++_}
-use mathlib.Core.Option.{some}
 use Prim.Native.Nat.{ℕ, _+_, _-_, _*_, _≤_, _<_}
 use native.Mathlib.Numerals.{add-one}
 use native.Mathlib.Omega.{arith}
@@ -18,11 +17,12 @@ use Rattle.sharing.specs.Region.{span}
 use Rattle.sharing.proofs.Lists.{build-ext, blocks-all}
 use Rattle.sharing.proofs.Built.{block-is, build-next}
 use Rattle.sharing.proofs.Regions.{block-span}
-use Rattle.signature.specs.Masked.{transformed}
-use Rattle.signature.specs.Matrix.{matrix, rowEntry}
-use Rattle.signature.specs.Recover.{sub31, centredAll, hintOf, recovered, recoveredBy, hintRow, hintRows}
+use Rattle.signature.specs.MaskedSteps.{matrixIn, MatrixHeld, transformed}
+use Rattle.signature.specs.Recover.{sub31, centredAll, hintOf, recovered}
+use Rattle.signature.specs.RecoverSteps.{recoveredBy, hintRow, hintRows}
 use Rattle.signature.proofs.Adjusted.{take-put, zip-block, round-block, row-block}
 use Rattle.signature.proofs.Centred.{centred-append}
+use Rattle.signature.proofs.Product.{entry-words, entry-held}
 
 -- polynomial i of w, below p as all of w
 pub part-below : (p : ℕ) (xs : List ℕ) (a k i : ℕ) → i < k → Below p (span xs a (k * 512)) → Below p (span xs (a + i * 512) 512)
@@ -38,12 +38,12 @@ module _ (i : ℕ) (h X : List ℤ) (b : i * 512 + 512 ≤ length h) (n : length
   hint-long = same-len-mid (i * 512) (i * 512 + 512 - i * 512) h X (n ∙ sym (mid-len (i * 512) (i * 512 + 512) h b ∙ all))
 
   -- a row more: v is row i of w, r row i of y
-  pub hint-turn : (l : ℕ) (seed Z C t w v r : List ℕ) → take (i * 512) h ≡ centredAll 31 (build i (hintRow l seed Z C t w))
-      → X ≡ centredAll 31 (zipTo sub31 v (roundW r)) → v ≡ block 512 i w → r ≡ recoveredBy l (rowEntry seed i) Z C (block 512 i t)
-      → take ((i + 1) * 512) (putMid (i * 512) (i * 512 + 512 - i * 512) h X) ≡ centredAll 31 (build (i + 1) (hintRow l seed Z C t w))
+  pub hint-turn : (l : ℕ) (M Z C t w v r : List ℕ) → take (i * 512) h ≡ centredAll 31 (build i (hintRow l M Z C t w))
+      → X ≡ centredAll 31 (zipTo sub31 v (roundW r)) → v ≡ block 512 i w → r ≡ recoveredBy l (block (l * 512) i M) Z C (block 512 i t)
+      → take ((i + 1) * 512) (putMid (i * 512) (i * 512 + 512 - i * 512) h X) ≡ centredAll 31 (build (i + 1) (hintRow l M Z C t w))
   unfolding hintRow
-  hint-turn l seed Z C t w v r e x f g =
-      let F : ℕ → List ℕ = hintRow l seed Z C t w in
+  hint-turn l M Z C t w v r e x f g =
+      let F : ℕ → List ℕ = hintRow l M Z C t w in
       let o : (i + 1) * 512 ≡ i * 512 + 512 = omega arith in
       let y : X ≡ centredAll 31 (F i) =
       x ∙ ap (λ (u : List ℕ). centredAll 31 (zipTo sub31 u (roundW r))) f ∙ ap (λ (u : List ℕ). centredAll 31 (zipTo sub31 (block 512 i w) (roundW u))) g in
@@ -56,20 +56,22 @@ module _ (i : ℕ) (h X : List ℤ) (b : i * 512 + 512 ≤ length h) (n : length
       ∙ ap (centredAll 31) (sym (ap (λ (m : ℕ). build m F) (add-one i) ∙ build-next i F))
 
 -- all rows are the definition's
-pub hint-all : (p : Params) (seed A z c t w : List ℕ) → matrix p seed ≡ some A → Words (p .l * 512) z → Words 512 c → length t ≡ p .k * 512
-    → length w ≡ p .k * 512 → hintRows (p .k) (p .l) seed (transformed (p .l) z) (ntt c) t w ≡ hintOf w (recovered p A z c t)
+pub hint-all : (p : Params) (M z c t w : List ℕ) → MatrixHeld p M → Words (p .l * 512) z → Words 512 c → length t ≡ p .k * 512
+    → length w ≡ p .k * 512 → hintRows (p .k) (p .l) M (transformed (p .l) z) (ntt c) t w ≡ hintOf w (recovered p (matrixIn p M) z c t)
 unfolding hintRows hintRow hintOf
-hint-all p seed A z c t w e wz wc lt lw =
-    let Y : List ℕ = recovered p A z c t in
-    let F : ℕ → List ℕ = hintRow (p .l) seed (transformed (p .l) z) (ntt c) t w in
+hint-all p M z c t w h wz wc lt lw =
+    let Y : List ℕ = recovered p (matrixIn p M) z c t in
+    let F : ℕ → List ℕ = hintRow (p .l) M (transformed (p .l) z) (ntt c) t w in
     let D : List ℕ = zipTo sub31 w (roundW Y) in
     let f : (i : ℕ) → i < p .k → F i ≡ block 512 i D =
     λ (i : ℕ) (o : i < p .k).
-    ap (λ (v : List ℕ). zipTo sub31 (block 512 i w) (roundW v)) (row-block p seed A z c t e wz wc lt i o)
+    ap (λ (v : List ℕ). zipTo sub31 (block 512 i w) (roundW v))
+    (row-block p i (block (p .l * 512) i M) (matrixIn p M) z c t o (λ (m : ℕ) (n : m < p .l). entry-held (p .k) (p .l) M (h .0) (h .1) i m o n)
+    (λ (m : ℕ) (n : m < p .l). entry-words (p .k) (p .l) M (h .0) (h .1) i m o n) wz wc lt)
     ∙ ap (zipTo sub31 (block 512 i w)) (sym (round-block Y i))
     ∙ sym (zip-block sub31 w (roundW Y) i) in
     ap (centredAll 31) (build-ext (p .k) F (λ (i : ℕ). block 512 i D) f ∙ blocks-all 512 (p .k) D (length-zip sub31 w (roundW Y) ∙ lw))
 
 -- the same of equal parts
-pub hint-parts : {v v′ s s′ x x′ t t′ w w′ : List ℕ} (k l : ℕ) → v ≡ v′ → s ≡ s′ → x ≡ x′ → t ≡ t′ → w ≡ w′ → hintRows k l v s x t w ≡ hintRows k l v′ s′ x′ t′ w′
-hint-parts k l a b c d e = cc (a, b, c, d, e)
+pub hint-parts : {s s′ x x′ t t′ w w′ : List ℕ} (k l : ℕ) (M : List ℕ) → s ≡ s′ → x ≡ x′ → t ≡ t′ → w ≡ w′ → hintRows k l M s x t w ≡ hintRows k l M s′ x′ t′ w′
+hint-parts k l M b c d e = cc (b, c, d, e)

@@ -10,10 +10,9 @@ use Rattle.hash.specs.Params.{orderIndex}
 use Rattle.hash.specs.declared.params.Params.{Params}
 use Rattle.ring.specs.Words.{q, Below}
 use Rattle.ring.specs.Round.{roundT}
-use Rattle.ring.specs.Uniform.{heldOf}
 use Rattle.sharing.specs.Blocks.{block, totals}
 use Rattle.sharing.specs.Region.{span, Wrote}
-use Rattle.sharing.specs.Encoding.{skip, addNoise, zeroVector}
+use Rattle.sharing.specs.Encoding.{addNoise}
 use Rattle.sharing.specs.Masks.{masks}
 use Rattle.sharing.specs.Noise.{seedNoise}
 use Rattle.sharing.specs.declared.masks.MaskGen.{MaskGen}
@@ -22,9 +21,9 @@ use Rattle.signature.specs.Checks.{both}
 use Rattle.signature.specs.Keygen.{atS, atT, atX, Rounded, Generated}
 use Rattle.signature.specs.Keys.{keyShares, keyVector, compressed}
 use Rattle.signature.specs.Compress.{compressedOf}
-use Rattle.signature.specs.Masked.{seeded, maskedNoise, maskedImage, transformed, rowsOf, SummedAll}
+use Rattle.signature.specs.Masked.{Noise, seeded, maskedNoise, maskedImage}
+use Rattle.signature.specs.MaskedSteps.{matrixIn, MatrixHeld, transformed, rowsOf, SummedAll}
 use Rattle.signature.specs.Matrix.{matrix, matrixOf, filled}
-use Rattle.ring.proofs.Filled.{filled-some}
 use Rattle.signature.proofs.Masking.{image-is}
 use Rattle.signature.proofs.Product.{transformed-each}
 
@@ -38,7 +37,7 @@ rounded-made p to W s₀ s₁ s₂ h u v =
       vector = wrote-over (u .sums) (wrote-wide (omega arith) (wrote-value (ap roundT (u .sums .new)) v));
     }
 
--- ---- all of it: s₁ is the buffer behind `secret`, s₂ behind `public_vector`, s₃ behind `compress_vector`
+-- ---- all of it: s₁ is the buffer behind `noise_seeds`, s₂ behind `public_vector`, s₃ behind `compress_vector`
 
 both-right : (a b : Bool) → a ≡ true → both a b ≡ b
 both-right a b e = ap (λ (c : Bool). both c b) e
@@ -53,76 +52,70 @@ Said p seed coins shares c s g =
     × ((A X : List ℕ) → matrix p seed ≡ some A → compressed p shares (keyShares p coins g) ≡ some X
     → Generated p coins g A X s)
 
--- s in the coefficient domain
-abbrev pub secretOf : Params → List ℕ → MaskGen → List ℕ
-secretOf p coins g =
-    addNoise masks (p .shares) (skip masks (p .shares) (p .l) g) (p .l) (p .rep) (seedNoise (p .shares) (p .rep) (p .ut) (p .kappa / 8) coins)
-    (zeroVector masks (p .shares) g (p .l))
+-- the noise of key generation, and its seeds behind those of s
+abbrev noiseOf : Params → List ℕ → Noise
+noiseOf p coins = seeded p (p .ut) coins
 
--- the noise seeds behind those of s
 abbrev pub restOf : Params → List ℕ → List ℕ
 restOf p coins = drop (p .l * p .rep * p .shares * (p .kappa / 8)) coins
 
--- the shares of all rows of t, of the rest of the noise seeds, the list at s and the generator x behind it
+-- the shares of all rows of t, of the rest of the noise seeds, the matrix M, the list at s and the generator x behind it
 abbrev pub imageOf : Params → List ℕ → MaskGen → List ℕ → List ℕ → List ℕ
-imageOf p rest x A S =
-    addNoise masks (p .shares) x (p .k) (p .rep) (seedNoise (p .shares) (p .rep) (p .ut) (p .kappa / 8) rest) (rowsOf (p .shares) (p .k) (p .l) A S)
+imageOf p rest x M S =
+    addNoise masks (p .shares) x (p .k) (p .rep) (seedNoise (p .shares) (p .rep) (p .ut) (p .kappa / 8) rest) (rowsOf (p .shares) (p .k) (p .l) M S)
 
 module _ (p : Params) (power : p .shares ≡ 2 ^ orderIndex (p .shares)) (coins shares : List ℕ) (g : MaskGen) where
-  shares-is : transformed (p .l * p .shares) (secretOf p coins g) ≡ keyShares p coins g
-  unfolding keyShares maskedNoise seeded
-  shares-is = transformed-each (p .l) (p .shares) (secretOf p coins g)
+  shares-is : transformed (p .l * p .shares) (maskedNoise p (noiseOf p coins) g .shares) ≡ keyShares p coins g
+  unfolding keyShares
+  shares-is = transformed-each (p .l) (p .shares) (maskedNoise p (noiseOf p coins) g .shares)
 
-  rows-are : (seed A : List ℕ) (x : MaskGen) → matrix p seed ≡ some A → x ≡ skip masks (p .shares) (p .l + p .l * p .rep) g
-      → imageOf p (restOf p coins) x A (transformed (p .l * p .shares) (secretOf p coins g)) ≡ maskedImage p (seeded p (p .ut) coins) g A
-  unfolding maskedNoise seeded
-  rows-are seed A x e f = image-is p (seeded p (p .ut) coins) g x power f seed A e
+  rows-are : (M : List ℕ) (x : MaskGen) → MatrixHeld p M → x ≡ maskedNoise p (noiseOf p coins) g .next
+      → imageOf p (restOf p coins) x M (transformed (p .l * p .shares) (maskedNoise p (noiseOf p coins) g .shares))
+      ≡ maskedImage p (noiseOf p coins) g (matrixIn p M) .shares
+  unfolding seeded
+  rows-are M x h f = image-is p (noiseOf p coins) g x power f M h
 
-  vector-is : (A W : List ℕ) → W ≡ maskedImage p (seeded p (p .ut) coins) g A → roundT (totals (p .k) (p .shares) W) ≡ keyVector p coins g A
+  vector-is : (A W : List ℕ) → W ≡ maskedImage p (noiseOf p coins) g A .shares → roundT (totals (p .k) (p .shares) W) ≡ keyVector p coins g A
   unfolding keyVector
   vector-is A W e = ap (λ (X : List ℕ). roundT (totals (p .k) (p .shares) X)) e
 
-  module _ (seed rest s₀ s₁ s₂ s₃ : List ℕ) (x : MaskGen) (b : Bool) (hr : rest ≡ restOf p coins)
-      (u : Wrote (p .shares * 512) (atS (p .shares)) (p .l * (p .shares * 512)) (transformed (p .l * p .shares) (secretOf p coins g)) s₀ s₁)
-      (hx : x ≡ skip masks (p .shares) (p .l + p .l * p .rep) g)
-      (hb : b ≡ filled (matrixOf (p .k) (p .l) seed))
-      (v : (A : List ℕ) → matrixOf (p .k) (p .l) seed ≡ some A
-      → Rounded p (atT (p .l) (p .shares)) (imageOf p rest x A (span s₁ (atS (p .shares)) (p .l * (p .shares * 512)))) s₁ s₂) where
-    module _ (c : Bool) (yes : b ≡ true)
-        (hc : c ≡ filled (compressedOf (p .edition) (p .kappa / 8) shares (p .l) (p .shares) (span s₂ (atS (p .shares)) (p .l * (p .shares * 512)))))
-        (w : (X : List ℕ) → compressedOf (p .edition) (p .kappa / 8) shares (p .l) (p .shares) (span s₂ (atS (p .shares)) (p .l * (p .shares * 512))) ≡ some X
-        → Wrote 0 (atX (p .k) (p .l) (p .shares)) (p .l * 512) X s₂ s₃) where
-      kept : span s₂ (atS (p .shares)) (p .l * (p .shares * 512)) ≡ keyShares p coins g
-      kept =
-          let m = matrixOf (p .k) (p .l) seed in
-          v (heldOf m .poly) (filled-some m (sym hb ∙ yes)) .vector .front (atS (p .shares)) (p .l * (p .shares * 512)) (omega arith) (omega arith)
-          ∙ u .new ∙ shares-is
+  module _ (seed M rest s₀ s₁ s₂ s₃ : List ℕ) (x : MaskGen) (hr : rest ≡ restOf p coins)
+      (u : Wrote (p .shares * 512) (atS (p .shares)) (p .l * (p .shares * 512)) (transformed (p .l * p .shares) (maskedNoise p (noiseOf p coins) g .shares)) s₀ s₁)
+      (hx : x ≡ maskedNoise p (noiseOf p coins) g .next) (held : MatrixHeld p M) (yes : filled (matrixOf (p .k) (p .l) seed) ≡ true)
+      (is : (A : List ℕ) → matrixOf (p .k) (p .l) seed ≡ some A → matrixIn p M ≡ A)
+      (v : Rounded p (atT (p .l) (p .shares)) (imageOf p rest x M (span s₁ (atS (p .shares)) (p .l * (p .shares * 512)))) s₁ s₂)
+      (c : Bool)
+      (hc : c ≡ filled (compressedOf (p .edition) (p .kappa / 8) shares (p .l) (p .shares) (span s₂ (atS (p .shares)) (p .l * (p .shares * 512)))))
+      (w : (X : List ℕ) → compressedOf (p .edition) (p .kappa / 8) shares (p .l) (p .shares) (span s₂ (atS (p .shares)) (p .l * (p .shares * 512))) ≡ some X
+      → Wrote 0 (atX (p .k) (p .l) (p .shares)) (p .l * 512) X s₂ s₃) where
+    shares-there : span s₂ (atS (p .shares)) (p .l * (p .shares * 512)) ≡ keyShares p coins g
+    shares-there = v .vector .front (atS (p .shares)) (p .l * (p .shares * 512)) (omega arith) (omega arith) ∙ u .new ∙ shares-is
 
-      full : compressedOf (p .edition) (p .kappa / 8) shares (p .l) (p .shares) (span s₂ (atS (p .shares)) (p .l * (p .shares * 512)))
-          ≡ compressed p shares (keyShares p coins g)
-      full = ap (compressedOf (p .edition) (p .kappa / 8) shares (p .l) (p .shares)) kept
+    full : compressedOf (p .edition) (p .kappa / 8) shares (p .l) (p .shares) (span s₂ (atS (p .shares)) (p .l * (p .shares * 512)))
+        ≡ compressed p shares (keyShares p coins g)
+    full = ap (compressedOf (p .edition) (p .kappa / 8) shares (p .l) (p .shares)) shares-there
 
-      key-filled : c ≡ both (filled (matrix p seed)) (filled (compressed p shares (keyShares p coins g)))
-      key-filled =
-          hc ∙ ap filled full ∙ sym (both-right (filled (matrix p seed)) (filled (compressed p shares (keyShares p coins g))) (sym hb ∙ yes))
+    key-filled : c ≡ both (filled (matrix p seed)) (filled (compressed p shares (keyShares p coins g)))
+    key-filled =
+        hc ∙ ap filled full ∙ sym (both-right (filled (matrix p seed)) (filled (compressed p shares (keyShares p coins g))) yes)
 
-      key-made : (A X : List ℕ) → matrix p seed ≡ some A → compressed p shares (keyShares p coins g) ≡ some X → Generated p coins g A X s₃
-      key-made A X hA hX =
-          let z = w X (full ∙ hX) in
-          let r = v A hA in
-          let W : imageOf p rest x A (span s₁ (atS (p .shares)) (p .l * (p .shares * 512))) ≡ maskedImage p (seeded p (p .ut) coins) g A =
-          ap (imageOf p rest x A) (u .new) ∙ ap (λ (t : List ℕ). imageOf p t x A (transformed (p .l * p .shares) (secretOf p coins g))) hr
-          ∙ rows-are seed A x hA hx in
-          record {
-            shares = z .front (atS (p .shares)) (p .l * (p .shares * 512)) (omega arith) (omega arith) ∙ kept;
-            row = λ (i : ℕ) (e : p .k ≡ suc i).
-                z .front (p .shares * 512) (p .shares * 512) (omega arith) (omega arith) ∙ r .row i e ∙ ap (block (p .shares * 512) i) W;
-            vector = z .front (atT (p .l) (p .shares)) (p .k * 512) (omega arith) (omega arith) ∙ r .vector .new ∙ vector-is A _ W;
-            full = z .new;
-          }
+    key-made : (A X : List ℕ) → matrix p seed ≡ some A → compressed p shares (keyShares p coins g) ≡ some X → Generated p coins g A X s₃
+    key-made A X hA hX =
+        let z = w X (full ∙ hX) in
+        let W : imageOf p rest x M (span s₁ (atS (p .shares)) (p .l * (p .shares * 512))) ≡ maskedImage p (noiseOf p coins) g A .shares =
+        ap (imageOf p rest x M) (u .new)
+        ∙ ap (λ (t : List ℕ). imageOf p t x M (transformed (p .l * p .shares) (maskedNoise p (noiseOf p coins) g .shares))) hr
+        ∙ rows-are M x held hx ∙ ap (λ (B : List ℕ). maskedImage p (noiseOf p coins) g B .shares) (is A hA) in
+        record {
+          shares = z .front (atS (p .shares)) (p .l * (p .shares * 512)) (omega arith) (omega arith) ∙ shares-there;
+          row = λ (i : ℕ) (e : p .k ≡ suc i).
+              z .front (p .shares * 512) (p .shares * 512) (omega arith) (omega arith) ∙ v .row i e ∙ ap (block (p .shares * 512) i) W;
+          vector = z .front (atT (p .l) (p .shares)) (p .k * 512) (omega arith) (omega arith) ∙ v .vector .new ∙ vector-is A _ W;
+          full = z .new;
+        }
 
-      pub made-parts : (g′ : MaskGen) → g ≡ g′ → Said p seed coins shares c s₃ g′
-      made-parts g′ e = subst (Said p seed coins shares c s₃) e (key-filled, key-made)
+    pub made-parts : (g′ : MaskGen) → g ≡ g′ → Said p seed coins shares c s₃ g′
+    made-parts g′ e = subst (Said p seed coins shares c s₃) e (key-filled, key-made)
 
 -- what is said of the parts of the seeds, said of the seeds
 pub three-parts : {a a′ b b′ c c′ : List ℕ} (P : List ℕ → List ℕ → List ℕ → Type 0) → a ≡ a′ → b ≡ b′ → c ≡ c′ → P a b c → P a′ b′ c′

@@ -3,7 +3,7 @@ use mathlib.Core.Path.{_≡_, refl, sym, ap, subst, _∙_}
 use mathlib.Core.Bool.{Bool, true, false}
 use mathlib.Core.List.{List, []}
 use mathlib.Core.Option.{Option, some, none}
-use Prim.Native.Nat.{ℕ, zero, suc, _+_, _-_, _*_, _≤_, _<_}
+use Prim.Native.Nat.{ℕ, zero, suc, _+_, _-_, _*_, _/_, _≤_, _<_}
 use native.Mathlib.Nat.{le-refl}
 use native.Mathlib.Omega.{arith}
 use borrow.Author.Tests.{ne-eqb, le-leb, lt-leb}
@@ -71,6 +71,11 @@ module _ (p : Params) (h : Listed p) (key words : List ℕ) where
   public-good true s g = subst (Below 125) (sym (front-vector (public-in true s))) (all-below 125 (vkVector p key) g)
   public-good false s g = all-below 125 (vkVector p key) g
 
+-- the matrix seed is the front of the public key
+pub seed-front : (p : Params) (vk : List ℕ) → take (p .kappa / 8 - 0) vk ≡ vkSeed p vk
+unfolding vkSeed
+seed-front p vk = let e : p .kappa / 8 - 0 ≡ p .kappa / 8 = omega arith in ap (λ (n : ℕ). take n vk) e
+
 -- ---- the attempts end with 0, 10, 11 or 12
 
 -- from 1 to 8: the work buffer is then as it was
@@ -86,8 +91,8 @@ from-late : (p : Params) (P : Public) (T : Coins) (n a : ℕ) (s : List ℕ) →
 unfolding signFrom
 from-late p P T zero a s = refl
 from-late p P T (suc n) a s =
-    ended-late a (attempted p P (noiseAt p T a) (maskAt T a) s) (signFrom p P T n (suc a) (refreshedKey p (noiseAt p T a) (maskAt T a) s))
-    (from-late p P T n (suc a) (refreshedKey p (noiseAt p T a) (maskAt T a) s))
+    ended-late a (attempted p P (noiseAt p T a) (maskAt T a) s) (signFrom p P T n (suc a) (refreshedKey p (noiseAt p T a) (maskAt T a) (P .matrix) s .shares))
+    (from-late p P T n (suc a) (refreshedKey p (noiseAt p T a) (maskAt T a) (P .matrix) s .shares))
 
 module _ (p : Params) (vk msg : List ℕ) (T : Coins) (n : ℕ) where
   made-late : (m s : Option (List ℕ)) → early (signMade p vk msg T n m s) ≡ false
@@ -105,12 +110,13 @@ module _ (p : Params) (key : Key) (msg : List ℕ) (T : Coins) (n : ℕ) (out wo
   abbrev front : List ℕ
   front = publicOf p key
 
-  -- check 10, the share seeds
-  pub end-unfilled : filled (sharesOf p key) ≡ false
-      → signing 10 0 out (zeros (length w)) ≡ leftBy (signMade p front msg T n (matrix p (vkSeed p front)) (sharesOf p key)) out work
-  end-unfilled f =
+  -- check 10, the share seeds: x and a are what `reported` gives
+  pub end-unfilled : filled (sharesOf p key) ≡ false → (x a : ℕ) → x ≡ 10 → a ≡ 0
+      → signing x a out (zeros (length w)) ≡ leftBy (signMade p front msg T n (matrix p (vkSeed p front)) (sharesOf p key)) out work
+  end-unfilled f x a ex ea =
       let e = ap (signMade p front msg T n (matrix p (vkSeed p front))) (not-filled (sharesOf p key) f) ∙ no-shares p front msg T n (matrix p (vkSeed p front)) in
-      ap (λ (k : ℕ). signing 10 0 out (zeros k)) long ∙ ap (λ (A : Answer). leftBy A out work) (sym e)
+      ap (λ (k : ℕ). signing k a out (zeros (length w))) ex ∙ ap (λ (k : ℕ). signing 10 k out (zeros (length w))) ea
+      ∙ ap (λ (k : ℕ). signing 10 0 out (zeros k)) long ∙ ap (λ (A : Answer). leftBy A out work) (sym e)
 
   cleared-late : (A : Answer) → early A ≡ false → zeros (length w) ≡ pick (early A) work (zeros (length work))
   cleared-late A e = ap (λ (k : ℕ). zeros k) long ∙ ap (λ (b : Bool). pick b work (zeros (length work))) (sym e)

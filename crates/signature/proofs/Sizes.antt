@@ -97,3 +97,9 @@ module _ (p : Params) (h : Small p) where
 
     pub share-long : length (sharePart p xs) ≡ (p .shares - 1) * (p .kappa / 8)
     share-long = length-drop (p .kappa / 8 + noiseBytes p) xs ∙ (omega (arith, e))
+
+-- the local array that holds the matrix: 63 polynomials
+pub matrix-fits : (p : Params) → Small p → {n : ℕ} → n ≡ 32256 → p .k * (p .l * 512) ≤ n
+matrix-fits p h {n} e =
+    let a : p .k * p .l ≤ 9 * 7 = mul-le-mul (h .rows-low) (h .columns-low) in
+    omega (arith, a, e)

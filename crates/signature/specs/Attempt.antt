@@ -1,5 +1,5 @@
--- The steps of one attempt of signing (000, Algorithm 2) on the work buffer. It is laid out as in key generation: r, and then the shares of
--- z, lie where Keygen.antt leaves room for r; w lies in the place of t, z in that of x.
+-- Steps (what the code leaves on its way; no call's contract reaches these): one attempt of signing (000, Algorithm 2) on the work buffer. It is
+-- laid out as in key generation: r, and then the shares of z, lie where Keygen.antt leaves room for r; w lies in the place of t, z in that of x.
 use mathlib.Core.Path.{_≡_}
 use mathlib.Core.Bool.{Bool, true, false}
 use mathlib.Core.List.{List}
@@ -19,7 +19,8 @@ use Rattle.sharing.specs.Masks.{masks}
 use Rattle.sharing.specs.declared.masks.MaskGen.{MaskGen}
 use Rattle.signature.specs.Challenge.{chalHash, chalPoly, chalHeld}
 use Rattle.signature.specs.Keygen.{atS, atT, atX}
-use Rattle.signature.specs.Masked.{Noise, maskedNoise, maskedImage, behindProduct, transformed, untransformed}
+use Rattle.signature.specs.Masked.{Noise, maskedNoise, maskedImage}
+use Rattle.signature.specs.MaskedSteps.{transformed, untransformed}
 use Rattle.signature.specs.declared.challenge.Challenged.{Challenged}
 use Rattle.signature.specs.Sign.{Coins, noiseSize, maskedResponse, refreshedKey, refreshedResponse}
 use Rattle.signature.specs.SignCalls.{Key, packed, expanded}
@@ -43,50 +44,57 @@ pub record Within (p : Params) (T : Coins) (a : ℕ) : Type 0 where
 abbrev pub atR : ℕ → ℕ → ℕ
 atR l d = atS d + l * (d * 512)
 
--- lines 4 and 5 with the noise N, zero encodings from g on, whatever the matrix is: r in the transform domain, and s as it was
+-- the key's shares in the work buffer
+abbrev pub keyIn : Params → List ℕ → List ℕ
+keyIn p work = span work (atS (p .shares)) (p .l * (p .shares * 512))
+
+-- lines 4 and 5 with the noise N, zero encodings from g on: r in the transform domain, and s as it was
 pub record Begun (p : Params) (N : Noise) (g : MaskGen) (s ys : List ℕ) : Type 0 where
-  pub noise : span ys (atR (p .l) (p .shares)) (p .l * (p .shares * 512)) ≡ transformed (p .l * p .shares) (maskedNoise p N g)
-  pub key : span ys (atS (p .shares)) (p .l * (p .shares * 512)) ≡ s
+  pub noise : span ys (atR (p .l) (p .shares)) (p .l * (p .shares * 512)) ≡ transformed (p .l * p .shares) (maskedNoise p N g .shares)
+  pub key : keyIn p ys ≡ s
 
 -- the d shares of the last row of w behind line 7, as they were added up: they stand behind the zero encoding
 abbrev pub LastRow : Params → Noise → MaskGen → List ℕ → List ℕ → Type 0
 LastRow p N g A ys =
-    (i : ℕ) → p .k ≡ suc i → span ys (p .shares * 512) (p .shares * 512) ≡ block (p .shares * 512) i (maskedImage p N g A)
+    (i : ℕ) → p .k ≡ suc i → span ys (p .shares * 512) (p .shares * 512) ≡ block (p .shares * 512) i (maskedImage p N g A .shares)
 
--- lines 4 to 8: r in the transform domain, the shares of the last row of w, the sum w, and s as it was; h is the generator behind
-pub record Committed (p : Params) (N : Noise) (g : MaskGen) (A : List ℕ) (h : MaskGen) (xs ys : List ℕ) : Type 0 where
-  pub noise : span ys (atR (p .l) (p .shares)) (p .l * (p .shares * 512)) ≡ transformed (p .l * p .shares) (maskedNoise p N g)
+-- lines 4 to 8: r in the transform domain, the shares of the last row of w, the sum w, and the key s as it was; h is the generator behind line 7
+pub record Committed (p : Params) (N : Noise) (g : MaskGen) (A s : List ℕ) (h : MaskGen) (ys : List ℕ) : Type 0 where
+  pub begun : Begun p N g s ys
   pub row : LastRow p N g A ys
-  pub image : span ys (atT (p .l) (p .shares)) (p .k * 512) ≡ totals (p .k) (p .shares) (maskedImage p N g A)
-  pub key : span ys (atS (p .shares)) (p .l * (p .shares * 512)) ≡ span xs (atS (p .shares)) (p .l * (p .shares * 512))
-  pub next : h ≡ skip masks (p .shares) (behindProduct p N) g
+  pub image : span ys (atT (p .l) (p .shares)) (p .k * 512) ≡ totals (p .k) (p .shares) (maskedImage p N g A .shares)
+  pub next : h ≡ maskedImage p N g A .next
 
 -- ---- line 14 by the transform: c is the transform of the challenge, X the shares of s in the transform domain, Y those of r
 
 -- share j of one polynomial; the shares of polynomial i
-abbrev pub answered : List ℕ → List ℕ → List ℕ → ℕ → List ℕ
-answered c X Y j = addW (intt (pointwise c (block 512 j X))) (block 512 j Y)
+abbrev pub responseShare : List ℕ → List ℕ → List ℕ → ℕ → List ℕ
+responseShare c X Y j = addW (intt (pointwise c (block 512 j X))) (block 512 j Y)
 
-abbrev pub answeredAt : ℕ → List ℕ → List ℕ → List ℕ → ℕ → List ℕ
-answeredAt d c X Y i = build d (answered c (block (d * 512) i X) (block (d * 512) i Y))
+abbrev pub responseAt : ℕ → List ℕ → List ℕ → List ℕ → ℕ → List ℕ
+responseAt d c X Y i = build d (responseShare c (block (d * 512) i X) (block (d * 512) i Y))
 
 -- ---- lines 12 to 16
 
--- lines 12 and 13, s at a and r at b: s refreshed, r turned back and refreshed; what is before and behind them as it was
-pub record Renewed (l d a b : ℕ) (g : MaskGen) (xs ys : List ℕ) : Type 0 where
+-- lines 12 and 13, s at a and r at b: s refreshed from g on, r turned back and refreshed behind it; what is before and behind them as it was; h is the
+-- generator behind line 13
+pub record Renewed (l d a b : ℕ) (g h : MaskGen) (xs ys : List ℕ) : Type 0 where
   pub key : span ys a (l * (d * 512)) ≡ refreshed masks d g l (span xs a (l * (d * 512)))
   pub noise : span ys b (l * (d * 512)) ≡ refreshed masks d (skip masks d l g) l (untransformed (l * d) (span xs b (l * (d * 512))))
+  pub next : h ≡ skip masks d l (skip masks d l g)
   pub front : (e n : ℕ) → d * 512 ≤ e → e + n ≤ a → span ys e n ≡ span xs e n
   pub behind : (e n : ℕ) → b + l * (d * 512) ≤ e → span ys e n ≡ span xs e n
   pub long : length ys ≡ length xs
   pub low : Below q ys
 
--- all of them, of the challenge polynomial c: s refreshed, the shares of z in the place of r, their sum z, and w and its last row as they were; g is the generator behind line 7
-pub record Responded (k l d : ℕ) (c : List ℕ) (g : MaskGen) (xs ys : List ℕ) : Type 0 where
+-- all of them, of the challenge polynomial c, from g on: s refreshed, the shares of z in the place of r, their sum z, and w and its last row as
+-- they were; h is the generator behind line 15
+pub record Responded (k l d : ℕ) (c : List ℕ) (g h : MaskGen) (xs ys : List ℕ) : Type 0 where
   pub key : span ys (atS d) (l * (d * 512)) ≡ refreshed masks d g l (span xs (atS d) (l * (d * 512)))
   pub shares : (r : List ℕ) → Words (l * (d * 512)) r → span xs (atR l d) (l * (d * 512)) ≡ transformed (l * d) r
-      → span ys (atR l d) (l * (d * 512)) ≡ refreshed masks d (skip masks d (l + l) g) l
+      → span ys (atR l d) (l * (d * 512)) ≡ refreshed masks d (skip masks d l (skip masks d l g)) l
       (maskedResponse d l c (refreshed masks d g l (span xs (atS d) (l * (d * 512)))) (refreshed masks d (skip masks d l g) l r))
+  pub next : h ≡ skip masks d l (skip masks d l (skip masks d l g))
   pub response : span ys (atX k l d) (l * 512) ≡ totals l d (span ys (atR l d) (l * (d * 512)))
   pub row : span ys (d * 512) (d * 512) ≡ span xs (d * 512) (d * 512)
   pub commitment : span ys (atT l d) (k * 512) ≡ span xs (atT l d) (k * 512)
@@ -97,7 +105,7 @@ pub record Responded (k l d : ℕ) (c : List ℕ) (g : MaskGen) (xs ys : List �
 
 -- line 8, the sum of the shares of w; line 10, the challenge hash
 abbrev pub commitmentOf : Params → Noise → MaskGen → List ℕ → List ℕ
-commitmentOf p N g A = totals (p .k) (p .shares) (maskedImage p N g A)
+commitmentOf p N g A = totals (p .k) (p .shares) (maskedImage p N g A .shares)
 
 abbrev pub hashOf : Params → Noise → MaskGen → List ℕ → List ℕ → List ℕ
 hashOf p N g A mu = chalHash p (roundW (commitmentOf p N g A)) mu
@@ -110,8 +118,8 @@ pub record Answered (p : Params) (N : Noise) (g : MaskGen) (A mu s : List ℕ) (
   pub row : LastRow p N g A ys
   pub commitment : span ys (atT (p .l) (p .shares)) (p .k * 512) ≡ roundW (commitmentOf p N g A)
   pub idle : chalPoly p (hashOf p N g A mu) ≡ none → Begun p N g s ys
-  pub key : (c : List ℤ) → chalPoly p (hashOf p N g A mu) ≡ some c → span ys (atS (p .shares)) (p .l * (p .shares * 512)) ≡ refreshedKey p N g s
+  pub key : (c : List ℤ) → chalPoly p (hashOf p N g A mu) ≡ some c → keyIn p ys ≡ refreshedKey p N g A s .shares
   pub shares : (c : List ℤ) → chalPoly p (hashOf p N g A mu) ≡ some c
-      → span ys (atR (p .l) (p .shares)) (p .l * (p .shares * 512)) ≡ refreshedResponse p N g s (residues q c)
+      → span ys (atR (p .l) (p .shares)) (p .l * (p .shares * 512)) ≡ refreshedResponse p N g A s (residues q c) .shares
   pub response : (c : List ℤ) → chalPoly p (hashOf p N g A mu) ≡ some c
-      → span ys (atX (p .k) (p .l) (p .shares)) (p .l * 512) ≡ totals (p .l) (p .shares) (refreshedResponse p N g s (residues q c))
+      → span ys (atX (p .k) (p .l) (p .shares)) (p .l * 512) ≡ totals (p .l) (p .shares) (refreshedResponse p N g A s (residues q c) .shares)

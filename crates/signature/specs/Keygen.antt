@@ -50,7 +50,7 @@ pub record Rounded (p : Params) (to : ℕ) (W xs ys : List ℕ) : Type 0 where
 pub record Generated (p : Params) (coins : List ℕ) (g : MaskGen) (A x ys : List ℕ) : Type 0 where
   pub shares : span ys (atS (p .shares)) (p .l * (p .shares * 512)) ≡ keyShares p coins g
   pub row : (i : ℕ) → p .k ≡ suc i
-      → span ys (p .shares * 512) (p .shares * 512) ≡ block (p .shares * 512) i (maskedImage p (seeded p (p .ut) coins) g A)
+      → span ys (p .shares * 512) (p .shares * 512) ≡ block (p .shares * 512) i (maskedImage p (seeded p (p .ut) coins) g A .shares)
   pub vector : span ys (atT (p .l) (p .shares)) (p .k * 512) ≡ keyVector p coins g A
   pub full : span ys (atX (p .k) (p .l) (p .shares)) (p .l * 512) ≡ x
 

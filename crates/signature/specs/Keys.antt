@@ -68,10 +68,10 @@ sharePart p seeds = drop (seedBytes p + noiseBytes p) seeds
 
 -- the shares of s in the transform domain, and t
 unfoldable pub keyShares : Params → List ℕ → MaskGen → List ℕ
-keyShares p coins g = build (p .l) (λ (i : ℕ). each (p .shares) ntt (block (p .shares * 512) i (maskedNoise p (seeded p (p .ut) coins) g)))
+keyShares p coins g = build (p .l) (λ (i : ℕ). each (p .shares) ntt (block (p .shares * 512) i (maskedNoise p (seeded p (p .ut) coins) g .shares)))
 
 unfoldable pub keyVector : Params → List ℕ → MaskGen → List ℕ → List ℕ
-keyVector p coins g A = roundT (totals (p .k) (p .shares) (maskedImage p (seeded p (p .ut) coins) g A))
+keyVector p coins g A = roundT (totals (p .k) (p .shares) (maskedImage p (seeded p (p .ut) coins) g A .shares))
 
 -- the signing key, if matrix and share seeds fill
 abbrev madeKey : Params → List ℕ → MaskGen → Option (List ℕ) → Option (List ℕ) → Option (List ℕ)

@@ -12,9 +12,12 @@ pub mod Keygen
 pub mod KeySizes
 pub mod Keys
 pub mod Masked
+pub mod MaskedSteps
 pub mod Matrix
+pub mod MatrixSteps
 pub mod Expanding
 pub mod Recover
+pub mod RecoverSteps
 pub mod Sign
 pub mod SignCalls
 pub mod SignSteps

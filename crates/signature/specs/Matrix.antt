@@ -1,11 +1,10 @@
 -- ExpandA (000, Algorithm 6), and polynomials that may not fill, one behind the other.
-use mathlib.Core.Bool.{Bool}
 use mathlib.Core.List.{List, [], _∷_, _++_}
 use mathlib.Core.Option.{Option, some, none}
 use Prim.Native.Nat.{ℕ, zero, suc}
 use Rattle.hash.specs.declared.params.Params.{Params}
 unfoldable pub use Rattle.ring.specs.Checks.{filled}
-use Rattle.ring.specs.Uniform.{sampleQ, heldOf}
+use Rattle.ring.specs.Uniform.{sampleQ}
 
 abbrev pub joinedTo : Option (List ℕ) → Option (List ℕ) → Option (List ℕ)
 joinedTo none b = none
@@ -29,10 +28,3 @@ matrixOf k l seed = buildAll k (λ (i : ℕ). buildAll l (matrixAt seed i))
 
 abbrev pub matrix : Params → List ℕ → Option (List ℕ)
 matrix p seed = matrixOf (p .k) (p .l) seed
-
--- do all l entries of row i fill, and entry m of it: zero where it does not
-abbrev pub rowFills : List ℕ → ℕ → ℕ → Bool
-rowFills seed i l = filled (buildAll l (matrixAt seed i))
-
-abbrev pub rowEntry : List ℕ → ℕ → ℕ → List ℕ
-rowEntry seed i m = heldOf (matrixAt seed i m) .poly

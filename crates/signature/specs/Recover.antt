@@ -2,16 +2,13 @@
 use mathlib.Core.List.{List, [], _∷_, _++_}
 use Prim.Native.Nat.{ℕ, _+_, _-_, _*_, _%_}
 use lib.IntN.{ℤ}
-use lib.ListN.{take, drop}
 use Rattle.hash.specs.Shake.{shake256}
 use Rattle.hash.specs.declared.params.Params.{Params}
 use Rattle.ring.specs.Words.{subW, zipTo}
-use Rattle.ring.specs.Transform.{ntt, intt, pointwise, mul}
+use Rattle.ring.specs.Transform.{mul}
 use Rattle.ring.specs.Round.{roundW, scaledT, centred, residues}
 use Rattle.sharing.specs.Blocks.{block, build, sumOf}
 use Rattle.signature.specs.Form.{hashBytes}
-use Rattle.signature.specs.Masked.{rowShare}
-use Rattle.signature.specs.Matrix.{rowEntry}
 
 -- row i of A z; row i of y = A z - 2^42 c t; all k rows
 unfoldable pub productRow : ℕ → List ℕ → List ℕ → ℕ → List ℕ
@@ -51,26 +48,3 @@ boundTo n vk msg = shake256 (keyHash n vk ++ msg) n
 
 abbrev pub muOf : Params → List ℕ → List ℕ → List ℕ
 muOf p vk msg = boundTo (hashBytes p) vk msg
-
--- ---- row i as the code makes it: a are the entries of the matrix's row, Z and C are z and c transformed, t is polynomial i of the public key
-
-unfoldable pub scaledBy : List ℕ → List ℕ → List ℕ
-scaledBy C t = intt (pointwise C (ntt (scaledT t)))
-
-unfoldable pub recoveredBy : ℕ → (ℕ → List ℕ) → List ℕ → List ℕ → List ℕ → List ℕ
-recoveredBy l a Z C t = subW (rowShare 1 l a Z 0) (scaledBy C t)
-
--- polynomial i of a list of signed numbers
-abbrev pub blockZ : ℕ → List ℤ → List ℤ
-blockZ i h = take 512 (drop (i * 512) h)
-
--- w' of all rows, y from the code's rows
-unfoldable pub adjustedRows : ℕ → ℕ → List ℕ → List ℕ → List ℕ → List ℕ → List ℤ → List ℕ
-adjustedRows k l seed Z C t h = build k (λ (i : ℕ). adjusted (recoveredBy l (rowEntry seed i) Z C (block 512 i t)) (blockZ i h))
-
--- the hint of all rows, of the rounded w and of y from the code's rows: row i before it is centred, and the whole
-unfoldable pub hintRow : ℕ → List ℕ → List ℕ → List ℕ → List ℕ → List ℕ → ℕ → List ℕ
-hintRow l seed Z C t w i = zipTo sub31 (block 512 i w) (roundW (recoveredBy l (rowEntry seed i) Z C (block 512 i t)))
-
-unfoldable pub hintRows : ℕ → ℕ → List ℕ → List ℕ → List ℕ → List ℕ → List ℕ → List ℤ
-hintRows k l seed Z C t w = centredAll 31 (build k (hintRow l seed Z C t w))

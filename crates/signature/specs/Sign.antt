@@ -10,14 +10,13 @@ use Rattle.ring.specs.Words.{q, addW}
 use Rattle.ring.specs.Transform.{intt, mul}
 use Rattle.ring.specs.Round.{roundW, residues}
 use Rattle.sharing.specs.Blocks.{block, build, totals, each}
-use Rattle.sharing.specs.Encoding.{skip, refreshed}
-use Rattle.sharing.specs.Masks.{masks, maskStart}
+use Rattle.sharing.specs.Masks.{maskStart}
 use Rattle.sharing.specs.Noise.{noiseBytes}
 use Rattle.sharing.specs.declared.masks.MaskGen.{MaskGen}
 use Rattle.signature.specs.Bounds.{checkBounds}
 use Rattle.signature.specs.Challenge.{chalHash, chalPoly}
 use Rattle.signature.specs.Form.{Fields, write}
-use Rattle.signature.specs.Masked.{Noise, seeded, explicit, maskedNoise, maskedImage, behindProduct}
+use Rattle.signature.specs.Masked.{Noise, Step, onward, refresh, seeded, explicit, maskedNoise, maskedImage}
 use Rattle.signature.specs.Recover.{recovered, hintOf, centredAll}
 
 -- what all attempts have from the public key and the message: the matrix, t and mu (lines 1 to 3)
@@ -31,12 +30,6 @@ pub data Attempted : Type 0 where
   made : List ℕ → Attempted
   over : Attempted
   stuck : Attempted
-
--- the status of an attempt that decides the call: a signature; check 12; check 11
-abbrev pub attemptedNo : Attempted → ℕ
-attemptedNo (made b) = 0
-attemptedNo over = 12
-attemptedNo stuck = 11
 
 -- what signing answers; with a refusal the signature is empty
 pub record Answer : Type 0 where
@@ -78,28 +71,31 @@ hashed p P w hash z = challenged p P w hash z (chalPoly p hash)
 unfoldable pub concluded : Params → Public → List ℕ → (List ℕ → List ℕ) → Attempted
 concluded p P w z = hashed p P (roundW w) (chalHash p (roundW w) (P .mu)) z
 
--- ---- lines 4 to 16, share by share. N is the noise of the attempt, g its generator
+-- ---- lines 4 to 16, share by share. N is the noise of the attempt, g the generator that it begins with, A the matrix, s the key's shares
 
 -- line 14: c s + r; s is held in the transform domain
 unfoldable pub maskedResponse : ℕ → ℕ → List ℕ → List ℕ → List ℕ → List ℕ
 maskedResponse d l c s r = build l (λ (i : ℕ). addW (each d (λ (x : List ℕ). mul c (intt x)) (block (d * 512) i s)) (block (d * 512) i r))
 
--- line 12, which is also the key that the next attempt begins with; line 13; line 15. Lines 4 and 5, 6 and 7 are maskedNoise, maskedImage
-unfoldable pub refreshedKey : Params → Noise → MaskGen → List ℕ → List ℕ
-refreshedKey p N g s = refreshed masks (p .shares) (skip masks (p .shares) (behindProduct p N) g) (p .l) s
+-- line 12, which is also the key that the next attempt begins with; line 13; lines 14 and 15, of the challenge polynomial c. Lines 4 and 5, 6 and
+-- 7 are maskedNoise, maskedImage
+unfoldable pub refreshedKey : Params → Noise → MaskGen → List ℕ → List ℕ → Step
+refreshedKey p N g A s = refresh (p .shares) (p .l) (onward (maskedImage p N g A) s)
 
-unfoldable pub refreshedNoise : Params → Noise → MaskGen → List ℕ
-refreshedNoise p N g = refreshed masks (p .shares) (skip masks (p .shares) (behindProduct p N + p .l) g) (p .l) (maskedNoise p N g)
+unfoldable pub refreshedNoise : Params → Noise → MaskGen → List ℕ → List ℕ → Step
+refreshedNoise p N g A s = refresh (p .shares) (p .l) (onward (refreshedKey p N g A s) (maskedNoise p N g .shares))
 
-unfoldable pub refreshedResponse : Params → Noise → MaskGen → List ℕ → List ℕ → List ℕ
-refreshedResponse p N g s c =
-    refreshed masks (p .shares) (skip masks (p .shares) (behindProduct p N + p .l + p .l) g) (p .l)
-    (maskedResponse (p .shares) (p .l) c (refreshedKey p N g s) (refreshedNoise p N g))
+unfoldable pub refreshedResponse : Params → Noise → MaskGen → List ℕ → List ℕ → List ℕ → Step
+refreshedResponse p N g A s c =
+    refresh (p .shares) (p .l)
+    (onward (refreshedNoise p N g A s)
+    (maskedResponse (p .shares) (p .l) c (refreshedKey p N g A s .shares) (refreshedNoise p N g A s .shares)))
 
 -- one attempt, with the key's shares s: only the commitment (line 8) and the response (line 16) are added up
 unfoldable pub attempted : Params → Public → Noise → MaskGen → List ℕ → Attempted
 attempted p P N g s =
-    concluded p P (totals (p .k) (p .shares) (maskedImage p N g (P .matrix))) (λ (c : List ℕ). totals (p .l) (p .shares) (refreshedResponse p N g s c))
+    concluded p P (totals (p .k) (p .shares) (maskedImage p N g (P .matrix) .shares))
+    (λ (c : List ℕ). totals (p .l) (p .shares) (refreshedResponse p N g (P .matrix) s c .shares))
 
 -- ---- the attempts
 
@@ -134,4 +130,4 @@ ended a stuck later = answer 11 (suc a) []
 unfoldable pub signFrom : Params → Public → Coins → ℕ → ℕ → List ℕ → Answer
 signFrom p P T zero a s = answer 12 a []
 signFrom p P T (suc left) a s =
-    ended a (attempted p P (noiseAt p T a) (maskAt T a) s) (signFrom p P T left (suc a) (refreshedKey p (noiseAt p T a) (maskAt T a) s))
+    ended a (attempted p P (noiseAt p T a) (maskAt T a) s) (signFrom p P T left (suc a) (refreshedKey p (noiseAt p T a) (maskAt T a) (P .matrix) s .shares))

@@ -2,9 +2,7 @@
 // specs/Keygen.antt says: w, rounded, at atT, and z at atX. These lines write only to the room of eight polynomials before s: a row of y, and
 // z in the transform domain behind it. So all shares stay where they are.
 ghost use mathlib.Core.Path.{_≡_};
-ghost use mathlib.Core.Bool.{true};
 ghost use mathlib.Core.List.{List};
-ghost use mathlib.Core.Option.{some};
 ghost use Prim.Native.Nat.{ℕ, _+_, _*_, _^_, _≤_, _<_};
 ghost use lib.IntN.{pos, natAbs};
 ghost use lib.ListN.{length, getD};
@@ -15,9 +13,10 @@ ghost use Rattle.signature.specs.Answers.{fieldsOf, FinishedAs};
 ghost use Rattle.signature.specs.Checks.{workWords};
 ghost use Rattle.signature.specs.Form.{hashBytes};
 ghost use Rattle.signature.specs.Keygen.{atRoom, atS, atT, atX, Small};
-ghost use Rattle.signature.specs.Keys.{vkSeed, vkVector};
-ghost use Rattle.signature.specs.Matrix.{matrix, matrixOf, filled};
-ghost use Rattle.signature.specs.Recover.{sub31, centredAll, hintOf, recovered, hintRows};
+ghost use Rattle.signature.specs.Keys.{vkVector};
+ghost use Rattle.signature.specs.MaskedSteps.{matrixIn, MatrixHeld};
+ghost use Rattle.signature.specs.Recover.{sub31, centredAll, hintOf, recovered};
+ghost use Rattle.signature.specs.RecoverSteps.{hintRows};
 ghost use Rattle.signature.specs.Sign.{finished, signedFields};
 ghost use Rattle.signature.specs.Table.{Tabled};
 use crate::bits::unpack;
@@ -44,44 +43,39 @@ fn hint_row(s: &[u64], row: usize, at: usize, out: &mut [i64])
     hint_into(load(s, at), y, out);
 }
 
-// Lines 17 and 18, row by row: each row of y at `row`; z, transformed, is at `at`, w at `wat`; c is transformed. False where the matrix does
-// not fill.
+// Lines 17 and 18, row by row of the matrix a: each row of y at `row`; z, transformed, is at `at`, w at `wat`; c is transformed.
 fn hint_rows(
     work: &mut [u64],
     row: usize,
     at: usize,
     wat: usize,
-    seed: &[u8],
+    a: &[u64],
     k: usize,
     l: usize,
     c: [u64; 512],
     t: &[u64],
     hint: &mut [i64],
-) -> bool
+)
     requires { ⌜ (row + 512 ≤ at) × (row + 512 ≤ wat) × (at + l * 512 ≤ length (now work)) × (wat + k * 512 ≤ length (now work)) × Below q (now work) ⌝ }
     requires { ⌜ (k ≤ 9) × (l ≤ 7) × Words 512 c × (length (now t) ≡ k * 512) × Below 125 (now t) × Below 31 (span (now work) wat (k * 512)) × (length (now hint) ≡ k * 512) ⌝ }
-    ensures { λ r. ⌜ (r ≡ filled (matrixOf k l (now (seed .entry)))) × (length (now (work .exit)) ≡ length (now (work .entry))) × Below q (now (work .exit)) ⌝ }
-    ensures { λ r. ⌜ (r ≡ true → Kept 0 row (now (work .entry)) (now (work .exit)) × Kept (row + 512) (length (now (work .entry))) (now (work .entry)) (now (work .exit))) ⌝ }
-    ensures { λ r. ⌜ (r ≡ true → now (hint .exit) ≡ hintRows k l (now (seed .entry)) (span (now (work .entry)) at (l * 512)) c (now (t .entry)) (span (now (work .entry)) wat (k * 512))) ⌝ }
+    requires { ⌜ (k * (l * 512) ≤ length (now a)) × Below q (now a) ⌝ }
+    ensures { λ _. ⌜ (length (now (work .exit)) ≡ length (now (work .entry))) × Below q (now (work .exit)) × Kept 0 row (now (work .entry)) (now (work .exit)) × Kept (row + 512) (length (now (work .entry))) (now (work .entry)) (now (work .exit)) ⌝ }
+    ensures { λ _. ⌜ now (hint .exit) ≡ hintRows k l (now (a .entry)) (span (now (work .entry)) at (l * 512)) c (now (t .entry)) (span (now (work .entry)) wat (k * 512)) ⌝ }
 {
     for i in 0..k {
-        let a = i * 512;
-        let e = a + 512;
-        if !recover_row(work, row, at, seed, i, l, c, load(t, a)) {
-            return false;
-        }
-        hint_row(work, row, wat + a, &mut hint[a..e]);
+        let b = i * 512;
+        let e = b + 512;
+        recover_row(work, row, at, a, i * (l * 512), l, c, load(t, b));
+        hint_row(work, row, wat + b, &mut hint[b..e]);
     }
-    true
 }
 
 // Lines 17 and 18: the hint.
-fn make_hint(work: &mut [u64], p: Params, vk: &[u8], c: [i8; 512], hint: &mut [i64]) -> bool
+fn make_hint(work: &mut [u64], p: Params, vk: &[u8], a: &[u64], c: [i8; 512], hint: &mut [i64])
     requires { ⌜ Tabled p × Small p × (length (now work) ≡ workWords p) × Below q (now work) × Below 31 (span (now work) (atT (p .l) (p .shares)) (p .k * 512)) ⌝ }
-    requires { ⌜ (length (now vk) ≡ p .«vk_bytes») × Below 125 (vkVector p (now vk)) × (length (now hint) ≡ p .k * 512) ⌝ }
-    ensures { λ r. ⌜ (r ≡ filled (matrix p (vkSeed p (now (vk .entry))))) × (length (now (work .exit)) ≡ length (now (work .entry))) × Below q (now (work .exit)) ⌝ }
-    ensures { λ r. ⌜ (r ≡ true → Kept 0 (atRoom (p .shares)) (now (work .entry)) (now (work .exit)) × Kept (atS (p .shares)) (length (now (work .entry))) (now (work .entry)) (now (work .exit))) ⌝ }
-    ensures { λ r. ⌜ ((A : List ℕ) → matrix p (vkSeed p (now (vk .entry))) ≡ some A → now (hint .exit) ≡ hintOf (span (now (work .entry)) (atT (p .l) (p .shares)) (p .k * 512)) (recovered p A (span (now (work .entry)) (atX (p .k) (p .l) (p .shares)) (p .l * 512)) (residues q c) (vkVector p (now (vk .entry))))) ⌝ }
+    requires { ⌜ (length (now vk) ≡ p .«vk_bytes») × Below 125 (vkVector p (now vk)) × MatrixHeld p (now a) × (length (now hint) ≡ p .k * 512) ⌝ }
+    ensures { λ _. ⌜ (length (now (work .exit)) ≡ length (now (work .entry))) × Below q (now (work .exit)) × Kept 0 (atRoom (p .shares)) (now (work .entry)) (now (work .exit)) × Kept (atS (p .shares)) (length (now (work .entry))) (now (work .entry)) (now (work .exit)) ⌝ }
+    ensures { λ _. ⌜ now (hint .exit) ≡ hintOf (span (now (work .entry)) (atT (p .l) (p .shares)) (p .k * 512)) (recovered p (matrixIn p (now (a .entry))) (span (now (work .entry)) (atX (p .k) (p .l) (p .shares)) (p .l * 512)) (residues q c) (vkVector p (now (vk .entry)))) ⌝ }
 {
     let k = p.k;
     let l = p.l;
@@ -96,7 +90,7 @@ fn make_hint(work: &mut [u64], p: Params, vk: &[u8], c: [i8; 512], hint: &mut [i
     unpack(&vk[n..e], 7, &mut t[0..m]);
     ntt_to(work, wat + m, at, l);
     let x = ntt(from_signed(c));
-    hint_rows(work, row, at, wat, &vk[0..n], k, l, x, &t[0..m], hint)
+    hint_rows(work, row, at, wat, a, k, l, x, &t[0..m], hint);
 }
 
 // Lines 19 and 20: the signature of the fields, where they pass the bounds and fit. Else out stays as it was.
@@ -121,6 +115,7 @@ fn finish_with(
     work: &mut [u64],
     p: Params,
     vk: &[u8],
+    a: &[u64],
     hash: &[u8],
     c: [i8; 512],
     hint: &mut [i64],
@@ -128,20 +123,18 @@ fn finish_with(
     out: &mut [u8],
 ) -> bool
     requires { ⌜ Tabled p × Small p × (length (now work) ≡ workWords p) × Below q (now work) × Below 31 (span (now work) (atT (p .l) (p .shares)) (p .k * 512)) ⌝ }
-    requires { ⌜ (length (now vk) ≡ p .«vk_bytes») × Below 125 (vkVector p (now vk)) × (filled (matrix p (vkSeed p (now vk))) ≡ true) × (length (now hash) ≡ hashBytes p) ⌝ }
+    requires { ⌜ (length (now vk) ≡ p .«vk_bytes») × Below 125 (vkVector p (now vk)) × MatrixHeld p (now a) × (length (now hash) ≡ hashBytes p) ⌝ }
     requires { ⌜ (length (now hint) ≡ p .k * 512) × (length (now z) ≡ p .l * 512) × (length (now out) ≡ p .«sig_bytes») ⌝ }
     ensures { λ r. ⌜ (length (now (work .exit)) ≡ length (now (work .entry))) × Below q (now (work .exit)) × Kept 0 (atRoom (p .shares)) (now (work .entry)) (now (work .exit)) × Kept (atS (p .shares)) (length (now (work .entry))) (now (work .entry)) (now (work .exit)) ⌝ }
-    ensures { λ r. ⌜ ((A mu : List ℕ) → matrix p (vkSeed p (now (vk .entry))) ≡ some A → FinishedAs (finished p (signedFields p (record { matrix = A; vector = vkVector p (now (vk .entry)); mu = mu }) (span (now (work .entry)) (atT (p .l) (p .shares)) (p .k * 512)) (now (hash .entry)) (span (now (work .entry)) (atX (p .k) (p .l) (p .shares)) (p .l * 512)) c)) r (now (out .entry)) (now (out .exit))) ⌝ }
+    ensures { λ r. ⌜ ((mu : List ℕ) → FinishedAs (finished p (signedFields p (record { matrix = matrixIn p (now (a .entry)); vector = vkVector p (now (vk .entry)); mu = mu }) (span (now (work .entry)) (atT (p .l) (p .shares)) (p .k * 512)) (now (hash .entry)) (span (now (work .entry)) (atX (p .k) (p .l) (p .shares)) (p .l * 512)) c)) r (now (out .entry)) (now (out .exit))) ⌝ }
 {
     let k = p.k;
     let l = p.l;
     let d = p.shares;
-    let a = 4 * (d * 512) + 4096 + l * (d * 512) + l * (d * 512) + k * 512;
-    let e = a + l * 512;
-    centred_into(&work[a..e], Q, z);
-    if !make_hint(work, p, vk, c, hint) {
-        return false;
-    }
+    let b = 4 * (d * 512) + 4096 + l * (d * 512) + l * (d * 512) + k * 512;
+    let e = b + l * 512;
+    centred_into(&work[b..e], Q, z);
+    make_hint(work, p, vk, a, c, hint);
     write_fields(p, hash, hint, z, out)
 }
 
@@ -150,18 +143,19 @@ pub(crate) fn finish(
     work: &mut [u64],
     p: Params,
     vk: &[u8],
+    a: &[u64],
     hash: &[u8],
     c: [i8; 512],
     out: &mut [u8],
 ) -> bool
     requires { ⌜ Tabled p × Small p × (length (now work) ≡ workWords p) × Below q (now work) × Below 31 (span (now work) (atT (p .l) (p .shares)) (p .k * 512)) ⌝ }
-    requires { ⌜ (length (now vk) ≡ p .«vk_bytes») × Below 125 (vkVector p (now vk)) × (filled (matrix p (vkSeed p (now vk))) ≡ true) × (length (now hash) ≡ hashBytes p) × (length (now out) ≡ p .«sig_bytes») ⌝ }
+    requires { ⌜ (length (now vk) ≡ p .«vk_bytes») × Below 125 (vkVector p (now vk)) × MatrixHeld p (now a) × (length (now hash) ≡ hashBytes p) × (length (now out) ≡ p .«sig_bytes») ⌝ }
     ensures { λ r. ⌜ (length (now (work .exit)) ≡ length (now (work .entry))) × Below q (now (work .exit)) × Kept 0 (atRoom (p .shares)) (now (work .entry)) (now (work .exit)) × Kept (atS (p .shares)) (length (now (work .entry))) (now (work .entry)) (now (work .exit)) ⌝ }
-    ensures { λ r. ⌜ ((A mu : List ℕ) → matrix p (vkSeed p (now (vk .entry))) ≡ some A → FinishedAs (finished p (signedFields p (record { matrix = A; vector = vkVector p (now (vk .entry)); mu = mu }) (span (now (work .entry)) (atT (p .l) (p .shares)) (p .k * 512)) (now (hash .entry)) (span (now (work .entry)) (atX (p .k) (p .l) (p .shares)) (p .l * 512)) c)) r (now (out .entry)) (now (out .exit))) ⌝ }
+    ensures { λ r. ⌜ ((mu : List ℕ) → FinishedAs (finished p (signedFields p (record { matrix = matrixIn p (now (a .entry)); vector = vkVector p (now (vk .entry)); mu = mu }) (span (now (work .entry)) (atT (p .l) (p .shares)) (p .k * 512)) (now (hash .entry)) (span (now (work .entry)) (atX (p .k) (p .l) (p .shares)) (p .l * 512)) c)) r (now (out .entry)) (now (out .exit))) ⌝ }
 {
     let m = p.k * 512;
     let n = p.l * 512;
     let mut hint = [0i64; 4608];
     let mut z = [0i64; 3584];
-    finish_with(work, p, vk, hash, c, &mut hint[0..m], &mut z[0..n], out)
+    finish_with(work, p, vk, a, hash, c, &mut hint[0..m], &mut z[0..n], out)
 }

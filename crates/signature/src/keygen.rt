@@ -6,19 +6,20 @@ ghost use Prim.Native.Nat.{ℕ, _+_, _-_, _*_, _/_, _≤_};
 ghost use lib.ListN.{length};
 ghost use Rattle.ring.specs.Words.{q, Below};
 ghost use Rattle.sharing.specs.Region.{span};
-ghost use Rattle.sharing.specs.Encoding.{addNoise};
+ghost use Rattle.sharing.specs.Encoding.{skip, addNoise};
 ghost use Rattle.sharing.specs.Masks.{masks, maskStart};
 ghost use Rattle.sharing.specs.Noise.{seedNoise, noiseBytes};
 ghost use Rattle.signature.specs.Checks.{both, workWords};
 ghost use Rattle.signature.specs.Keygen.{Small, Rounded, Generated, keyOf};
 ghost use Rattle.signature.specs.KeyCalls.{outcome, keygenMade, keygenCall};
 ghost use Rattle.signature.specs.Keys.{vkSeed, noisePart, sharePart, keygenBytes, keyShares, compressed, keygenOf};
-ghost use Rattle.signature.specs.Masked.{rowsOf};
+ghost use Rattle.signature.specs.MaskedSteps.{MatrixHeld, rowsOf};
 ghost use Rattle.signature.specs.Matrix.{matrix, filled};
 use crate::compress::compress_vector;
 use crate::keycheck::keygen_no;
 use crate::keyform::write_key;
 use crate::masked::image_seeds;
+use crate::matrix::expand_matrix;
 use crate::noise::noise_seeds;
 use crate::rounding::round_t_vector;
 use hash::params::Edition;
@@ -29,31 +30,26 @@ use sharing::masks::MaskGen;
 use sharing::masks::start;
 use sharing::region::clear;
 
-// Lines 5 to 8: t, rounded, at `to`, and the d shares of its last row, as they were added up; s is at `at`, transformed. False where the matrix
-// does not fill.
+// Lines 5 to 8: t, rounded, at `to`, and the d shares of its last row, as they were added up; s is at `at`, transformed. The generator behind line 6.
 fn public_vector(
     s: &mut [u64],
     at: usize,
     to: usize,
     p: Params,
-    seed: &[u8],
+    a: &[u64],
     seeds: &[u8],
     g: MaskGen,
-) -> bool
-    requires { ⌜ Small p × (p .k * p .rep * p .shares * (p .kappa / 8) ≤ length (now seeds)) ⌝ }
+) -> MaskGen
+    requires { ⌜ Small p × (p .k * p .rep * p .shares * (p .kappa / 8) ≤ length (now seeds)) × MatrixHeld p (now a) ⌝ }
     requires { ⌜ (p .shares * 512 + p .shares * 512 ≤ at) × (at + p .l * (p .shares * 512) ≤ to) × (to + p .k * 512 ≤ length (now s)) × Below q (now s) ⌝ }
-    ensures { λ r. ⌜ (r ≡ filled (matrix p (now (seed .entry)))) × (length (now (s .exit)) ≡ length (now (s .entry))) × Below q (now (s .exit)) ⌝ }
-    ensures { λ r. ⌜ ((A : List ℕ) → matrix p (now (seed .entry)) ≡ some A → Rounded p to (addNoise masks (p .shares) g (p .k) (p .rep) (seedNoise (p .shares) (p .rep) (p .ut) (p .kappa / 8) (now (seeds .entry))) (rowsOf (p .shares) (p .k) (p .l) A (span (now (s .entry)) at (p .l * (p .shares * 512))))) (now (s .entry)) (now (s .exit))) ⌝ }
+    ensures { λ r. ⌜ Rounded p to (addNoise masks (p .shares) g (p .k) (p .rep) (seedNoise (p .shares) (p .rep) (p .ut) (p .kappa / 8) (now (seeds .entry))) (rowsOf (p .shares) (p .k) (p .l) (now (a .entry)) (span (now (s .entry)) at (p .l * (p .shares * 512))))) (now (s .entry)) (now (s .exit)) × (r ≡ skip masks (p .shares) (p .k * p .rep) g) ⌝ }
 {
     let k = p.k;
     let d = p.shares;
     let u = p.ut;
-    let y = image_seeds(s, d * 512, at, to, p, u, seed, seeds, g);
-    if !y.ok {
-        return false;
-    }
+    let x = image_seeds(s, d * 512, at, to, p, u, a, seeds, g);
     round_t_vector(s, to, k);
-    true
+    x
 }
 
 // Both, and the compression of s: t at 4 d + 8 + 2 l d polynomials, x behind it. The seeds by their parts.
@@ -79,12 +75,14 @@ fn make_parts(
     let at = 4 * (d * 512) + 4096;
     let to = at + l * (d * 512) + l * (d * 512);
     let b = l * rep * d * n;
+    let mut a = [0u64; 32256];
     clear(work);
-    let g = start(mask_seed);
-    let x = noise_seeds(work, at, p, u, coins, g);
-    if !public_vector(work, at, to, p, seed, &coins[b..], x) {
+    if !expand_matrix(&mut a, seed, k, l) {
         return false;
     }
+    let g = start(mask_seed);
+    let x = noise_seeds(work, at, p, u, coins, g);
+    public_vector(work, at, to, p, &a, &coins[b..], x);
     compress_vector(work, at, to + k * 512, l, d, edition, shares, n)
 }
 

@@ -9,7 +9,7 @@ ghost use Rattle.ring.specs.Words.{q, Below, Words, allBelow};
 ghost use Rattle.ring.specs.Uniform.{heldOf};
 ghost use Rattle.sharing.specs.Blocks.{build};
 ghost use Rattle.sharing.specs.Region.{Wrote};
-ghost use Rattle.sharing.specs.Encoding.{refreshed};
+ghost use Rattle.sharing.specs.Encoding.{skip, refreshed};
 ghost use Rattle.sharing.specs.Masks.{masks, maskStart};
 ghost use Rattle.signature.specs.Bits.{repack};
 ghost use Rattle.signature.specs.Checks.{both};
@@ -101,10 +101,10 @@ fn refresh_no(
     0
 }
 
-// Algorithm 11 at each of l sharings, each with a zero encoding of its own.
-fn refresh_words(s: &mut [u64], p: Params, g: MaskGen)
+// Algorithm 11 at each of l sharings, each with a zero encoding of its own. The generator behind them.
+fn refresh_words(s: &mut [u64], p: Params, g: MaskGen) -> MaskGen
     requires { ⌜ Words (p .l * (p .shares * 512)) (now s) × ShareCount (p .shares) ⌝ }
-    ensures { λ _. ⌜ now (s .exit) ≡ refreshed masks (p .shares) g (p .l) (now (s .entry)) ⌝ }
+    ensures { λ r. ⌜ (now (s .exit) ≡ refreshed masks (p .shares) g (p .l) (now (s .entry))) × (r ≡ skip masks (p .shares) (p .l) g) ⌝ }
 {
     let l = p.l;
     let d = p.shares;
@@ -115,6 +115,7 @@ fn refresh_words(s: &mut [u64], p: Params, g: MaskGen)
         x = zero_encoding_at(&mut z, 0, d, x);
         add_shares_at(s, a, &z, 0, p);
     }
+    x
 }
 
 // The results of refreshing: the bytes as they are, the words refreshed.

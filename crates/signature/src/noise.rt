@@ -4,11 +4,9 @@ ghost use Prim.Native.Nat.{_+_, _*_, _/_, _≤_};
 ghost use lib.ListN.{length};
 ghost use Rattle.ring.specs.Words.{q, Below};
 ghost use Rattle.sharing.specs.Region.{Wrote};
-ghost use Rattle.sharing.specs.Encoding.{skip, addNoise, zeroVector};
-ghost use Rattle.sharing.specs.Masks.{masks};
-ghost use Rattle.sharing.specs.Noise.{seedNoise, explicitNoise};
 ghost use Rattle.signature.specs.Keygen.{Small};
-ghost use Rattle.signature.specs.Masked.{transformed};
+ghost use Rattle.signature.specs.Masked.{seeded, explicit, maskedNoise};
+ghost use Rattle.signature.specs.MaskedSteps.{transformed};
 use crate::vector::ntt_vector;
 use hash::params::Params;
 use sharing::encoding::zero_vector;
@@ -27,7 +25,7 @@ pub(crate) fn noise_seeds(
 ) -> MaskGen
     requires { ⌜ Small p × (1 ≤ u) × (u ≤ 48) × (p .l * p .rep * p .shares * (p .kappa / 8) ≤ length (now seeds)) ⌝ }
     requires { ⌜ (p .shares * 512 ≤ at) × (at + p .l * (p .shares * 512) ≤ length (now s)) × Below q (now s) ⌝ }
-    ensures { λ r. ⌜ Wrote (p .shares * 512) at (p .l * (p .shares * 512)) (transformed (p .l * p .shares) (addNoise masks (p .shares) (skip masks (p .shares) (p .l) g) (p .l) (p .rep) (seedNoise (p .shares) (p .rep) u (p .kappa / 8) (now (seeds .entry))) (zeroVector masks (p .shares) g (p .l)))) (now (s .entry)) (now (s .exit)) × (r ≡ skip masks (p .shares) (p .l + p .l * p .rep) g) ⌝ }
+    ensures { λ r. ⌜ Wrote (p .shares * 512) at (p .l * (p .shares * 512)) (transformed (p .l * p .shares) (maskedNoise p (seeded p u (now (seeds .entry))) g .shares)) (now (s .entry)) (now (s .exit)) × (r ≡ maskedNoise p (seeded p u (now (seeds .entry))) g .next) ⌝ }
 {
     let l = p.l;
     let d = p.shares;
@@ -47,7 +45,7 @@ pub(crate) fn noise_explicit(
 ) -> MaskGen
     requires { ⌜ Small p × (p .l * (p .shares * 512) ≤ length (now words)) × Below q (now words) ⌝ }
     requires { ⌜ (p .shares * 512 ≤ at) × (at + p .l * (p .shares * 512) ≤ length (now s)) × Below q (now s) ⌝ }
-    ensures { λ r. ⌜ Wrote (p .shares * 512) at (p .l * (p .shares * 512)) (transformed (p .l * p .shares) (addNoise masks (p .shares) (skip masks (p .shares) (p .l) g) (p .l) 1 (explicitNoise (p .shares) (now (words .entry))) (zeroVector masks (p .shares) g (p .l)))) (now (s .entry)) (now (s .exit)) × (r ≡ skip masks (p .shares) (p .l + p .l * 1) g) ⌝ }
+    ensures { λ r. ⌜ Wrote (p .shares * 512) at (p .l * (p .shares * 512)) (transformed (p .l * p .shares) (maskedNoise p (explicit p (now (words .entry))) g .shares)) (now (s .entry)) (now (s .exit)) × (r ≡ maskedNoise p (explicit p (now (words .entry))) g .next) ⌝ }
 {
     let l = p.l;
     let d = p.shares;

@@ -7,9 +7,7 @@ ghost use Rattle.ring.specs.Words.{q, addW, Below, Words};
 ghost use Rattle.ring.specs.Transform.{intt, pointwise};
 ghost use Rattle.sharing.specs.Blocks.{build, totals};
 ghost use Rattle.sharing.specs.Region.{span, Wrote};
-ghost use Rattle.sharing.specs.Encoding.{skip};
-ghost use Rattle.sharing.specs.Masks.{masks};
-ghost use Rattle.signature.specs.Attempt.{answered, Renewed, Responded};
+ghost use Rattle.signature.specs.Attempt.{responseShare, Renewed, Responded};
 ghost use Rattle.signature.specs.Keygen.{atX};
 ghost use Rattle.signature.specs.Sign.{maskedResponse};
 use crate::vector::intt_vector;
@@ -39,7 +37,7 @@ fn respond_share(s: &[u64], a: usize, b: usize, c: [u64; 512]) -> [u64; 512]
 // .. at the d shares of one polynomial, in place of those of r.
 fn respond_at(s: &mut [u64], a: usize, b: usize, c: [u64; 512], d: usize)
     requires { ⌜ (a + d * 512 ≤ b) × (b + d * 512 ≤ length (now s)) × Below q (now s) × Words 512 c ⌝ }
-    ensures { λ _. ⌜ Wrote 0 b (d * 512) (build d (answered c (span (now (s .entry)) a (d * 512)) (span (now (s .entry)) b (d * 512)))) (now (s .entry)) (now (s .exit)) ⌝ }
+    ensures { λ _. ⌜ Wrote 0 b (d * 512) (build d (responseShare c (span (now (s .entry)) a (d * 512)) (span (now (s .entry)) b (d * 512)))) (now (s .entry)) (now (s .exit)) ⌝ }
 {
     for j in 0..d {
         let e = b + j * 512;
@@ -76,9 +74,9 @@ fn decode_vector(s: &mut [u64], at: usize, to: usize, p: Params)
 }
 
 // Lines 12 and 13: s at a, in the transform domain; r at b, turned back from it.
-fn renew(s: &mut [u64], a: usize, b: usize, p: Params, g: MaskGen) -> MaskGen
+fn refresh_both(s: &mut [u64], a: usize, b: usize, p: Params, g: MaskGen) -> MaskGen
     requires { ⌜ ShareCount (p .shares) × (p .shares * 512 ≤ a) × (a + p .l * (p .shares * 512) ≤ b) × (b + p .l * (p .shares * 512) ≤ length (now s)) × Below q (now s) ⌝ }
-    ensures { λ r. ⌜ Renewed (p .l) (p .shares) a b g (now (s .entry)) (now (s .exit)) × (r ≡ skip masks (p .shares) (p .l + p .l) g) ⌝ }
+    ensures { λ r. ⌜ Renewed (p .l) (p .shares) a b g r (now (s .entry)) (now (s .exit)) ⌝ }
 {
     let l = p.l;
     let d = p.shares;
@@ -87,10 +85,10 @@ fn renew(s: &mut [u64], a: usize, b: usize, p: Params, g: MaskGen) -> MaskGen
     refresh_vector(s, b, l, p, x)
 }
 
-// Lines 12 to 16 of the challenge polynomial c; g is the generator behind line 7.
-pub(crate) fn respond(work: &mut [u64], p: Params, c: [u64; 512], g: MaskGen)
+// Lines 12 to 16 of the challenge polynomial c; g is the generator behind line 7. The generator behind line 15.
+pub(crate) fn respond(work: &mut [u64], p: Params, c: [u64; 512], g: MaskGen) -> MaskGen
     requires { ⌜ ShareCount (p .shares) × (atX (p .k) (p .l) (p .shares) + p .l * 512 ≤ length (now work)) × Below q (now work) × Words 512 c ⌝ }
-    ensures { λ _. ⌜ Responded (p .k) (p .l) (p .shares) c g (now (work .entry)) (now (work .exit)) ⌝ }
+    ensures { λ r. ⌜ Responded (p .k) (p .l) (p .shares) c g r (now (work .entry)) (now (work .exit)) ⌝ }
 {
     let k = p.k;
     let l = p.l;
@@ -98,8 +96,9 @@ pub(crate) fn respond(work: &mut [u64], p: Params, c: [u64; 512], g: MaskGen)
     let a = 4 * (d * 512) + 4096;
     let b = a + l * (d * 512);
     let e = b + l * (d * 512) + k * 512;
-    let x = renew(work, a, b, p, g);
+    let x = refresh_both(work, a, b, p, g);
     respond_vector(work, a, b, c, l, d);
-    refresh_vector(work, b, l, p, x);
+    let y = refresh_vector(work, b, l, p, x);
     decode_vector(work, b, e, p);
+    y
 }

@@ -1,28 +1,27 @@
 // Signing (000, Algorithm 2; 01: checks 1 to 10, 11 within each attempt, 12), on one work buffer, laid out as specs/Attempt.antt says.
 ghost use mathlib.Core.Path.{_≡_};
 ghost use mathlib.Core.Bool.{true, false};
-ghost use mathlib.Core.List.{List};
 ghost use mathlib.Core.Option.{some};
-ghost use Prim.Native.Nat.{ℕ, _*_, _/_, _≤_};
+ghost use Prim.Native.Nat.{_≤_};
 ghost use lib.ListN.{length};
 ghost use Rattle.ring.specs.Words.{q, Below};
-ghost use Rattle.sharing.specs.Region.{span};
-ghost use Rattle.signature.specs.Attempt.{keyFrom, coinsOf, Within};
+ghost use Rattle.signature.specs.Attempt.{keyFrom, coinsOf, Within, keyIn};
 ghost use Rattle.signature.specs.Checks.{workWords};
-ghost use Rattle.signature.specs.Keygen.{atS, Small};
+ghost use Rattle.signature.specs.Keygen.{Small};
 ghost use Rattle.signature.specs.KeySizes.{Ranges};
 ghost use Rattle.signature.specs.Keys.{vkSeed, vkVector};
+ghost use Rattle.signature.specs.MaskedSteps.{matrixIn, MatrixHeld};
 ghost use Rattle.signature.specs.Matrix.{matrix};
 ghost use Rattle.signature.specs.Expanding.{Listed};
-ghost use Rattle.signature.specs.Recover.{muOf};
-ghost use Rattle.signature.specs.Sign.{answer};
+ghost use Rattle.signature.specs.Sign.{answer, signFrom};
 ghost use Rattle.signature.specs.SignCalls.{packed, expanded, publicOf, sharesOf, coinsGood, signNo, signMade, signGo, signing, leftBy, signCall};
-ghost use Rattle.signature.specs.SignSteps.{EndedAt, HeldAt, kept};
+ghost use Rattle.signature.specs.SignSteps.{publicBy, EndedAt, kept};
 ghost use Rattle.signature.specs.Table.{Tabled};
 use crate::attempt::answer;
 use crate::commit::commit;
 use crate::fields::finish;
 use crate::load::load_shares;
+use crate::matrix::expand_matrix;
 use crate::signcheck::sign_no;
 use crate::verify::bind;
 use hash::params::Edition;
@@ -31,13 +30,11 @@ use hash::params::Selected;
 use hash::params::lookup;
 use sharing::region::clear;
 
-// The end of an attempt (01: try): a signature; over the bounds or too long; a challenge, the matrix that does not fill. `endNo`
-// (specs/SignSteps.antt) gives the status of each.
+// The end of an attempt (01: try): a signature; over the bounds or too long; a challenge that does not fill.
 pub(crate) enum AttemptEnd {
     Made,
     Over,
     Stuck,
-    Unfilled,
 }
 
 // What signing answers: the status, and the attempts that it reports.
@@ -47,50 +44,94 @@ pub struct Signed {
     pub attempts: u32,
 }
 
-// Attempt number a + 1, lines 4 to 20.
+// Status and attempts, of which there are 16 at most.
+fn reported(status: u32, attempts: usize) -> Signed
+    requires { ⌜ attempts ≤ 16 ⌝ }
+    ensures { λ r. ⌜ (r .status ≡ status) × (r .attempts ≡ attempts) ⌝ }
+{
+    Signed {
+        status,
+        attempts: attempts as u32,
+    }
+}
+
+// Attempt number i + 1, lines 4 to 20, with the matrix a.
 fn attempt(
     work: &mut [u64],
     p: Params,
     vk: &[u8],
+    a: &[u64],
     mu: &[u8],
     explicit: bool,
     seeds: &[u8],
     noise: &[u64],
     mask_seeds: &[u8],
-    a: usize,
+    i: usize,
     out: &mut [u8],
 ) -> AttemptEnd
-    requires { ⌜ Tabled p × Small p × (length (now work) ≡ workWords p) × Below q (now work) ⌝ }
+    requires { ⌜ Tabled p × Small p × (length (now work) ≡ workWords p) × Below q (now work) × MatrixHeld p (now a) ⌝ }
     requires { ⌜ (length (now vk) ≡ p .«vk_bytes») × Below 125 (vkVector p (now vk)) × (length (now out) ≡ p .«sig_bytes») ⌝ }
-    requires { ⌜ Within p (coinsOf explicit (now seeds) (now noise) (now «mask_seeds»)) a ⌝ }
+    requires { ⌜ Within p (coinsOf explicit (now seeds) (now noise) (now «mask_seeds»)) i ⌝ }
     ensures { λ r. ⌜ (length (now (work .exit)) ≡ length (now (work .entry))) × Below q (now (work .exit)) ⌝ }
-    ensures { λ r. ⌜ EndedAt p (now (vk .entry)) (now (mu .entry)) (coinsOf explicit (now (seeds .entry)) (now (noise .entry)) (now («mask_seeds» .entry))) a (span (now (work .entry)) (atS (p .shares)) (p .l * (p .shares * 512))) r (span (now (work .exit)) (atS (p .shares)) (p .l * (p .shares * 512))) (now (out .entry)) (now (out .exit)) ⌝ }
-    ensures { λ r. ⌜ HeldAt p (now (vk .entry)) (now (mu .entry)) (coinsOf explicit (now (seeds .entry)) (now (noise .entry)) (now («mask_seeds» .entry))) a (span (now (work .entry)) (atS (p .shares)) (p .l * (p .shares * 512))) r (now (work .exit)) ⌝ }
+    ensures { λ r. ⌜ EndedAt p (publicBy p (now (vk .entry)) (now (mu .entry)) (matrixIn p (now (a .entry)))) (coinsOf explicit (now (seeds .entry)) (now (noise .entry)) (now («mask_seeds» .entry))) i (keyIn p (now (work .entry))) r (now (out .entry)) (now (out .exit)) (now (work .exit)) ⌝ }
 {
-    let n = p.kappa / 8;
     let b = p.kappa / 4;
     let mut hash = [0u8; 64];
-    let x = commit(work, p, &vk[0..n], explicit, seeds, noise, mask_seeds, a);
-    if !x.ok {
-        return AttemptEnd::Unfilled;
-    }
-    let c = answer(work, p, mu, &mut hash[0..b], x.next);
+    let g = commit(work, p, a, explicit, seeds, noise, mask_seeds, i);
+    let c = answer(work, p, mu, &mut hash[0..b], g);
     if !c.ok {
         return AttemptEnd::Stuck;
     }
     let f = c.poly;
-    if finish(work, p, vk, &hash[0..b], f, out) {
+    if finish(work, p, vk, a, &hash[0..b], f, out) {
         return AttemptEnd::Made;
     }
     AttemptEnd::Over
 }
 
-// Up to n attempts, in the order of their seeds or noise: checks 10 (the matrix), 11 and 12.
+// Up to n attempts, in the order of their seeds or noise: checks 11 and 12.
 fn attempt_all(
     work: &mut [u64],
     p: Params,
     vk: &[u8],
+    a: &[u64],
     mu: &[u8],
+    explicit: bool,
+    seeds: &[u8],
+    noise: &[u64],
+    mask_seeds: &[u8],
+    n: usize,
+    out: &mut [u8],
+) -> Signed
+    requires { ⌜ Tabled p × Small p × (length (now work) ≡ workWords p) × Below q (now work) × MatrixHeld p (now a) ⌝ }
+    requires { ⌜ (length (now vk) ≡ p .«vk_bytes») × Below 125 (vkVector p (now vk)) × (length (now out) ≡ p .«sig_bytes») ⌝ }
+    requires { ⌜ (n ≤ 16) × (coinsGood p n (coinsOf explicit (now seeds) (now noise) (now «mask_seeds»)) ≡ true) ⌝ }
+    ensures { λ r. ⌜ length (now (work .exit)) ≡ length (now (work .entry)) ⌝ }
+    ensures { λ r. ⌜ answer (r .status) (r .attempts) (now (out .exit)) ≡ kept (signFrom p (publicBy p (now (vk .entry)) (now (mu .entry)) (matrixIn p (now (a .entry)))) (coinsOf explicit (now (seeds .entry)) (now (noise .entry)) (now («mask_seeds» .entry))) n 0 (keyIn p (now (work .entry)))) (now (out .entry)) ⌝ }
+{
+    let mut i: usize = 0;
+    while i < n {
+        match attempt(work, p, vk, a, mu, explicit, seeds, noise, mask_seeds, i, out) {
+            AttemptEnd::Made => {
+                return reported(0, i + 1);
+            }
+            AttemptEnd::Over => {
+                i += 1;
+            }
+            AttemptEnd::Stuck => {
+                return reported(11, i + 1);
+            }
+        }
+    }
+    reported(12, i)
+}
+
+// Lines 2 to 20, the key's shares being in the work buffer: check 10 of the matrix, which is made once for all attempts, then the attempts.
+fn sign_loaded(
+    work: &mut [u64],
+    p: Params,
+    vk: &[u8],
+    message: &[u8],
     explicit: bool,
     seeds: &[u8],
     noise: &[u64],
@@ -100,43 +141,34 @@ fn attempt_all(
 ) -> Signed
     requires { ⌜ Tabled p × Small p × (length (now work) ≡ workWords p) × Below q (now work) ⌝ }
     requires { ⌜ (length (now vk) ≡ p .«vk_bytes») × Below 125 (vkVector p (now vk)) × (length (now out) ≡ p .«sig_bytes») ⌝ }
-    requires { ⌜ (1 ≤ n) × (n ≤ 16) × (coinsGood p n (coinsOf explicit (now seeds) (now noise) (now «mask_seeds»)) ≡ true) ⌝ }
+    requires { ⌜ (n ≤ 16) × (coinsGood p n (coinsOf explicit (now seeds) (now noise) (now «mask_seeds»)) ≡ true) ⌝ }
     ensures { λ r. ⌜ length (now (work .exit)) ≡ length (now (work .entry)) ⌝ }
-    ensures { λ r. ⌜ ((msg : List ℕ) → now (mu .entry) ≡ muOf p (now (vk .entry)) msg → answer (r .status) (r .attempts) (now (out .exit)) ≡ kept (signMade p (now (vk .entry)) msg (coinsOf explicit (now (seeds .entry)) (now (noise .entry)) (now («mask_seeds» .entry))) n (matrix p (vkSeed p (now (vk .entry)))) (some (span (now (work .entry)) (atS (p .shares)) (p .l * (p .shares * 512))))) (now (out .entry))) ⌝ }
+    ensures { λ r. ⌜ answer (r .status) (r .attempts) (now (out .exit)) ≡ kept (signMade p (now (vk .entry)) (now (message .entry)) (coinsOf explicit (now (seeds .entry)) (now (noise .entry)) (now («mask_seeds» .entry))) n (matrix p (vkSeed p (now (vk .entry)))) (some (keyIn p (now (work .entry))))) (now (out .entry)) ⌝ }
 {
-    let mut a: usize = 0;
-    while a < n {
-        match attempt(work, p, vk, mu, explicit, seeds, noise, mask_seeds, a, out) {
-            AttemptEnd::Made => {
-                return Signed {
-                    status: 0,
-                    attempts: (a + 1) as u32,
-                };
-            }
-            AttemptEnd::Over => {
-                a += 1;
-            }
-            AttemptEnd::Stuck => {
-                return Signed {
-                    status: 11,
-                    attempts: (a + 1) as u32,
-                };
-            }
-            AttemptEnd::Unfilled => {
-                return Signed {
-                    status: 10,
-                    attempts: 0,
-                };
-            }
-        }
+    let e = p.kappa / 8;
+    let b = p.kappa / 4;
+    let mut mu = [0u8; 64];
+    let mut a = [0u64; 32256];
+    if !expand_matrix(&mut a, &vk[0..e], p.k, p.l) {
+        return reported(10, 0);
     }
-    Signed {
-        status: 12,
-        attempts: a as u32,
-    }
+    bind(vk, message, &mut mu[0..b]);
+    attempt_all(
+        work,
+        p,
+        vk,
+        &a,
+        &mu[0..b],
+        explicit,
+        seeds,
+        noise,
+        mask_seeds,
+        n,
+        out,
+    )
 }
 
-// Signing behind its checks: check 10 (the share seeds), line 3, the attempts. The work buffer is zero afterwards.
+// Signing behind checks 1 to 9: check 10 of the share seeds, then the rest. The work buffer is zero afterwards.
 fn sign_with(
     p: Params,
     packed: bool,
@@ -156,21 +188,15 @@ fn sign_with(
     ensures { λ r. ⌜ signing (r .status) (r .attempts) (now (out .exit)) (now (work .exit)) ≡ leftBy (signMade p (publicOf p (keyFrom packed (now (key .entry)) (now (words .entry)))) (now (message .entry)) (coinsOf explicit (now (seeds .entry)) (now (noise .entry)) (now («mask_seeds» .entry))) n (matrix p (vkSeed p (publicOf p (keyFrom packed (now (key .entry)) (now (words .entry)))))) (sharesOf p (keyFrom packed (now (key .entry)) (now (words .entry))))) (now (out .entry)) (now (work .entry)) ⌝ }
 {
     let e = p.vk_bytes;
-    let b = p.kappa / 4;
-    let mut mu = [0u8; 64];
     if !load_shares(work, p, packed, key, words) {
         clear(work);
-        return Signed {
-            status: 10,
-            attempts: 0,
-        };
+        return reported(10, 0);
     }
-    bind(&key[0..e], message, &mut mu[0..b]);
-    let r = attempt_all(
+    let r = sign_loaded(
         work,
         p,
         &key[0..e],
-        &mu[0..b],
+        message,
         explicit,
         seeds,
         noise,

@@ -3,7 +3,7 @@ ghost use Prim.Native.Nat.{_+_, _*_, _≤_};
 ghost use lib.ListN.{length};
 ghost use Rattle.ring.specs.Words.{q, Below};
 ghost use Rattle.sharing.specs.Region.{span, Wrote};
-ghost use Rattle.signature.specs.Masked.{transformed, untransformed};
+ghost use Rattle.signature.specs.MaskedSteps.{transformed, untransformed};
 use ring::poly::intt;
 use ring::poly::ntt;
 use sharing::region::load;

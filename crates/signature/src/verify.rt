@@ -13,9 +13,10 @@ ghost use Rattle.signature.specs.Answers.{fieldsOf};
 ghost use Rattle.signature.specs.Checks.{ask, sameBytes, properForm};
 ghost use Rattle.signature.specs.Form.{read, hashBytes};
 ghost use Rattle.signature.specs.Keys.{vkSeed, vkVector};
-ghost use Rattle.signature.specs.Masked.{transformed};
+ghost use Rattle.signature.specs.MaskedSteps.{transformed};
 ghost use Rattle.signature.specs.Matrix.{matrix, matrixOf, filled};
-ghost use Rattle.signature.specs.Recover.{recovered, adjusted, adjustedRows, boundTo};
+ghost use Rattle.signature.specs.Recover.{recovered, adjusted, boundTo};
+ghost use Rattle.signature.specs.RecoverSteps.{adjustedRows};
 ghost use Rattle.signature.specs.Table.{Tabled};
 ghost use Rattle.signature.specs.Verify.{verifyMatrix, verifyFields, verifyOf, verifyCall};
 use crate::bits::unpack;
@@ -26,6 +27,7 @@ use crate::challenge::hash_two;
 use crate::form::read;
 use crate::int::Q;
 use crate::keys::public_key_good;
+use crate::matrix::expand_row;
 use crate::recover::recover_row;
 use crate::residues::adjust;
 use crate::residues::residues_into;
@@ -58,14 +60,16 @@ fn adjust_rows(
     ensures { λ r. ⌜ r ≡ filled (matrixOf k l (now (seed .entry))) ⌝ }
     ensures { λ r. ⌜ (r ≡ true → now (w .exit) ≡ adjustedRows k l (now (seed .entry)) (span (now (s .entry)) 512 (l * 512)) c (now (t .entry)) (now (hint .entry))) ⌝ }
 {
+    let mut a = [0u64; 3584];
     for i in 0..k {
-        let a = i * 512;
-        let e = a + 512;
-        if !recover_row(s, 0, 512, seed, i, l, c, load(t, a)) {
+        let b = i * 512;
+        let e = b + 512;
+        if !expand_row(&mut a, 0, seed, i, l) {
             return false;
         }
+        recover_row(s, 0, 512, &a, 0, l, c, load(t, b));
         let y = round_w(load(s, 0));
-        adjust(y, &hint[a..e], &mut w[a..e]);
+        adjust(y, &hint[b..e], &mut w[b..e]);
     }
     true
 }

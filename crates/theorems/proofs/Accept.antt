@@ -152,12 +152,12 @@ module _ (p r : Params) (h : setOf p ≡ setOf r) (vk msg A : List ℕ) (eA : ma
   attempt-good : (N : Noise) (g : MaskGen) (s b : List ℕ) → attempted p (publicFor p vk msg A) N g s ≡ made b → Good r vk msg A eA b
   unfolding attempted
   attempt-good N g s b e =
-      let w : List ℕ = totals (p .k) (p .shares) (maskedImage p N g A) in
-      let z : List ℕ → List ℕ = λ (c : List ℕ). totals (p .l) (p .shares) (refreshedResponse p N g s c) in
-      concluded-good r vk msg A eA (totals (p .k) (p .shares) (maskedImage p N g A)) (λ (c : List ℕ). totals (p .l) (p .shares) (refreshedResponse p N g s c))
-      (totals-words (p .k) (p .shares) (maskedImage p N g A) .long ∙ ap (λ (n : ℕ). n * 512) (k-same p r h))
-      (λ (c : List ℕ). subst (λ (n : ℕ). Words (n * 512) (totals (p .l) (p .shares) (refreshedResponse p N g s c))) (l-same p r h)
-      (totals-words (p .l) (p .shares) (refreshedResponse p N g s c)))
+      let w : List ℕ = totals (p .k) (p .shares) (maskedImage p N g A .shares) in
+      let z : List ℕ → List ℕ = λ (c : List ℕ). totals (p .l) (p .shares) (refreshedResponse p N g A s c .shares) in
+      concluded-good r vk msg A eA (totals (p .k) (p .shares) (maskedImage p N g A .shares)) (λ (c : List ℕ). totals (p .l) (p .shares) (refreshedResponse p N g A s c .shares))
+      (totals-words (p .k) (p .shares) (maskedImage p N g A .shares) .long ∙ ap (λ (n : ℕ). n * 512) (k-same p r h))
+      (λ (c : List ℕ). subst (λ (n : ℕ). Words (n * 512) (totals (p .l) (p .shares) (refreshedResponse p N g A s c .shares))) (l-same p r h)
+      (totals-words (p .l) (p .shares) (refreshedResponse p N g A s c .shares)))
       b
       (ap (λ (X : Public). concluded r X w z) (sym (public-same p r h vk msg A)) ∙ sym (concluded-same p r h (publicFor p vk msg A) w z) ∙ e)
 
@@ -173,6 +173,6 @@ module _ (p r : Params) (h : setOf p ≡ setOf r) (vk msg A : List ℕ) (eA : ma
   from-good T zero a s e = absurd (omega arith)
   from-good T (suc left) a s e =
       ended-good a (attempted p (publicFor p vk msg A) (noiseAt p T a) (maskAt T a) s)
-      (signFrom p (publicFor p vk msg A) T left (suc a) (refreshedKey p (noiseAt p T a) (maskAt T a) s))
+      (signFrom p (publicFor p vk msg A) T left (suc a) (refreshedKey p (noiseAt p T a) (maskAt T a) A s .shares))
       (attempt-good (noiseAt p T a) (maskAt T a) s)
-      (from-good T left (suc a) (refreshedKey p (noiseAt p T a) (maskAt T a) s)) e
+      (from-good T left (suc a) (refreshedKey p (noiseAt p T a) (maskAt T a) A s .shares)) e

@@ -18,7 +18,7 @@ use Rattle.sharing.proofs.Carry.{mask-low}
 use Rattle.sharing.proofs.Decode.{words-sum, sum-ext, linear-sum, linear-then, total-linear, totals-build, block-totals}
 use Rattle.sharing.proofs.Lists.{block-words, block-build, build-ext, words-build}
 use Rattle.sharing.proofs.Totals.{each-words, each-total, zeroAt-total, refreshed-words, refreshed-totals, noise-words, noise-totals, zeroVector-words, zeroVector-block}
-use Rattle.signature.specs.Masked.{Noise, maskedRow, maskedProduct, maskedNoise, beforeProduct, behindProduct, maskedImage}
+use Rattle.signature.specs.Masked.{Noise, maskedRow, maskedProduct, maskedNoise, maskedImage}
 use Rattle.signature.specs.Recover.{productRow}
 use Rattle.signature.specs.Sign.{Public, Coins, concluded, maskedResponse, refreshedKey, refreshedNoise, refreshedResponse, attempted, noiseAt, maskAt, signFrom}
 use Rattle.theorems.specs.Plain.{noiseTotal, totalsOf, plainCommitment, plainResponse, plainAttempt, plainFrom}
@@ -61,8 +61,8 @@ through : (c : List ℕ) → Linear 512 512 (λ (x : List ℕ). mul c (intt x))
 through c = linear-then intt-linear (mul-linear c)
 
 -- of the sums s and r
-abbrev answered : ℕ → List ℕ → List ℕ → List ℕ → List ℕ
-answered l c s r = build l (λ (i : ℕ). addW (mul c (intt (block 512 i s))) (block 512 i r))
+abbrev summedResponse : ℕ → List ℕ → List ℕ → List ℕ → List ℕ
+summedResponse l c s r = build l (λ (i : ℕ). addW (mul c (intt (block 512 i s))) (block 512 i r))
 
 module _ (d l : ℕ) (c s r : List ℕ) (ws : Words (l * (d * 512)) s) (wr : Words (l * (d * 512)) r) where
   abbrev one : ℕ → List ℕ
@@ -77,7 +77,7 @@ module _ (d l : ℕ) (c s r : List ℕ) (ws : Words (l * (d * 512)) s) (wr : Wor
   unfolding maskedResponse
   response-words = words-build l one one-words
 
-  response-totals : totals l d (maskedResponse d l c s r) ≡ answered l c (totals l d s) (totals l d r)
+  response-totals : totals l d (maskedResponse d l c s r) ≡ summedResponse l c (totals l d s) (totals l d r)
   unfolding maskedResponse
   response-totals =
       totals-build l d one (λ (i : ℕ) (h : i < l). one-words i h .long)
@@ -113,11 +113,11 @@ module _ (p : Params) (power : p .shares ≡ 2 ^ orderIndex (p .shares)) where
     start-words = zeroVector-words masks mask-low d power g l
 
     -- line 5
-    r-words : Words (l * (d * 512)) (maskedNoise p N g)
+    r-words : Words (l * (d * 512)) (maskedNoise p N g .shares)
     unfolding maskedNoise
     r-words = noise-words masks mask-low d power l start start-words (skip masks d l g) (N .reps) (N .first)
 
-    r-totals : totals l d (maskedNoise p N g) ≡ totalsOf p N .first
+    r-totals : totals l d (maskedNoise p N g .shares) ≡ totalsOf p N .first
     unfolding maskedNoise totalsOf
     r-totals =
         noise-totals masks mask-low d power l start start-words (skip masks d l g) (N .reps) (N .first) (good .first)
@@ -133,47 +133,47 @@ module _ (p : Params) (power : p .shares ≡ 2 ^ orderIndex (p .shares)) where
     second-at i h =
         block-build 512 k i (noiseTotal d (N .reps) (N .second)) (λ (j : ℕ) (m : j < k). words-sum 512 (N .reps) (λ (t : ℕ). total d (N .second j t)) .long) h
 
-    w-totals : (A : List ℕ) → totals k d (maskedImage p N g A) ≡ plainCommitment p A (totalsOf p N)
+    w-totals : (A : List ℕ) → totals k d (maskedImage p N g A .shares) ≡ plainCommitment p A (totalsOf p N)
     unfolding maskedImage plainCommitment
     w-totals A =
-        noise-totals masks mask-low d power k (maskedProduct d k l A (maskedNoise p N g)) (product-words d l A (maskedNoise p N g) r-words k)
-        (skip masks d (beforeProduct p N) g) (N .reps) (N .second) (good .second)
-        ∙ build-ext k (λ (i : ℕ). addW (total d (block (d * 512) i (maskedProduct d k l A (maskedNoise p N g)))) (noiseTotal d (N .reps) (N .second) i))
+        noise-totals masks mask-low d power k (maskedProduct d k l A (maskedNoise p N g .shares)) (product-words d l A (maskedNoise p N g .shares) r-words k)
+        (maskedNoise p N g .next) (N .reps) (N .second) (good .second)
+        ∙ build-ext k (λ (i : ℕ). addW (total d (block (d * 512) i (maskedProduct d k l A (maskedNoise p N g .shares)))) (noiseTotal d (N .reps) (N .second) i))
         (λ (i : ℕ). addW (productRow l A (totalsOf p N .first) i) (block 512 i (totalsOf p N .second)))
         (λ (i : ℕ) (h : i < k).
-        let e1 : total d (block (d * 512) i (maskedProduct d k l A (maskedNoise p N g))) ≡ productRow l A (totals l d (maskedNoise p N g)) i =
-        product-block d l A (maskedNoise p N g) r-words k i h in
+        let e1 : total d (block (d * 512) i (maskedProduct d k l A (maskedNoise p N g .shares))) ≡ productRow l A (totals l d (maskedNoise p N g .shares)) i =
+        product-block d l A (maskedNoise p N g .shares) r-words k i h in
         let e2 : block 512 i (totalsOf p N .second) ≡ noiseTotal d (N .reps) (N .second) i = second-at i h in
         cc (e1, e2, r-totals))
 
-    module _ (s : List ℕ) (ws : Words (l * (d * 512)) s) where
+    module _ (A s : List ℕ) (ws : Words (l * (d * 512)) s) where
       -- line 12
-      s-words : Words (l * (d * 512)) (refreshedKey p N g s)
+      s-words : Words (l * (d * 512)) (refreshedKey p N g A s .shares)
       unfolding refreshedKey
-      s-words = refreshed-words masks mask-low d power l s ws (skip masks d (behindProduct p N) g)
+      s-words = refreshed-words masks mask-low d power l s ws (maskedImage p N g A .next)
 
-      s-totals : totals l d (refreshedKey p N g s) ≡ totals l d s
+      s-totals : totals l d (refreshedKey p N g A s .shares) ≡ totals l d s
       unfolding refreshedKey
-      s-totals = refreshed-totals masks mask-low d power l s ws (skip masks d (behindProduct p N) g)
+      s-totals = refreshed-totals masks mask-low d power l s ws (maskedImage p N g A .next)
 
       -- line 13
-      r2-words : Words (l * (d * 512)) (refreshedNoise p N g)
+      r2-words : Words (l * (d * 512)) (refreshedNoise p N g A s .shares)
       unfolding refreshedNoise
-      r2-words = refreshed-words masks mask-low d power l (maskedNoise p N g) r-words (skip masks d (behindProduct p N + l) g)
+      r2-words = refreshed-words masks mask-low d power l (maskedNoise p N g .shares) r-words (refreshedKey p N g A s .next)
 
-      r2-totals : totals l d (refreshedNoise p N g) ≡ totalsOf p N .first
+      r2-totals : totals l d (refreshedNoise p N g A s .shares) ≡ totalsOf p N .first
       unfolding refreshedNoise
-      r2-totals = refreshed-totals masks mask-low d power l (maskedNoise p N g) r-words (skip masks d (behindProduct p N + l) g) ∙ r-totals
+      r2-totals = refreshed-totals masks mask-low d power l (maskedNoise p N g .shares) r-words (refreshedKey p N g A s .next) ∙ r-totals
 
       -- lines 14 and 15
-      z-totals : (c : List ℕ) → totals l d (refreshedResponse p N g s c) ≡ plainResponse p (totals l d s) (totalsOf p N) c
+      z-totals : (c : List ℕ) → totals l d (refreshedResponse p N g A s c .shares) ≡ plainResponse p (totals l d s) (totalsOf p N) c
       unfolding refreshedResponse plainResponse
       z-totals c =
-          refreshed-totals masks mask-low d power l (maskedResponse d l c (refreshedKey p N g s) (refreshedNoise p N g))
-          (response-words d l c (refreshedKey p N g s) (refreshedNoise p N g) s-words r2-words) (skip masks d (behindProduct p N + l + l) g)
-          ∙ response-totals d l c (refreshedKey p N g s) (refreshedNoise p N g) s-words r2-words
-          ∙ ap (λ (y : List ℕ). answered l c y (totals l d (refreshedNoise p N g))) s-totals
-          ∙ ap (answered l c (totals l d s)) r2-totals
+          refreshed-totals masks mask-low d power l (maskedResponse d l c (refreshedKey p N g A s .shares) (refreshedNoise p N g A s .shares))
+          (response-words d l c (refreshedKey p N g A s .shares) (refreshedNoise p N g A s .shares) s-words r2-words) (refreshedNoise p N g A s .next)
+          ∙ response-totals d l c (refreshedKey p N g A s .shares) (refreshedNoise p N g A s .shares) s-words r2-words
+          ∙ ap (λ (y : List ℕ). summedResponse l c y (totals l d (refreshedNoise p N g A s .shares))) s-totals
+          ∙ ap (summedResponse l c (totals l d s)) r2-totals
 
   -- ---- an attempt depends only on the commitment and on the response to each challenge polynomial
 
@@ -185,9 +185,9 @@ module _ (p : Params) (power : p .shares ≡ 2 ^ orderIndex (p .shares)) where
       → attempted p P N g s ≡ plainAttempt p P (totals l d s) (totalsOf p N)
   unfolding attempted plainAttempt
   attempt-collapses P N good g s ws =
-      concluded-ext P (totals k d (maskedImage p N g (P .matrix))) (plainCommitment p (P .matrix) (totalsOf p N))
-      (λ (c : List ℕ). totals l d (refreshedResponse p N g s c)) (plainResponse p (totals l d s) (totalsOf p N))
-      (w-totals N good g (P .matrix)) (z-totals N good g s ws)
+      concluded-ext P (totals k d (maskedImage p N g (P .matrix) .shares)) (plainCommitment p (P .matrix) (totalsOf p N))
+      (λ (c : List ℕ). totals l d (refreshedResponse p N g (P .matrix) s c .shares)) (plainResponse p (totals l d s) (totalsOf p N))
+      (w-totals N good g (P .matrix)) (z-totals N good g (P .matrix) s ws)
 
   -- all attempts: the key's shares change from one to the next, their sums do not
   pub collapse : (P : Public) (T : Coins) (left a : ℕ) → ((b : ℕ) → b < a + left → GoodNoise p (noiseAt p T b))
@@ -199,9 +199,9 @@ module _ (p : Params) (power : p .shares ≡ 2 ^ orderIndex (p .shares)) where
       let here : GoodNoise p (noiseAt p T a) = good a (omega arith) in
       let e1 : attempted p P (noiseAt p T a) (maskAt T a) s ≡ plainAttempt p P (totals l d s) (totalsOf p (noiseAt p T a)) =
       attempt-collapses P (noiseAt p T a) here (maskAt T a) s ws in
-      let e2 : signFrom p P T left (suc a) (refreshedKey p (noiseAt p T a) (maskAt T a) s)
-      ≡ plainFrom p P (λ (b : ℕ). totalsOf p (noiseAt p T b)) left (suc a) (totals l d (refreshedKey p (noiseAt p T a) (maskAt T a) s)) =
-      collapse P T left (suc a) (λ (b : ℕ) (h : b < suc a + left). good b (omega arith)) (refreshedKey p (noiseAt p T a) (maskAt T a) s)
-      (s-words (noiseAt p T a) here (maskAt T a) s ws) in
-      let e3 : totals l d (refreshedKey p (noiseAt p T a) (maskAt T a) s) ≡ totals l d s = s-totals (noiseAt p T a) here (maskAt T a) s ws in
+      let e2 : signFrom p P T left (suc a) (refreshedKey p (noiseAt p T a) (maskAt T a) (P .matrix) s .shares)
+      ≡ plainFrom p P (λ (b : ℕ). totalsOf p (noiseAt p T b)) left (suc a) (totals l d (refreshedKey p (noiseAt p T a) (maskAt T a) (P .matrix) s .shares)) =
+      collapse P T left (suc a) (λ (b : ℕ) (h : b < suc a + left). good b (omega arith)) (refreshedKey p (noiseAt p T a) (maskAt T a) (P .matrix) s .shares)
+      (s-words (noiseAt p T a) here (maskAt T a) (P .matrix) s ws) in
+      let e3 : totals l d (refreshedKey p (noiseAt p T a) (maskAt T a) (P .matrix) s .shares) ≡ totals l d s = s-totals (noiseAt p T a) here (maskAt T a) (P .matrix) s ws in
       cc (e1, e2, e3)

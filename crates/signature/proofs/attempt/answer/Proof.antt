@@ -45,7 +45,7 @@ returns-2 c =
     let W = span (b .work .now) (atT (p .l) (p .shares)) (p .k * 512) in
     let e = z .1 ∙ ap (λ (n : ℕ). shake256 (headed 104 (p .k) ++ ordered (p .edition) (roundW W) (b .mu .now)) n) (a .pre .3) in
     let v = c .before .before .respond .ensures in
-    ((v .long ∙ z .0 .long, v .low), λ N h A s u. answer-made p N h (b .g) A (b .mu .now) s (b .work .now) _ _ _ u (z .0) e (z .2) (count-power (p .shares) (a .pre .0 .count)) _ _ (not-false _ (c .before .before .before .before .before .before .if1 .left)) (c .before .before .before .before .from-signed .ensures .0) v)
+    ((v .long ∙ z .0 .long, v .low), λ N h A s u. answer-made p N h (b .g) A (b .mu .now) s (b .work .now) _ _ _ u (z .0) e (z .2) (count-power (p .shares) (a .pre .0 .count)) _ _ _ (not-false _ (c .before .before .before .before .before .before .if1 .left)) (c .before .before .before .before .from-signed .ensures .0) v)
 
 pub answer-spec : {M : Type 1} → statement M
 answer-spec =

@@ -3,9 +3,9 @@ use Prim.Native.Nat.{_*_, _/_}
 use native.Mathlib.Omega.{arith}
 use lib.ListN.{length}
 use Rattle.sharing.specs.Noise.{seedNoise}
-use Rattle.signature.specs.Masked.{seeded, maskedNoise}
+use Rattle.signature.specs.Masked.{seeded}
 use Rattle.hash.proofs.Rows.{count-power}
-use Rattle.signature.proofs.Commits.{commit-begun, commit-made}
+use Rattle.signature.proofs.Commits.{commit-made}
 use Rattle.signature.proofs.Sizes.{fits-low, part-all, first-low, room, coins-first, coins-second}
 use borrow.Author.Needs.{needs}
 use Rattle.signature.proofs.commit.commit_seeds.Statement.{statement}
@@ -58,21 +58,19 @@ image-seeds-requires c κs =
     let r = room p h (length (b .work .now)) (a .pre .1) .1 in
     let u = c .before .before .before .before .noise-seeds .ensures .0 in
     let n = u .long in
-    ((h, h .uw-pos, omega (arith, h .uw-low), coins-second p h (b .coins .now) (a .pre .3)), (omega arith, omega arith, omega arith, omega (arith, r, n), u .low))
+    ((h, h .uw-pos, omega (arith, h .uw-low), coins-second p h (b .coins .now) (a .pre .3), a .pre .4), (omega arith, omega arith, omega arith, omega (arith, r, n), u .low))
 
 returns : tie.Need-returns
-unfolding maskedNoise seeded
+unfolding seeded
 returns c =
     let a = c .before .before .before .before .before .before .before .before .before .before .before .before .before in
     let b = a .args in
     let p = b .p in
     let u = c .before .before .before .before .before .before .before .noise-seeds .ensures in
     let z = c .before .before .image-seeds .ensures in
-    let N = seeded p (p .uw) (b .coins .now) in
     let f = ap (seedNoise (p .shares) (p .rep) (p .uw) (p .kappa / 8)) (part-all (p .l * p .rep * p .shares * (p .kappa / 8)) (b .coins .now)) in
-    let w = b .work .now in
     let d = count-power (p .shares) (a .pre .0 .count) in
-    ((z .0 .0, z .0 .1 ∙ u .0 .long, z .0 .2, commit-begun p N (b .g) (b .g) w _ _ (u .0) (z .0 .3)), λ A m. commit-made p N (b .g) _ w _ _ (u .0) d (u .1) _ f (b .seed .now) A _ m (z .1 A m .0) (z .1 A m .1))
+    (z .0 .sums .long ∙ u .0 .long, z .0 .sums .low, commit-made p (seeded p (p .uw) (b .coins .now)) (b .g) _ (b .a .now) (b .work .now) _ _ d (a .pre .4) (u .0) (u .1) _ f _ (z .0) (z .1))
 
 pub commit-seeds-spec : {M : Type 1} → statement M
 commit-seeds-spec =

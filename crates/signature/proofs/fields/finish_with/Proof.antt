@@ -1,19 +1,18 @@
+use Rattle.signature.specs.MaskedSteps.{matrixIn}
 use mathlib.Core.Path.{_≡_, sym, ap, subst, _∙_}
 use mathlib.Core.List.{List}
 use Prim.Native.Nat.{ℕ, _+_, _-_, _*_, _^_, _<_}
 use native.Mathlib.Omega.{arith}
 use lib.Dec.{lit<}
 use lib.ListN.{length, take, drop}
-use borrow.Author.Tests.{not-true, not-false}
 use Rattle.ring.specs.Words.{q, Below}
 use Rattle.ring.specs.Round.{residues}
-use Rattle.ring.specs.Uniform.{heldOf}
 use Rattle.sharing.specs.Region.{span}
 use Rattle.sharing.proofs.Regions.{length-span, span-words}
 use Rattle.signature.specs.Answers.{FinishedAs}
 use Rattle.signature.specs.Form.{Fields}
 use Rattle.signature.specs.Keygen.{atT, atX}
-use Rattle.signature.specs.Keys.{vkSeed, vkVector}
+use Rattle.signature.specs.Keys.{vkVector}
 use Rattle.signature.specs.Matrix.{matrix}
 use Rattle.signature.specs.Recover.{centredAll, recovered}
 use Rattle.signature.specs.Sign.{finished}
@@ -21,12 +20,11 @@ use Rattle.signature.proofs.Finished.{hint-small, hint-length, response
 use Rattle.signature.proofs.Sizes.{room}
 use borrow.Author.Needs.{needs}
 use Rattle.signature.proofs.fields.finish_with.Statement.{statement}
-use Rattle.ring.proofs.Checks.{absurd-bool}
-use Rattle.ring.proofs.Filled.{filled-some}
 use Rattle.signature.proofs.fields.finish_with.Tie as tie
 
 centred-into-requires : tie.Need-centred-into-requires
-centred-into-requires c κs = let a = c .before .before .before .before .before .before .before in
+centred-into-requires c κs =
+    let a = c .before .before .before .before .before .before .before .before in
     let b = a .args in
     let p = b .p in
     let x = atX (p .k) (p .l) (p .shares) in
@@ -35,12 +33,9 @@ centred-into-requires c κs = let a = c .before .before .before .before .before 
     subst (λ (j : ℕ). (length (b .z .now) ≡ length (take j (drop x (b .work .now)))) × Below q (take j (drop x (b .work .now))) × (0 < q) × (q < 2 ^ 62)) e
     (a .pre .1 .1 .1 ∙ sym (w .long), w .low, lit< tt, lit< tt)
 
-returns : tie.Need-returns
-returns c = let a = c .before .before .before .before .before .before .before .before .before .before .before .before .before .before .before .before in
-    absurd-bool (sym (a .pre .1 .0 .2) ∙ sym (c .before .before .before .before .make-hint .ensures .0 .0) ∙ not-true _ (c .if1 .taken))
-
 write-fields-requires : tie.Need-write-fields-requires
-write-fields-requires c κs = let a = c .before .before .before .before .before .before .before .before .before .before .before .before .before .before .before .before .before .before .before in
+write-fields-requires c κs =
+    let a = c .before .before .before .before .before .before .before .before .before .before .before .before .before .before .before .before .before .before .before in
     let b = a .args in
     let p = b .p in
     let T = a .pre .0 .0 in
@@ -48,30 +43,30 @@ write-fields-requires c κs = let a = c .before .before .before .before .before 
     let x = atX (p .k) (p .l) (p .shares) in
     let z = span-words (b .work .now) x (p .l * 512) (R .2) (a .pre .0 .3) in
     let e : x + p .l * 512 - x ≡ p .l * 512 = omega arith in
-    let f = c .before .before .before .before .before .before .before .before .before .before .before .centred-into .ensures ∙ ap (λ (j : ℕ). centredAll q (take j (drop x (b .work .now)))) e in
-    let M = matrix p (vkSeed p (b .vk .now)) in
+    let f = c .before .before .before .before .before .before .before .before .before .before .centred-into .ensures ∙ ap (λ (j : ℕ). centredAll q (take j (drop x (b .work .now)))) e in
     let v = span (b .work .now) x (p .l * 512) in
-    let y = recovered p (heldOf M .poly) v (residues q (b .c)) (vkVector p (b .vk .now)) in
+    let y = recovered p (matrixIn p (b .a .now)) v (residues q (b .c)) (vkVector p (b .vk .now)) in
     let w = span (b .work .now) (atT (p .l) (p .shares)) (p .k * 512) in
-    let h = c .before .before .before .before .before .before .before .make-hint .ensures .1 .1 (heldOf M .poly) (filled-some M (a .pre .1 .0 .2)) in (
+    let h = c .before .before .before .before .before .before .make-hint .ensures .1 in (
       (T, a .pre .1 .0 .3, omega (arith, hint-length w y h, length-span (b .work .now) (atT (p .l) (p .shares)) (p .k * 512) (R .1), T .rows-low), omega (arith, response-length v f, z .long, T .columns-low), a .pre .1 .1 .2),
       (hint-small w y h (a .pre .0 .4), response-small v f (z .low)),
     )
 
-returns-2 : tie.Need-returns-2
-returns-2 c = let a = c .before .before .before .before .before .before .before .before .before .before .before .before .before .before .before .before .before .before .before .before .before .before in
+returns : tie.Need-returns
+returns c =
+    let a = c .before .before .before .before .before .before .before .before .before .before .before .before .before .before .before .before .before .before .before .before .before .before in
     let b = a .args in
     let p = b .p in
     let x = atX (p .k) (p .l) (p .shares) in
     let e : x + p .l * 512 - x ≡ p .l * 512 = omega arith in
-    let f = c .before .before .before .before .before .before .before .before .before .before .before .before .before .before .centred-into .ensures ∙ ap (λ (j : ℕ). centredAll q (take j (drop x (b .work .now)))) e in
-    let m = c .before .before .before .before .before .before .before .before .before .before .make-hint .ensures in
-    let k = m .1 .0 (not-false _ (c .before .before .before .before .before .before .if1 .left)) in (
-      (m .0 .1, m .0 .2, k .0, k .1),
-      (λ (A mu : List ℕ) g.
-          subst (λ (y : Fields). FinishedAs (finished p y) (c .before .before .write-fields .result) (b .out .now) (c .before .before .write-fields .last .1 .1 .1 .1 .0))
-          (fields-are p (record { matrix = A; vector = vkVector p (b .vk .now); mu = mu }) (span (b .work .now) (atT (p .l) (p .shares)) (p .k * 512)) (b .hash .now) (span (b .work .now) x (p .l * 512)) (b .c) _ _ (m .1 .1 A g) f)
-          (c .before .before .write-fields .ensures)),
+    let f = c .before .before .before .before .before .before .before .before .before .before .before .before .before .centred-into .ensures ∙ ap (λ (j : ℕ). centredAll q (take j (drop x (b .work .now)))) e in
+    let m = c .before .before .before .before .before .before .before .before .before .make-hint .ensures in
+    let w = c .before .before .write-fields in (
+      m .0,
+      λ (mu : List ℕ).
+          subst (λ (y : Fields). FinishedAs (finished p y) (w .result) (b .out .now) (w .last .1 .1 .1 .1 .0))
+          (fields-are p (record { matrix = matrixIn p (b .a .now); vector = vkVector p (b .vk .now); mu = mu }) (span (b .work .now) (atT (p .l) (p .shares)) (p .k * 512)) (b .hash .now) (span (b .work .now) x (p .l * 512)) (b .c) _ _ (m .1) f)
+          (w .ensures),
     )
 
 pub finish-with-spec : {M : Type 1} → statement M
@@ -80,5 +75,4 @@ finish-with-spec =
     (λ c. search needs) (λ c. search needs) (λ c. search needs) (λ c. search needs) (λ c. search needs)
     (λ c. search needs) (λ c. search needs) (λ c. search needs) (λ c. search needs) (λ c. search needs)
     (λ c. search needs) (λ c. search needs) (λ c. search needs) centred-into-requires (λ c κs. search needs)
-    (λ c. search needs) (λ c. search needs) (λ c. search needs) returns write-fields-requires (λ c. search needs)
-    (λ c. search needs) (λ c. search needs) (λ c. search needs) returns-2)
+    write-fields-requires (λ c. search needs) (λ c. search needs) (λ c. search needs) (λ c. search needs) returns)

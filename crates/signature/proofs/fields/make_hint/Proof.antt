@@ -1,6 +1,5 @@
 use mathlib.Core.Path.{_≡_, sym, ap, subst, _∙_}
 use mathlib.Core.List.{List}
-use mathlib.Core.Option.{some}
 use Prim.Native.Nat.{ℕ, _+_, _-_, _*_, _/_}
 use native.Mathlib.Omega.{arith}
 use lib.ListN.{length, take, drop, replicate}
@@ -11,27 +10,26 @@ use Rattle.sharing.specs.Region.{span}
 use Rattle.sharing.proofs.Regions.{length-span, span-words, kept-front, kept-behind, kept-then, kept-less}
 use Rattle.signature.specs.Bits.{repack}
 use Rattle.signature.specs.Keygen.{atT, atX}
-use Rattle.signature.specs.Keys.{vkSeed, vkVector}
-use Rattle.signature.specs.Matrix.{matrix, matrixOf, filled}
+use Rattle.signature.specs.Keys.{vkVector}
 use Rattle.signature.proofs.Fronts.{unpacked-in, unpacked-is}
 use Rattle.signature.proofs.Hints.{hint-all, hint-parts}
 use Rattle.signature.proofs.Packing.{length-repack}
 use Rattle.signature.proofs.Sizes.{room}
 use borrow.Author.Needs.{needs}
 use Rattle.signature.proofs.fields.make_hint.Statement.{statement}
-use Rattle.ring.proofs.Filled.{some-filled}
 use Rattle.signature.proofs.fields.make_hint.Tie as tie
 
 ntt-to-requires : tie.Need-ntt-to-requires
 ntt-to-requires c κs =
-    let a = c .before .before .before .before .before .before .before .before in
+    let a = c .before .before .before .before .before .before .before .before .before in
     let R = room (a .args .p) (a .pre .0 .1) (length (a .args .work .now)) (a .pre .0 .2) .2 in
     (omega (arith, a .pre .0 .1 .columns-low), R, a .pre .0 .3)
 
-part-hint-rows-end-2 : tie.Need-part-hint-rows-end-2
-part-hint-rows-end-2 c =
+part-hint-rows-end : tie.Need-part-hint-rows-end
+part-hint-rows-end c =
     let a = c .before .before .before .before .before .before .before .before .before .before .before .before .before .before .before .before in
-    unpacked-in 7 (a .args .p .k * 512) (replicate 4608 0) (c .before .before .before .before .before .before .before .before .before .before .unpack .last .1 .1 .0) _ (omega (arith, a .pre .0 .0 .rows-low)) (c .before .before .before .before .before .before .before .before .before .before .unpack .ensures)
+    let u = c .before .before .before .before .before .before .before .before .before .unpack in
+    unpacked-in 7 (a .args .p .k * 512) (replicate 4608 0) (u .last .1 .1 .0) _ (omega (arith, a .pre .0 .0 .rows-low)) (u .ensures)
 
 hint-rows-requires : tie.Need-hint-rows-requires
 unfolding vkVector
@@ -42,18 +40,22 @@ hint-rows-requires c κs =
     let S = a .pre .0 .1 in
     let R = room p S (length (a .args .work .now)) (a .pre .0 .2) in
     let r = S .columns-low in
+    let x = c .before .before .before .before .before .before .before .before .before .before .before .unpack in
     let m : p .kappa / 8 + p .k * 448 - p .kappa / 8 ≡ p .k * 448 = omega arith in
-    let t = unpacked-is 7 (p .k * 512) (replicate 4608 0) (c .before .before .before .before .before .before .before .before .before .before .before .before .unpack .last .1 .1 .0) _ (omega (arith, T .rows-low)) (c .before .before .before .before .before .before .before .before .before .before .before .before .unpack .ensures)
+    let t = unpacked-is 7 (p .k * 512) (replicate 4608 0) (x .last .1 .1 .0) _ (omega (arith, T .rows-low)) (x .ensures)
     ∙ ap (λ (j : ℕ). repack 8 7 (p .k * 512) (take j (drop (p .kappa / 8) (a .args .vk .now)))) m in
-    let u = c .before .before .before .before .before .before .before .before .before .ntt-to .ensures in
+    let u = c .before .before .before .before .before .before .before .before .ntt-to .ensures in
     let n = u .long in
     let w = u .behind (atT (p .l) (p .shares)) (p .k * 512) (omega arith) (omega (arith, r)) in (
       (omega arith, omega arith, omega (arith, n, r, R .0), omega (arith, n, R .1), u .low),
-      (T .rows-low, T .columns-low, c .before .before .before .before .before .ntt .ensures .1, ap (λ (l : List ℕ). length l) t ∙ length-repack 8 7 (p .k * 512) _, subst (Below 125) (sym t) (a .pre .1 .1), subst (Below 31) (sym w) (a .pre .0 .4), a .pre .1 .2),
+      (
+        (T .rows-low, T .columns-low, c .before .before .before .before .ntt .ensures .1, ap (λ (l : List ℕ). length l) t ∙ length-repack 8 7 (p .k * 512) _, subst (Below 125) (sym t) (a .pre .1 .1), subst (Below 31) (sym w) (a .pre .0 .4), a .pre .1 .3),
+        a .pre .1 .2,
+      ),
     )
 
 returns : tie.Need-returns
-unfolding vkVector vkSeed
+unfolding vkVector
 returns c =
     let a = c .before .before .before .before .before .before .before .before .before .before .before .before .before .before .before .before .before .before .before .before .before .before in
     let b = a .args in
@@ -65,33 +67,27 @@ returns c =
     let k = p .k in
     let l = p .l in
     let d = p .shares in
-    let seed : List ℕ = take (p .kappa / 8) (b .vk .now) in
     let z = span (b .work .now) (atX k l d) (l * 512) in
     let w = span (b .work .now) (atT l d) (k * 512) in
     let x = residues q (b .c) in
+    let v = c .before .before .before .before .before .before .before .before .before .before .before .before .before .before .before .unpack in
     let m : p .kappa / 8 + p .k * 448 - p .kappa / 8 ≡ p .k * 448 = omega arith in
-    let n : p .kappa / 8 - 0 ≡ p .kappa / 8 = omega arith in
-    let e = ap (λ (j : ℕ). take j (b .vk .now)) n in
-    let t = unpacked-is 7 (p .k * 512) (replicate 4608 0) (c .before .before .before .before .before .before .before .before .before .before .before .before .before .before .before .before .unpack .last .1 .1 .0) _ (omega (arith, T .rows-low)) (c .before .before .before .before .before .before .before .before .before .before .before .before .before .before .before .before .unpack .ensures)
+    let t = unpacked-is 7 (p .k * 512) (replicate 4608 0) (v .last .1 .1 .0) _ (omega (arith, T .rows-low)) (v .ensures)
     ∙ ap (λ (j : ℕ). repack 8 7 (p .k * 512) (take j (drop (p .kappa / 8) (b .vk .now)))) m in
-    let u = c .before .before .before .before .before .before .before .before .before .before .before .before .before .ntt-to .ensures in
-    let y : c .before .before .before .before .before .before .before .before .before .ntt .result ≡ ntt x = c .before .before .before .before .before .before .before .before .before .ntt .ensures .0 ∙ ap ntt (c .before .before .before .before .before .before .before .before .before .before .from-signed .ensures .0) in
-    let r = c .before .before .before .hint-rows .ensures in
-    let f = r .0 .0 ∙ ap (λ (v : List ℕ). filled (matrixOf k l v)) e in (
-      (f, r .0 .1 ∙ u .long, r .0 .2),
+    let u = c .before .before .before .before .before .before .before .before .before .before .before .before .ntt-to .ensures in
+    let s = c .before .before .before .before .before .before .before .before .before .from-signed .ensures in
+    let y : c .before .before .before .before .before .before .before .before .ntt .result ≡ ntt x = c .before .before .before .before .before .before .before .before .ntt .ensures .0 ∙ ap ntt (s .0) in
+    let r = c .before .before .before .hint-rows .ensures in (
       (
-        (λ g.
-            let K = r .1 .0 g in (
-              kept-then (kept-less (omega arith) (omega arith) (kept-front u)) (K .0),
-              kept-then (kept-less (omega (arith, o)) (omega arith) (kept-behind (length (b .work .now)) (omega arith) u))
-                  (kept-less (omega arith) (omega (arith, u .long)) (K .1)),
-            )),
-        (λ (A : List ℕ) (g : matrix p seed ≡ some A).
-            r .1 .1 (f ∙ some-filled (matrix p seed) A g)
-            ∙ hint-parts k l e (u .new) y t (u .behind (atT l d) (k * 512) (omega arith) (omega (arith, o)))
-            ∙ hint-all p seed A z x (vkVector p (b .vk .now)) w g (span-words (b .work .now) (atX k l d) (l * 512) (R .2) (a .pre .0 .3))
-            (subst (Words 512) (c .before .before .before .before .before .before .before .before .before .before .from-signed .ensures .0) (c .before .before .before .before .before .before .before .before .before .before .from-signed .ensures .1)) (length-repack 8 7 (p .k * 512) _) (length-span (b .work .now) (atT l d) (k * 512) (R .1))),
+        r .0 .0 ∙ u .long,
+        r .0 .1,
+        kept-then (kept-less (omega arith) (omega arith) (kept-front u)) (r .0 .2),
+        kept-then (kept-less (omega (arith, o)) (omega arith) (kept-behind (length (b .work .now)) (omega arith) u))
+            (kept-less (omega arith) (omega (arith, u .long)) (r .0 .3)),
       ),
+      r .1 ∙ hint-parts k l (b .a .now) (u .new) y t (u .behind (atT l d) (k * 512) (omega arith) (omega (arith, o)))
+      ∙ hint-all p (b .a .now) z x (vkVector p (b .vk .now)) w (a .pre .1 .2) (span-words (b .work .now) (atX k l d) (l * 512) (R .2) (a .pre .0 .3))
+      (subst (Words 512) (s .0) (s .1)) (length-repack 8 7 (p .k * 512) _) (length-span (b .work .now) (atT l d) (k * 512) (R .1)),
     )
 
 pub make-hint-spec : {M : Type 1} → statement M
@@ -101,5 +97,5 @@ make-hint-spec =
     (λ c. search needs) (λ c. search needs) (λ c. search needs) (λ c. search needs) (λ c. search needs)
     (λ c. search needs) (λ c. search needs) (λ c. search needs) (λ c. search needs) (λ c. search needs)
     (λ c κs. search needs) (λ c. search needs) ntt-to-requires (λ c κs. search needs) (λ c κs. search needs)
-    (λ c. search needs) (λ c. search needs) (λ c. search needs) (λ c. search needs) (λ c. search needs)
-    part-hint-rows-end-2 hint-rows-requires (λ c. search needs) (λ c. search needs) returns)
+    (λ c. search needs) (λ c. search needs) part-hint-rows-end hint-rows-requires (λ c. search needs)
+    (λ c. search needs) returns)

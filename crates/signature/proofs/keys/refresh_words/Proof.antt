@@ -1,4 +1,4 @@
-use mathlib.Core.Path.{_≡_, sym, _∙_}
+use mathlib.Core.Path.{_≡_, sym, ap, _∙_}
 use Prim.Native.Nat.{ℕ, _-_, _*_, _≤_}
 use native.Mathlib.Omega.{arith}
 use lib.Dec.{lit<}
@@ -80,7 +80,8 @@ returns : tie.Need-returns Inv-loop μ-loop
 returns c =
     let l = c .before .loop in
     let a = c .before .before .before in
-    refresh-all (a .args .p .shares) (a .args .p .l) (l .i) (a .args .g) (a .args .s .now) (l .s) (omega arith) (a .pre .0 .long) (l .inv .1)
+    let e : l .i ≡ a .args .p .l = omega arith in
+    (refresh-all (a .args .p .shares) (a .args .p .l) (l .i) (a .args .g) (a .args .s .now) (l .s) e (a .pre .0 .long) (l .inv .1), l .inv .2 ∙ ap (λ n. skip masks (a .args .p .shares) n (a .args .g)) e)
 
 pub refresh-words-spec : {M : Type 1} → statement M
 refresh-words-spec =

@@ -19,7 +19,7 @@ returns c =
     let a = c .before .before .before .before .before .before .before .before .before .before .before .before .before .before .before .before .before .before .args in
     let g = ap (λ (h : MaskGen). refreshed masks (a .p .shares) h (a .p .l) (a .words .now)) (c .before .before .before .start .ensures) in (
       c .before .before .before .before .before .before .before .before .before .before .before .copy-bytes .ensures,
-      c .before .before .refresh-words .ensures ∙ ap (refreshed masks (a .p .shares) (c .before .before .before .start .result) (a .p .l)) (c .before .before .before .before .before .before .before .copy-into .ensures) ∙ g,
+      c .before .before .refresh-words .ensures .0 ∙ ap (refreshed masks (a .p .shares) (c .before .before .before .start .result) (a .p .l)) (c .before .before .before .before .before .before .before .copy-into .ensures) ∙ g,
     )
 
 pub renew-spec : {M : Type 1} → statement M

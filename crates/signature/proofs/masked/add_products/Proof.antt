@@ -3,7 +3,7 @@ use native.Mathlib.Omega.{arith}
 use Rattle.sharing.specs.Blocks.{build}
 use Rattle.sharing.specs.Region.{span, Wrote}
 use Rattle.sharing.proofs.Regions.{wrote-start, wrote-end}
-use Rattle.signature.specs.Masked.{accrued}
+use Rattle.signature.specs.MaskedSteps.{accrued}
 use Rattle.signature.proofs.Rows.{accrue-turn}
 use borrow.Author.Needs.{needs}
 use Rattle.signature.proofs.masked.add_products.Statement.{statement}

@@ -1,10 +1,7 @@
-use mathlib.Core.Path.{_≡_, ap, _∙_}
-use Prim.Native.Nat.{ℕ, _+_, _*_}
+use mathlib.Core.Path.{_∙_}
 use native.Mathlib.Omega.{arith}
-use Rattle.signature.proofs.Masking.{noise-made, skip-two}
-use Rattle.sharing.specs.Encoding.{skip}
-use Rattle.sharing.specs.Masks.{masks}
-use Rattle.sharing.specs.Noise.{explicitNoise}
+use Rattle.signature.proofs.Masking.{noise-made, noise-next, skip-once}
+use Rattle.signature.specs.Masked.{explicit}
 use borrow.Author.Needs.{needs}
 use Rattle.signature.proofs.noise.noise_explicit.Statement.{statement}
 use Rattle.signature.proofs.noise.noise_explicit.Tie as tie
@@ -34,14 +31,14 @@ ntt-vector-requires c κs =
     (omega (arith, n, p .1), v .low)
 
 returns : tie.Need-returns
+unfolding explicit
 returns c =
     let b = c .before .before .before .before .before .before .before .before .before .before .before .before .before .before .args in
     let p = b .p in
+    let N = explicit p (b .words .now) in
     let x = c .before .before .before .before .before .before .before .before .before .before .zero-vector .ensures in
     let y = c .before .before .before .before .before .before .explicit-vector .ensures in
-    let m : p .l + p .l ≡ p .l + p .l * 1 = omega arith in
-    let n = skip-two (p .shares) (p .l) (p .l) (b .g) _ _ (x .1) (y .1) ∙ ap (λ (k : ℕ). skip masks (p .shares) k (b .g)) m in
-    (noise-made (p .l) (p .shares) 1 (b .at) (explicitNoise (p .shares) (b .words .now)) (b .g) _ (b .s .now) _ _ _ (x .1) (x .0) (y .0) (c .before .before .ntt-vector .ensures), n)
+    (noise-made p (b .at) N (b .g) _ (b .s .now) _ _ _ (x .1) (x .0) (y .0) (c .before .before .ntt-vector .ensures), noise-next p N (b .g) _ _ (x .1) (skip-once (p .shares) (p .l) _ _ (y .1)))
 
 pub noise-explicit-spec : {M : Type 1} → statement M
 noise-explicit-spec =

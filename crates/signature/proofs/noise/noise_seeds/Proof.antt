@@ -1,8 +1,7 @@
 use mathlib.Core.Path.{_∙_}
-use Prim.Native.Nat.{_*_, _/_}
 use native.Mathlib.Omega.{arith}
-use Rattle.signature.proofs.Masking.{noise-made, skip-two}
-use Rattle.sharing.specs.Noise.{seedNoise}
+use Rattle.signature.proofs.Masking.{noise-made, noise-next}
+use Rattle.signature.specs.Masked.{seeded}
 use borrow.Author.Needs.{needs}
 use Rattle.signature.proofs.noise.noise_seeds.Statement.{statement}
 use Rattle.signature.proofs.noise.noise_seeds.Tie as tie
@@ -32,13 +31,13 @@ ntt-vector-requires c κs =
     (omega (arith, n, p .1), v .low)
 
 returns : tie.Need-returns
+unfolding seeded
 returns c =
     let b = c .before .before .before .before .before .before .before .before .before .before .before .before .before .before .args in
-    let p = b .p in
+    let N = seeded (b .p) (b .u) (b .seeds .now) in
     let x = c .before .before .before .before .before .before .before .before .before .before .zero-vector .ensures in
     let y = c .before .before .before .before .before .before .noise-vector .ensures in
-    let n = skip-two (p .shares) (p .l) (p .l * p .rep) (b .g) _ _ (x .1) (y .1) in
-    (noise-made (p .l) (p .shares) (p .rep) (b .at) (seedNoise (p .shares) (p .rep) (b .u) (p .kappa / 8) (b .seeds .now)) (b .g) _ (b .s .now) _ _ _ (x .1) (x .0) (y .0) (c .before .before .ntt-vector .ensures), n)
+    (noise-made (b .p) (b .at) N (b .g) _ (b .s .now) _ _ _ (x .1) (x .0) (y .0) (c .before .before .ntt-vector .ensures), noise-next (b .p) N (b .g) _ _ (x .1) (y .1))
 
 pub noise-seeds-spec : {M : Type 1} → statement M
 noise-seeds-spec =

@@ -1,6 +1,6 @@
 use mathlib.Core.Path.{ap, _∙_}
 use Rattle.ring.specs.Transform.{ntt, intt, pointwise}
-use Rattle.signature.specs.Recover.{scaledBy}
+use Rattle.signature.specs.RecoverSteps.{scaledBy}
 use borrow.Author.Needs.{needs}
 use Rattle.signature.proofs.recover.scaled_product.Statement.{statement}
 use Rattle.signature.proofs.recover.scaled_product.Tie as tie

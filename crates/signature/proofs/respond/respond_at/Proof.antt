@@ -3,14 +3,14 @@ use native.Mathlib.Omega.{arith}
 use Rattle.sharing.specs.Blocks.{build}
 use Rattle.sharing.specs.Region.{span, Wrote}
 use Rattle.sharing.proofs.Regions.{wrote-start, wrote-end}
-use Rattle.signature.specs.Attempt.{answered}
+use Rattle.signature.specs.Attempt.{responseShare}
 use Rattle.signature.proofs.Responses.{answer-turn}
 use borrow.Author.Needs.{needs}
 use Rattle.signature.proofs.respond.respond_at.Statement.{statement}
 use Rattle.signature.proofs.respond.respond_at.Tie as tie
 
 abbrev Inv-loop : tie.InvT-loop
-Inv-loop s₀ a b c d j₀ s j = (j ≤ d) × Wrote 0 b (j * 512) (build j (answered c (span s₀ a (d * 512)) (span s₀ b (d * 512)))) s₀ s
+Inv-loop s₀ a b c d j₀ s j = (j ≤ d) × Wrote 0 b (j * 512) (build j (responseShare c (span s₀ a (d * 512)) (span s₀ b (d * 512)))) s₀ s
 
 abbrev μ-loop : tie.MeasureT-loop
 μ-loop s₀ a b c d j₀ s j = d - j
@@ -20,7 +20,7 @@ loop-holds c =
     let a = c .before in
     let b = a .args in
     let s = b .s .now in
-    (search needs, wrote-start 512 (answered (b .c) (span s (b .a) (b .d * 512)) (span s (b .b) (b .d * 512))) 0 (b .b) s (a .pre .2))
+    (search needs, wrote-start 512 (responseShare (b .c) (span s (b .a) (b .d * 512)) (span s (b .b) (b .d * 512))) 0 (b .b) s (a .pre .2))
 
 respond-share-requires : tie.Need-respond-share-requires Inv-loop μ-loop
 respond-share-requires c κs =
@@ -45,7 +45,7 @@ returns : tie.Need-returns Inv-loop μ-loop
 returns c =
     let b = c .before .before .before .args in
     let s = b .s .now in
-    wrote-end 512 (answered (b .c) (span s (b .a) (b .d * 512)) (span s (b .b) (b .d * 512))) (omega arith) (c .before .loop .inv .1)
+    wrote-end 512 (responseShare (b .c) (span s (b .a) (b .d * 512)) (span s (b .b) (b .d * 512))) (omega arith) (c .before .loop .inv .1)
 
 pub respond-at-spec : {M : Type 1} → statement M
 respond-at-spec =

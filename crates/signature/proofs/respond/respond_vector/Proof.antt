@@ -5,14 +5,14 @@ use Rattle.sharing.specs.Blocks.{build}
 use Rattle.sharing.specs.Region.{span, Wrote}
 use Rattle.sharing.proofs.Lists.{inside}
 use Rattle.sharing.proofs.Regions.{span-words, wrote-value, wrote-start, wrote-end}
-use Rattle.signature.specs.Attempt.{answeredAt}
+use Rattle.signature.specs.Attempt.{responseAt}
 use Rattle.signature.proofs.Responses.{answers-turn, response-is}
 use borrow.Author.Needs.{needs}
 use Rattle.signature.proofs.respond.respond_vector.Statement.{statement}
 use Rattle.signature.proofs.respond.respond_vector.Tie as tie
 
 abbrev Inv-loop : tie.InvT-loop
-Inv-loop s₀ a b l d t i₀ s i = (i ≤ l) × Wrote 0 b (i * (d * 512)) (build i (answeredAt d t (span s₀ a (l * (d * 512))) (span s₀ b (l * (d * 512))))) s₀ s
+Inv-loop s₀ a b l d t i₀ s i = (i ≤ l) × Wrote 0 b (i * (d * 512)) (build i (responseAt d t (span s₀ a (l * (d * 512))) (span s₀ b (l * (d * 512))))) s₀ s
 
 abbrev μ-loop : tie.MeasureT-loop
 μ-loop s₀ a b l d t i₀ s i = l - i
@@ -22,7 +22,7 @@ loop-holds c =
     let a = c .before .before in
     let b = a .args in
     let s = b .s .now in
-    (search needs, wrote-start (b .d * 512) (answeredAt (b .d) (c .ntt .result) (span s (b .a) (b .l * (b .d * 512))) (span s (b .b) (b .l * (b .d * 512)))) 0 (b .b) s (a .pre .2))
+    (search needs, wrote-start (b .d * 512) (responseAt (b .d) (c .ntt .result) (span s (b .a) (b .l * (b .d * 512))) (span s (b .b) (b .l * (b .d * 512)))) 0 (b .b) s (a .pre .2))
 
 mul-u : tie.Need-mul-u Inv-loop μ-loop
 mul-u c =
@@ -73,8 +73,8 @@ returns c =
     let Y = span s (b .b) L in
     let wX = span-words s (b .a) L (omega (arith, p .0, p .1)) (p .2) in
     let wY = span-words s (b .b) L (p .1) (p .2) in
-    let e = ap (λ t. build (b .l) (answeredAt (b .d) t X Y)) (c .before .before .ntt .ensures .0) ∙ response-is (b .c) (p .3) (b .d) (b .l) X Y wX wY in
-    wrote-value e (wrote-end (b .d * 512) (answeredAt (b .d) (c .before .before .ntt .result) X Y) (omega arith) (c .before .loop .inv .1))
+    let e = ap (λ t. build (b .l) (responseAt (b .d) t X Y)) (c .before .before .ntt .ensures .0) ∙ response-is (b .c) (p .3) (b .d) (b .l) X Y wX wY in
+    wrote-value e (wrote-end (b .d * 512) (responseAt (b .d) (c .before .before .ntt .result) X Y) (omega arith) (c .before .loop .inv .1))
 
 pub respond-vector-spec : {M : Type 1} → statement M
 respond-vector-spec =

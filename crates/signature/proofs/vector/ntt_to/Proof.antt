@@ -6,7 +6,7 @@ use Rattle.sharing.specs.Blocks.{block, build}
 use Rattle.sharing.specs.Region.{span, Wrote}
 use Rattle.sharing.proofs.Lists.{inside}
 use Rattle.sharing.proofs.Regions.{block-span, wrote-value, wrote-start, wrote-turn, wrote-end}
-use Rattle.signature.specs.Masked.{transformed}
+use Rattle.signature.specs.MaskedSteps.{transformed}
 use borrow.Author.Needs.{needs}
 use Rattle.signature.proofs.vector.ntt_to.Statement.{statement}
 use Rattle.signature.proofs.vector.ntt_to.Tie as tie

@@ -6,7 +6,7 @@ use Rattle.sharing.specs.Blocks.{block, build}
 use Rattle.sharing.specs.Region.{span, Wrote}
 use Rattle.sharing.proofs.Regions.{wrote-value, wrote-start, wrote-end}
 use Rattle.sharing.proofs.Turns.{map-turn}
-use Rattle.signature.specs.Masked.{transformed}
+use Rattle.signature.specs.MaskedSteps.{transformed}
 use borrow.Author.Needs.{needs}
 use Rattle.signature.proofs.vector.ntt_vector.Statement.{statement}
 use Rattle.signature.proofs.vector.ntt_vector.Tie as tie

@@ -6,7 +6,7 @@ use Rattle.ring.specs.Round.{residues}
 use Rattle.ring.proofs.Signs.{below-residues}
 use Rattle.sharing.specs.Region.{Wrote}
 use Rattle.sharing.proofs.Regions.{put-back, wrote-put}
-use Rattle.signature.specs.Masked.{transformed}
+use Rattle.signature.specs.MaskedSteps.{transformed}
 use Rattle.ring.proofs.Reduced.{length-residues}
 use borrow.Author.Needs.{needs}
 use Rattle.signature.proofs.verify.place.Statement.{statement}

@@ -12,7 +12,7 @@ use Rattle.ring.proofs.Signs.{below-residues}
 use Rattle.sharing.specs.Region.{span}
 use Rattle.signature.specs.Bits.{repack}
 use Rattle.signature.specs.Keys.{vkSeed, vkVector}
-use Rattle.signature.specs.Masked.{transformed}
+use Rattle.signature.specs.MaskedSteps.{transformed}
 use Rattle.signature.specs.Matrix.{matrix, matrixOf, filled}
 use Rattle.signature.proofs.Adjusted.{adjusted-all, adjusted-parts}
 use Rattle.signature.proofs.Fronts.{unpacked-in, unpacked-is}
