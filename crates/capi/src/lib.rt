@@ -4,8 +4,9 @@ ghost use mathlib.Core.Bool.{true, false};
 ghost use Rattle.hash.specs.declared.params.Edition.{Edition};
 ghost use Rattle.ring.specs.Uniform.{sampledOf};
 ghost use Rattle.signature.specs.Challenge.{sampledChallenge};
-ghost use Rattle.signature.specs.KeyCalls.{outcome, keygenCall, expandCall, refreshCall};
-ghost use Rattle.signature.specs.SignCalls.{packed, expanded, signing, signCall};
+ghost use Rattle.signature.specs.KeyCalls.{keygenCall, expandCall, refreshCall};
+ghost use Rattle.signature.specs.Outcome.{outcome, signing};
+ghost use Rattle.signature.specs.SignCalls.{packed, expanded, signCall};
 ghost use Rattle.signature.specs.Verify.{verifyCall};
 use signature::sign::Signed;
 
@@ -108,7 +109,7 @@ pub extern "C" fn raccoon_refresh_key(
     bytes_out: &mut [u8],
     words_out: &mut [u64],
 ) -> u32
-    ensures { λ r. ⌜ outcome r (now («bytes_out» .exit)) (now («words_out» .exit)) ≡ refreshCall set shares (now (bytes .entry)) (now (words .entry)) (now («mask_seed» .entry)) (now («bytes_out» .entry)) (now («words_out» .entry)) ⌝ }
+    ensures { λ r. ⌜ outcome r (now («bytes_out» .exit)) (now («words_out» .exit)) ≡ refreshCall set shares (record { vk = now (bytes .entry); words = now (words .entry) }) (now («mask_seed» .entry)) (now («bytes_out» .entry)) (now («words_out» .entry)) ⌝ }
 {
     signature::keys::refresh_key(
         set as u64,
@@ -194,7 +195,7 @@ pub extern "C" fn raccoon_sign_expanded(
     signature_out: &mut [u8],
     work: &mut [u64],
 ) -> Signed
-    ensures { λ r. ⌜ signing (r .status) (r .attempts) (now («signature_out» .exit)) (now (work .exit)) ≡ signCall Edition.Printed set shares (expanded (now (bytes .entry)) (now (words .entry))) attempts (now (message .entry)) (record { explicit = false; noise = now («noise_seeds» .entry); masks = now («mask_seeds» .entry) }) (now («signature_out» .entry)) (now (work .entry)) ⌝ }
+    ensures { λ r. ⌜ signing (r .status) (r .attempts) (now («signature_out» .exit)) (now (work .exit)) ≡ signCall Edition.Printed set shares (expanded (record { vk = now (bytes .entry); words = now (words .entry) })) attempts (now (message .entry)) (record { explicit = false; noise = now («noise_seeds» .entry); masks = now («mask_seeds» .entry) }) (now («signature_out» .entry)) (now (work .entry)) ⌝ }
 {
     signature::sign::sign_expanded(
         set as u64,
@@ -254,7 +255,7 @@ pub extern "C" fn raccoon_sign_expanded_explicit(
     signature_out: &mut [u8],
     work: &mut [u64],
 ) -> Signed
-    ensures { λ r. ⌜ signing (r .status) (r .attempts) (now («signature_out» .exit)) (now (work .exit)) ≡ signCall Edition.Printed set shares (expanded (now (bytes .entry)) (now (words .entry))) attempts (now (message .entry)) (record { explicit = true; noise = now («noise_words» .entry); masks = now («mask_seeds» .entry) }) (now («signature_out» .entry)) (now (work .entry)) ⌝ }
+    ensures { λ r. ⌜ signing (r .status) (r .attempts) (now («signature_out» .exit)) (now (work .exit)) ≡ signCall Edition.Printed set shares (expanded (record { vk = now (bytes .entry); words = now (words .entry) })) attempts (now (message .entry)) (record { explicit = true; noise = now («noise_words» .entry); masks = now («mask_seeds» .entry) }) (now («signature_out» .entry)) (now (work .entry)) ⌝ }
 {
     signature::sign::sign_expanded_explicit(
         set as u64,

@@ -1,12 +1,12 @@
 -- Lists that may not be there, as the samplers give them (01, check 10): is it there (filled), and what is held then (heldOf).
 use mathlib.Core.Path.{_≡_, refl, sym, ap, _∙_}
 use mathlib.Core.Bool.{true, false}
-use mathlib.Core.List.{List}
+use mathlib.Core.List.{List, []}
 use mathlib.Core.Option.{Option, some, none}
 use Prim.Native.Nat.{ℕ}
 use native.Mathlib.Omega.{arith}
 use Rattle.ring.specs.Words.{Words}
-use Rattle.ring.specs.Checks.{filled}
+use Rattle.ring.specs.Checks.{filled, heldOr}
 use Rattle.ring.specs.Uniform.{heldOf}
 use Rattle.ring.specs.declared.uniform.Sampled.{Sampled}
 use Rattle.ring.proofs.Checks.{absurd-bool}
@@ -35,6 +35,11 @@ pub not-filled : {A : Type 0} (o : Option (List A)) → filled o ≡ false → o
 unfolding filled
 not-filled none e = refl
 not-filled (some a) e = absurd-bool e
+
+pub filled-held : {A : Type 0} (o : Option (List A)) → filled o ≡ true → o ≡ some (heldOr o [])
+unfolding filled
+filled-held none e = absurd-bool (sym e)
+filled-held (some a) e = refl
 
 -- what is held
 pub held-is : (o : Option (List ℕ)) (a : List ℕ) → o ≡ some a → heldOf o .poly ≡ a

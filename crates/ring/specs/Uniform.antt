@@ -10,7 +10,7 @@ use Rattle.hash.specs.Lists.{pick}
 use Rattle.hash.specs.Shake.{shake256}
 use Rattle.hash.specs.Endian.{le}
 use Rattle.ring.specs.Words.{q}
-use Rattle.ring.specs.Checks.{ask, polynomialSized, filled, answered}
+use Rattle.ring.specs.Checks.{firstNo, polynomialSized, filled, answered}
 use Rattle.ring.specs.declared.uniform.Sampled.{Sampled}
 
 -- draw number n of the bytes s: the low 49 bits of seven bytes, the lowest first
@@ -41,7 +41,7 @@ sampleQ hdr seed = uniform (shake256 (hdr ++ seed) 5439)
 
 -- the sampler over lent bytes: checks 8 and 10
 abbrev pub sampledNo : List ℕ → List ℕ → ℕ
-sampledNo s out = ask 8 (polynomialSized out) (ask 10 (filled (uniform s)) 0)
+sampledNo s out = firstNo ((8, polynomialSized out) ∷ (10, filled (uniform s)) ∷ [])
 
 -- its status, and what out holds afterwards
 unfoldable pub sampledOf : List ℕ → List ℕ → ℕ × List ℕ

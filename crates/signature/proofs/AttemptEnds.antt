@@ -1,8 +1,8 @@
 -- One attempt as the code tells its end, from what lines 4 to 16 left and lines 17 to 20 made of it; then the attempts in order.
 use mathlib.Core.Path.{_≡_, refl, sym, ap, subst, _∙_}
 use mathlib.Core.Bool.{Bool, true, false}
-use mathlib.Core.List.{List, []}
-use mathlib.Core.Option.{Option, some, none}
+use mathlib.Core.List.{List}
+use mathlib.Core.Option.{Option, some}
 use Prim.Native.Nat.{ℕ, suc, _+_, _-_, _*_, _/_, _≤_, _<_}
 use native.Mathlib.Omega.{arith}
 use lib.Dec.{lit<}
@@ -25,9 +25,9 @@ use Rattle.signature.specs.Keygen.{atRoom, atS, atT, atX}
 use Rattle.signature.specs.Masked.{Noise}
 use Rattle.signature.specs.Matrix.{filled}
 use Rattle.signature.specs.Recover.{muOf}
-use Rattle.signature.specs.Sign.{Public, Attempted, made, over, stuck, Answer, answer, Coins, signedFields, finished, attempted, signFrom}
-use Rattle.signature.specs.SignCalls.{signMade}
-use Rattle.signature.specs.SignSteps.{publicBy, Spent, EndedAs, EndedAt, kept}
+use Rattle.signature.specs.Outcome.{Outcome, answer}
+use Rattle.signature.specs.Sign.{Public, Attempted, made, over, stuck, Coins, signedFields, finished, attempted, signFrom}
+use Rattle.signature.specs.SignSteps.{signMade, publicBy, Spent, EndedAs, EndedAt, kept}
 use Rattle.signature.specs.declared.challenge.Challenged.{Challenged}
 use Rattle.signature.specs.declared.sign.AttemptEnd.{AttemptEnd}
 use Rattle.signature.proofs.Attempts.{left-stuck, left-idle, left-key, left-on, sign-pass, sign-stuck, sign-next, sign-none}
@@ -92,7 +92,7 @@ module _ (p : Params) (P : Public) (N : Noise) (g : MaskGen) (s hash ys : List �
 module _ (p : Params) (P : Public) (T : Coins) (n a : ℕ) (s₀ s out : List ℕ) (i : signFrom p P T n 0 s₀ ≡ signFrom p P T (n - a) a s) where
   -- check 12
   pub all-over : (xs : List ℕ) → xs ≡ out → n - a ≡ 0 → answer 12 a xs ≡ kept (signFrom p P T n 0 s₀) out
-  all-over xs o z = ap (answer 12 a) o ∙ ap (λ (X : Answer). kept X out) (sym (i ∙ sign-none p P T (n - a) a s z))
+  all-over xs o z = ap (answer 12 a) o ∙ ap (λ (X : Outcome). kept X out) (sym (i ∙ sign-none p P T (n - a) a s z))
 
   -- attempt number a + 1 told r, and left ys and work
   module _ (l : a < n) (r : AttemptEnd) (xs ys work : List ℕ) (o : xs ≡ out) (w : EndedAt p P T a s r xs ys work) where
@@ -103,14 +103,14 @@ module _ (p : Params) (P : Public) (T : Coins) (n a : ℕ) (s₀ s out : List �
     more = omega (arith, l)
 
     pub all-pass : r ≡ AttemptEnd.Made → answer 0 (a + 1) ys ≡ kept (signFrom p P T n 0 s₀) out
-    all-pass t = ap (λ (X : Answer). kept X out) (sym (i ∙ sign-pass p P T (n - a) (n - (a + 1)) a s more ys (ended t .told)))
+    all-pass t = ap (λ (X : Outcome). kept X out) (sym (i ∙ sign-pass p P T (n - a) (n - (a + 1)) a s more ys (ended t .told)))
 
     -- check 11
     pub all-stuck : r ≡ AttemptEnd.Stuck → answer 11 (a + 1) ys ≡ kept (signFrom p P T n 0 s₀) out
     all-stuck t =
         let v = ended t .told in
         ap (answer 11 (a + 1)) (v .1 ∙ o)
-        ∙ ap (λ (X : Answer). kept X out) (sym (i ∙ sign-stuck p P T (n - a) (n - (a + 1)) a s more (v .0)))
+        ∙ ap (λ (X : Outcome). kept X out) (sym (i ∙ sign-stuck p P T (n - a) (n - (a + 1)) a s more (v .0)))
 
     pub all-next : r ≡ AttemptEnd.Over → (ys ≡ out) × (signFrom p P T n 0 s₀ ≡ signFrom p P T (n - (a + 1)) (a + 1) (keyIn p work))
     all-next t =
@@ -118,7 +118,7 @@ module _ (p : Params) (P : Public) (T : Coins) (n a : ℕ) (s₀ s out : List �
         (v .told .1 ∙ o, i ∙ sign-next p P T (n - a) (n - (a + 1)) a s more (keyIn p work) (v .held .key) (v .told .0))
 
 -- what `reported` gives
-pub told-as : {x y a b : ℕ} (ys : List ℕ) {X : Answer} → x ≡ y → a ≡ b → answer y b ys ≡ X → answer x a ys ≡ X
+pub told-as : {x y a b : ℕ} (ys : List ℕ) {X : Outcome} → x ≡ y → a ≡ b → answer y b ys ≡ X → answer x a ys ≡ X
 told-as {x} {y} {a} {b} ys e f h = ap (λ (n : ℕ). answer n a ys) e ∙ ap (λ (n : ℕ). answer y n ys) f ∙ h
 
 -- ---- check 10 of the matrix m, and the attempts with it
@@ -127,7 +127,7 @@ module _ (p : Params) (vk msg : List ℕ) (T : Coins) (n : ℕ) (s out : List �
   pub matrix-none : filled m ≡ false → answer 10 0 out ≡ kept (signMade p vk msg T n m (some s)) out
   matrix-none e = ap (λ (o : Option (List ℕ)). kept (signMade p vk msg T n o (some s)) out) (sym (not-filled m e))
 
-  pub matrix-made : (B mu : List ℕ) (X : Answer) → filled m ≡ true → ((A : List ℕ) → m ≡ some A → B ≡ A) → mu ≡ muOf p vk msg
+  pub matrix-made : (B mu : List ℕ) (X : Outcome) → filled m ≡ true → ((A : List ℕ) → m ≡ some A → B ≡ A) → mu ≡ muOf p vk msg
       → X ≡ kept (signFrom p (publicBy p vk mu B) T n 0 s) out → X ≡ kept (signMade p vk msg T n m (some s)) out
   matrix-made B mu X f is e h =
       let t = filled-some m f in

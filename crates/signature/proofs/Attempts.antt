@@ -24,7 +24,8 @@ use Rattle.signature.specs.Challenge.{headed, ordered, challenge, chalHa
 use Rattle.signature.specs.Form.{Fields, write}
 use Rattle.signature.specs.Keygen.{atS, atT, atX}
 use Rattle.signature.specs.Masked.{Noise, maskedNoise}
-use Rattle.signature.specs.Sign.{Public, Attempted, made, over, stuck, answer, Coins, signedFields, finished, challenged, concluded, maskedResponse, refreshedKey, refreshedNoise, refreshedResponse, attempted, noiseAt, maskAt, signFrom}
+use Rattle.signature.specs.Outcome.{answer}
+use Rattle.signature.specs.Sign.{Public, Attempted, made, over, stuck, Coins, signedFields, finished, challenged, concluded, maskedResponse, refreshedKey, refreshedNoise, refreshedResponse, attempted, noiseAt, maskAt, signFrom}
 use Rattle.signature.specs.declared.challenge.Challenged.{Challenged}
 use Rattle.ring.proofs.Checks.{absurd-bool}
 use Rattle.signature.proofs.Masking.{masked-words}

@@ -1,4 +1,4 @@
--- The byte form of a signature: what is written is read back, and a string is the one that the writer makes exactly if its fill is 0 (question 14).
+-- The byte form of a signature: what is written is read back, and a string is the one that the writer makes exactly if its fill is 0 (check 14).
 use Prim.Native.Nat.{ℕ, zero, suc, _+_, _*_, _-_, _/_, _^_, _≤_, _<_}
 use mathlib.Core.Path.{_≡_, refl, sym, ap, subst, _∙_}
 use mathlib.Core.Bool.{Bool, true, false}
@@ -245,7 +245,7 @@ module _ (p : Params) (b : List ℕ) (f : Fields) (size : hashBytes p ≤ length
       let l = length-fields 8 b in
       omega (arith, ap length laid, length-append (formBits f) fill, bits-length (f .hash) (f .hint) (f .response))
 
-  -- question 14: b is the very string that the writer makes of the fields read, exactly if every bit behind them is 0
+  -- check 14: b is the very string that the writer makes of the fields read, exactly if every bit behind them is 0
   module _ (long : length b ≡ p .«sig_bytes») where
     pub zero-canonical : Bytes b → allZero (drop (bitCount f) (fields 8 b)) ≡ true → write p f ≡ some b
     zero-canonical byte z =

@@ -148,10 +148,6 @@ module _ (set : ℕ) (s : List ℕ) (out : List ℤ) (x : Selected) (is : x ≡ 
   unfolding sampledChallenge
   no-set h = rw (← is, h)
 
-  pub no-shares : x ≡ Selected.NoShares → (2, out) ≡ sampledChallenge set s out
-  unfolding sampledChallenge
-  no-shares h = rw (← is, h)
-
   module _ (p : Params) (known : x ≡ Selected.Found p) where
     pub omega-low : p .omega ≤ 44
     omega-low = found set 1 Edition.Printed p (sym is ∙ known) .rule .weight-low

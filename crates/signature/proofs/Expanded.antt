@@ -1,7 +1,7 @@
 -- Expanding (000, Algorithm 15): polynomials that may not fill, one behind the other; parts of a key; the loops over shares.
 use mathlib.Core.Path.{_≡_, refl, sym, ap, subst, _∙_}
 use mathlib.Core.Bool.{Bool, true, false}
-use mathlib.Core.List.{List}
+use mathlib.Core.List.{List, [], _∷_}
 use mathlib.Core.Option.{Option, some}
 use Prim.Native.Nat.{ℕ, zero, suc, _+_, _-_, _*_, _≤_, _<_}
 use native.Mathlib.Nat.{mul-le-mul, mul-le-mul-right}
@@ -25,9 +25,10 @@ use Rattle.signature.specs.Bits.{repack}
 use Rattle.signature.proofs.Entries.{All, all-some}
 use Rattle.signature.proofs.Packing.{length-repack}
 use Rattle.signature.proofs.Sizes.{part-all}
-use Rattle.signature.specs.Keys.{seedBytes, fullShare, seededShare, shareAt, decompressed, expandOf}
-use Rattle.signature.specs.Expanding.{Listed, partBytes, expandedAt, expandedShares, expandedKey}
-use Rattle.signature.specs.KeyCalls.{outcome}
+use Rattle.signature.specs.Keys.{seedBytes, fullShare, seededShare, shareAt, decompressed, expandOf, expandedOf}
+use Rattle.signature.specs.Expanding.{Listed, partBytes, expandedAt, expandedShares}
+use Rattle.signature.specs.KeyCalls.{keyLeaves}
+use Rattle.signature.specs.Outcome.{outcome, firstNo, heldOr}
 
 -- ---- the seeds of a key, and the words of an expanded one
 
@@ -141,16 +142,17 @@ module _ (p : Params) (key bytes words : List ℕ) (r : Bool)
   unfolding expandOf
   fills = e ∙ ap (λ (l : List ℕ). filled (decompressed p l)) (part-all (p .«vk_bytes») key)
 
-  pub key-unfilled : r ≡ false → outcome 10 bytes words ≡ expandedKey p key bytes words
-  unfolding expandedKey
-  key-unfilled z = simp (sym fills ∙ z)
+  pub key-unfilled : r ≡ false → outcome 10 bytes words ≡ keyLeaves (firstNo ((10, filled (expandOf p key)) ∷ [])) (expandedOf p key) bytes words
+  key-unfilled z = ap (λ (b : Bool). keyLeaves (firstNo ((10, b) ∷ [])) (expandedOf p key) bytes words) (sym z ∙ fills)
 
   pub key-expanded : r ≡ true → (b w : List ℕ) → b ≡ take (p .«vk_bytes» - 0) key
-      → w ≡ expandedShares p (take (length key - p .«vk_bytes») (drop (p .«vk_bytes») key)) → outcome 0 b w ≡ expandedKey p key bytes words
-  unfolding expandedKey
+      → w ≡ expandedShares p (take (length key - p .«vk_bytes») (drop (p .«vk_bytes») key))
+      → outcome 0 b w ≡ keyLeaves (firstNo ((10, filled (expandOf p key)) ∷ [])) (expandedOf p key) bytes words
+  unfolding expandOf
   key-expanded z b w eb ew =
       let k : p .«vk_bytes» - 0 ≡ p .«vk_bytes» = omega arith in
       let fb : b ≡ take (p .«vk_bytes») key = eb ∙ ap (λ (m : ℕ). take m key) k in
-      let fw : w ≡ expandedShares p (drop (p .«vk_bytes») key) = ew ∙ ap (expandedShares p) (part-all (p .«vk_bytes») key) in
-      let m : outcome 0 (take (p .«vk_bytes») key) (expandedShares p (drop (p .«vk_bytes») key)) ≡ expandedKey p key bytes words = simp (sym fills ∙ z) in
-      (λ i. outcome 0 (fb i) (fw i)) ∙ m
+      let there : expandOf p key ≡ some (expandedShares p (drop (p .«vk_bytes») key)) = expanded-all p (drop (p .«vk_bytes») key) (sym fills ∙ z) in
+      let fw : w ≡ heldOr (expandOf p key) [] =
+      ew ∙ ap (expandedShares p) (part-all (p .«vk_bytes») key) ∙ ap (λ (o : Option (List ℕ)). heldOr o []) (sym there) in
+      (λ i. outcome 0 (fb i) (fw i)) ∙ ap (λ (t : Bool). keyLeaves (firstNo ((10, t) ∷ [])) (expandedOf p key) bytes words) (sym z ∙ fills)

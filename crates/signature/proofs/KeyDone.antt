@@ -1,26 +1,24 @@
 -- The ends of key generation behind its checks: the key of both parts, or 10.
 use mathlib.Core.Path.{_≡_, refl, sym, ap, _∙_}
 use mathlib.Core.Bool.{Bool, true, false}
-use mathlib.Core.List.{List, _++_}
+use mathlib.Core.List.{List, [], _∷_, _++_}
 use mathlib.Core.Option.{some, none}
 use Prim.Native.Nat.{ℕ, _+_, _-_, _*_, _/_, _^_, _≤_, _<_}
 use native.Mathlib.Nat.{mul-le-mul}
 use native.Mathlib.Omega.{arith}
 use lib.ListN.{length, take, drop}
-use Rattle.hash.specs.Params.{lookupOf}
-use Rattle.hash.specs.declared.params.Edition.{Edition}
 use Rattle.hash.specs.declared.params.Params.{Params}
-use Rattle.hash.specs.declared.params.Selected.{Selected}
 use Rattle.ring.specs.Uniform.{heldOf}
 use Rattle.hash.specs.Lists.{zeros}
 use Rattle.sharing.specs.Region.{span}
 use Rattle.sharing.proofs.Regions.{length-span}
 use Rattle.signature.specs.Bits.{repack}
 use Rattle.sharing.specs.Masks.{maskStart}
-use Rattle.signature.specs.Checks.{both, workWords}
+use Rattle.signature.specs.Checks.{firstNo, both, workWords}
 use Rattle.signature.specs.Keys.{keygenBytes, vkSeed, noisePart, sharePart, keygenOf, publicKey}
 use Rattle.signature.specs.Keygen.{atT, Small, Generated, keyOf}
-use Rattle.signature.specs.KeyCalls.{outcome, keygenNo, keygenMade, keygenCall}
+use Rattle.signature.specs.KeyCalls.{keygenLeaves}
+use Rattle.signature.specs.Outcome.{outcome}
 use Rattle.signature.specs.Expanding.{Listed}
 use Rattle.signature.specs.Matrix.{matrix, filled}
 use Rattle.ring.proofs.Checks.{both-true}
@@ -39,14 +37,16 @@ module _ (p : Params) (seeds mask : List ℕ) where
       go false f e = no-matrix p seeds mask (not-filled (matrix p (vkSeed p seeds)) f)
 
   module _ (out work : List ℕ) (r : Bool) (is : r ≡ both (filled (matrix p (vkSeed p seeds))) (filled (fullOf p seeds mask))) where
-    pub keygen-none : (w : List ℕ) → r ≡ false → length w ≡ length work → outcome 10 out (zeros (length w)) ≡ keygenMade (keygenOf p seeds mask) out work
+    pub keygen-none : (w : List ℕ) → r ≡ false → length w ≡ length work → outcome 10 out (zeros (length w)) ≡ keygenLeaves (firstNo ((10, filled (keygenOf p seeds mask)) ∷ [])) p seeds mask out work
+    unfolding filled
     keygen-none w f l = rw (none-made (sym is ∙ f), l)
 
     pub keygen-some : (k w : List ℕ) → r ≡ true
         → ((A x : List ℕ) → matrix p (vkSeed p seeds) ≡ some A → fullOf p seeds mask ≡ some x
         → Generated p (noisePart p seeds) (maskStart mask) A x w)
-        → k ≡ keyOf p seeds w → length w ≡ length work → outcome 0 k (zeros (length w)) ≡ keygenMade (keygenOf p seeds mask) out work
-    unfolding keyOf
+        → k ≡ keyOf p seeds w → length w ≡ length work
+        → outcome 0 k (zeros (length w)) ≡ keygenLeaves (firstNo ((10, filled (keygenOf p seeds mask)) ∷ [])) p seeds mask out work
+    unfolding keyOf filled
     keygen-some k w f parts e l =
         let b = both-true (filled (matrix p (vkSeed p seeds))) (filled (fullOf p seeds mask)) (sym is ∙ f) in
         let A = heldOf (matrix p (vkSeed p seeds)) .poly in
@@ -60,12 +60,6 @@ module _ (p : Params) (seeds mask : List ℕ) where
 
 pub key-long : (p : Params) → Listed p → p .«sk_bytes» ≡ p .kappa / 8 + p .k * 448 + ((p .shares - 1) * (p .kappa / 8) + p .l * 3136)
 key-long p h = omega (arith, h .vk, h .sk)
-
--- behind the checks
-pub keygen-on : (e : Edition) (set d : ℕ) (seeds mask out work : List ℕ) (p : Params) → lookupOf set d e ≡ Selected.Found p
-    → keygenNo p seeds mask out work ≡ 0 → keygenMade (keygenOf p seeds mask) out work ≡ keygenCall e set d seeds mask out work
-unfolding keygenCall
-keygen-on e set d seeds mask out work p h k = rw (h, k)
 
 -- the key's four parts, as slices of the seeds and of the work buffer
 module _ (p : Params) (h : Small p) (seeds work : List ℕ) (w : length work ≡ workWords p) (s : length seeds ≡ keygenBytes p) where

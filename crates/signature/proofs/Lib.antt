@@ -43,6 +43,7 @@ pub mod Reduced
 pub mod Responses
 pub mod Rounded
 pub mod Rows
+pub mod Secrets
 pub mod SignChecks
 pub mod SignEnds
 pub mod Signs

@@ -14,9 +14,9 @@ use Rattle.hash.specs.declared.params.Params.{Params}
 use Rattle.signature.specs.Answers.{fieldsOf, parsed, ReadOf, boundsOf}
 use Rattle.signature.specs.Bits.{fields}
 use Rattle.signature.specs.Bounds.{within, squares, checkBounds}
-use Rattle.signature.specs.Checks.{ask, writtenAs, properFields, properForm}
+use Rattle.signature.specs.Checks.{firstNo, writtenAs, properFields, properForm}
 use Rattle.signature.specs.Form.{Fields, hashBytes, write, read}
-use Rattle.signature.specs.Verify.{verifyMatrix, verifyFields}
+use Rattle.signature.specs.Verify.{hashChecks, fieldChecks, fieldsIn, formChecks}
 use Rattle.signature.proofs.Canonical.{read-accepted, read-refused, read-sized}
 use Rattle.signature.proofs.Parsed.{read-true, read-false}
 use Rattle.ring.proofs.Checks.{absurd-bool}
@@ -61,14 +61,15 @@ module _ (p : Params) (vk msg b : List ℕ) (byte : Bytes b) (long : length b �
   abbrev bits : List ℕ
   bits = drop (8 * hashBytes p) (fields 8 b)
 
-  pub status-14 : parsed (p .k * 512) (p .l * 512) bits ≡ none → ask 14 (properForm p b) (verifyFields p vk msg (read p b)) ≡ 14
-  status-14 e = ap (λ (t : Bool). ask 14 t (verifyFields p vk msg (read p b))) (proper-none p b (λ (f : Fields). λ (r : read p b ≡ some f) (w : write p f ≡ some b). read-refused p b byte long size f e r w))
+  pub status-14 : parsed (p .k * 512) (p .l * 512) bits ≡ none → firstNo (formChecks p vk msg b) ≡ 14
+  status-14 e = ap (λ (t : Bool). pick t (firstNo (fieldChecks p vk msg (fieldsIn (read p b)))) 14) (proper-none p b (λ (f : Fields). λ (r : read p b ≡ some f) (w : write p f ≡ some b). read-refused p b byte long size f e r w))
 
   pub status-read : (h z : List ℤ) → parsed (p .k * 512) (p .l * 512) bits ≡ some (h, z)
-      → ask 14 (properForm p b) (verifyFields p vk msg (read p b)) ≡ verifyFields p vk msg (some (fieldsOf (take (hashBytes p) b) h z))
+      → firstNo (formChecks p vk msg b) ≡ firstNo (fieldChecks p vk msg (fieldsOf (take (hashBytes p) b) h z))
   status-read h z e =
       let a = read-accepted p b byte long size h z e in
-      ap (λ (t : Bool). ask 14 t (verifyFields p vk msg (read p b))) (proper-some p b (fieldsOf (take (hashBytes p) b) h z) (a .0) (a .1)) ∙ ap (verifyFields p vk msg) (a .0)
+      ap (λ (t : Bool). pick t (firstNo (fieldChecks p vk msg (fieldsIn (read p b)))) 14) (proper-some p b (fieldsOf (take (hashBytes p) b) h z) (a .0) (a .1))
+      ∙ ap (λ (o : Option Fields). firstNo (fieldChecks p vk msg (fieldsIn o))) (a .0)
 
   -- the fields have the set's sizes
   pub sizes-read : (h z : List ℤ) → parsed (p .k * 512) (p .l * 512) bits ≡ some (h, z) → (length h ≡ p .k * 512) × (length z ≡ p .l * 512)
@@ -121,9 +122,9 @@ small-part m e f i = subst (λ (l : List ℤ). natAbs (getD l i (pos 0)) < m) (s
 pub bounded-part : {xs ys : List ℤ} (m n : ℕ) → xs ≡ ys → n < m → ((i : ℕ) → i < length xs → natAbs (getD xs i (pos 0)) ≤ n) → (i : ℕ) → i < length xs → natAbs (getD xs i (pos 0)) < m
 bounded-part m n e l f i h = omega (arith, f i h, l)
 
-pub matrix-parts : {c c′ : List ℕ} {h h′ z z′ : List ℤ} (p : Params) (vk msg : List ℕ) (M : Option (List ℕ)) → c ≡ c′ → h ≡ h′ → z ≡ z′
-    → verifyMatrix p vk msg (fieldsOf c h z) M ≡ verifyMatrix p vk msg (fieldsOf c′ h′ z′) M
-matrix-parts p vk msg M a b e = cc (a, b, e)
+pub hash-same : {c c′ : List ℕ} {h h′ z z′ : List ℤ} (p : Params) (vk msg : List ℕ) → c ≡ c′ → h ≡ h′ → z ≡ z′
+    → firstNo (hashChecks p vk msg (fieldsOf c h z)) ≡ firstNo (hashChecks p vk msg (fieldsOf c′ h′ z′))
+hash-same p vk msg a b e = cc (a, b, e)
 
 pub bounds-parts : {h h′ z z′ : List ℤ} (a b c : ℕ) → h ≡ h′ → z ≡ z′ → boundsOf a b c h z ≡ boundsOf a b c h′ z′
 bounds-parts a b c e g = cc (e, g)

@@ -1,43 +1,36 @@
--- The checks of signing (01, questions 3 to 9): in two parts, those of the coins, and what passing gives.
+-- The checks of signing (01: 3 to 9): in two parts, those of the coins, and what passing gives.
 use mathlib.Core.Path.{_≡_, refl, sym, ap, _∙_}
 use mathlib.Core.Bool.{Bool, true, false}
-use mathlib.Core.List.{List}
+use mathlib.Core.List.{List, [], _∷_, _++_}
 use Prim.Native.Nat.{ℕ, _+_, _*_, _/_, _≤_}
 use borrow.Author.Tests.{leb-true, eq-eqb, ne-eqb}
 use lib.Dec.{eqb, leb}
 use lib.ListN.{length}
-use Rattle.hash.specs.Lists.{pick}
 use Rattle.hash.specs.declared.params.Params.{Params}
+use Rattle.hash.specs.declared.params.Selected.{Selected}
 use Rattle.ring.specs.Words.{q, allBelow}
-use Rattle.ring.proofs.Checks.{absurd-bool, asked, both-true, left-no, right-no, both-last}
+use Rattle.ring.proofs.Checks.{absurd-bool, asked, no-before, yes-before, yes-both, both-true, left-no, right-no, both-last}
 use Rattle.sharing.specs.Noise.{noiseBytes}
 use Rattle.sharing.proofs.NoisePlaces.{noise-bytes}
 use Rattle.signature.specs.Attempt.{coinsOf}
-use Rattle.signature.specs.Checks.{ask, both, attemptsAllowed, signBuffersSized, messageSized, workWords}
+use Rattle.signature.specs.Checks.{firstNo, both, attemptsAllowed, signBuffersSized, messageSized, workWords, keySized, keyGood, sharesGood, keyChecks}
+use Rattle.signature.specs.Keys.{vkSeed, publicOf, sharesOf}
+use Rattle.signature.specs.Matrix.{matrix, filled}
 use Rattle.signature.specs.Sign.{Coins}
-use Rattle.signature.specs.SignCalls.{Key, keySized, keyGood, sharesGood, coinsGood, signNo}
-use Rattle.signature.specs.SignSteps.{keyNo, callNo}
+use Rattle.signature.specs.SignCalls.{Key, coinsGood, callChecks, signChecks}
+use Rattle.signature.specs.SignSteps.{signNo}
 use Rattle.signature.proofs.Asked.{sizes}
 
 -- ---- the two parts
 
-in-two : (a b c : Bool) (rest : ℕ) → ask 3 a (ask 4 b (ask 5 c rest)) ≡ pick (eqb (ask 3 a (ask 4 b (ask 5 c 0))) 0) rest (ask 3 a (ask 4 b (ask 5 c 0)))
-in-two true true true rest = refl
-in-two true true false rest = refl
-in-two true false c rest = refl
-in-two false b c rest = refl
+module _ (p : Params) (key : Key) (n : ℕ) (msg : List ℕ) (T : Coins) (out work : List ℕ) (k : ℕ) (e : k ≡ firstNo (keyChecks p key)) where
+  pub no-key : (k ≡ 0 → ⊥) → k ≡ signNo p key n msg T out work
+  unfolding signNo
+  no-key h = no-before (keyChecks p key) (callChecks p n msg T out work) k e h
 
-module _ (p : Params) (key : Key) (n : ℕ) (msg : List ℕ) (T : Coins) (out work : List ℕ) where
-  parts : signNo p key n msg T out work ≡ pick (eqb (keyNo p key) 0) (callNo p n msg T out work) (keyNo p key)
-  unfolding signNo keyNo callNo
-  parts = in-two (keySized p key) (keyGood p key) (sharesGood p key) (callNo p n msg T out work)
-
-  module _ (k : ℕ) (e : k ≡ keyNo p key) where
-    pub no-key : (k ≡ 0 → ⊥) → k ≡ signNo p key n msg T out work
-    no-key h = e ∙ sym (parts ∙ ap (λ (b : Bool). pick b (callNo p n msg T out work) (keyNo p key)) (ne-eqb (keyNo p key) 0 (λ z. h (e ∙ z))))
-
-    pub no-call : k ≡ 0 → callNo p n msg T out work ≡ signNo p key n msg T out work
-    no-call z = sym (parts ∙ ap (λ (b : Bool). pick b (callNo p n msg T out work) (keyNo p key)) (eq-eqb (keyNo p key) 0 (sym e ∙ z)))
+  pub no-call : k ≡ 0 → firstNo (callChecks p n msg T out work) ≡ signNo p key n msg T out work
+  unfolding signNo
+  no-call z = sym (yes-before (keyChecks p key) (callChecks p n msg T out work) refl (sym e ∙ z))
 
 -- ---- check 7
 
@@ -83,20 +76,26 @@ pub all-passed : (p : Params) (key : Key) (n : ℕ) (msg : List ℕ) (T : Coins)
     → AllPassed p key n msg T out work
 unfolding signNo
 all-passed p key n msg T out work e =
-    let n9 = ask 9 (messageSized msg) 0 in
-    let n8 = ask 8 (signBuffersSized p out work) n9 in
-    let n7 = ask 7 (coinsGood p n T) n8 in
-    let n6 = ask 6 (attemptsAllowed n) n7 in
-    let n5 = ask 5 (sharesGood p key) n6 in
-    let n4 = ask 4 (keyGood p key) n5 in
-    let a3 = asked 2 (keySized p key) n4 e in
-    let a4 = asked 3 (keyGood p key) n5 (a3 .1) in
-    let a5 = asked 4 (sharesGood p key) n6 (a4 .1) in
-    let a6 = asked 5 (attemptsAllowed n) n7 (a5 .1) in
-    let a7 = asked 6 (coinsGood p n T) n8 (a6 .1) in
-    let a8 = asked 7 (signBuffersSized p out work) n9 (a7 .1) in
-    let a9 = asked 8 (messageSized msg) 0 (a8 .1) in
+    let a3 = asked 2 (keySized p key) _ e in
+    let a4 = asked 3 (keyGood p key) _ (a3 .1) in
+    let a5 = asked 4 (sharesGood p key) _ (a4 .1) in
+    let a6 = asked 5 (attemptsAllowed n) _ (a5 .1) in
+    let a7 = asked 6 (coinsGood p n T) _ (a6 .1) in
+    let a8 = asked 7 (signBuffersSized p out work) _ (a7 .1) in
+    let a9 = asked 8 (messageSized msg) _ (a8 .1) in
     record { sized = a3 .0; good = a4 .0; shares = a5 .0; attempts = a6 .0; coins = a7 .0; buffers = a8 .0; message = a9 .0 }
+
+-- .. and neither is check 10
+pub all-yes : (p : Params) (key : Key) (n : ℕ) (msg : List ℕ) (T : Coins) (out work : List ℕ)
+    → firstNo (signChecks (Selected.Found p) p key n msg T out work) ≡ 0
+    → AllPassed p key n msg T out work × (filled (matrix p (vkSeed p (publicOf p key))) ≡ true) × (filled (sharesOf p key) ≡ true)
+unfolding signNo
+all-yes p key n msg T out work e =
+    let m = filled (matrix p (vkSeed p (publicOf p key))) in
+    let s = filled (sharesOf p key) in
+    let b = yes-both (keyChecks p key ++ callChecks p n msg T out work) ((10, both m s) ∷ []) refl e in
+    let c = both-true m s (asked 9 (both m s) 0 (b .1) .0) in
+    (all-passed p key n msg T out work (b .0), c .0, c .1)
 
 -- .. in numbers
 pub record Signable (p : Params) (key : Key) (n : ℕ) (T : Coins) (out work : List ℕ) : Type 0 where

@@ -1,12 +1,12 @@
 -- The ends of a signing call: the public key of either form of key, what is left behind the checks, and the call.
 use mathlib.Core.Path.{_≡_, refl, sym, ap, subst, _∙_}
 use mathlib.Core.Bool.{Bool, true, false}
-use mathlib.Core.List.{List, []}
+use mathlib.Core.List.{List, [], _∷_, _++_}
 use mathlib.Core.Option.{Option, some, none}
 use Prim.Native.Nat.{ℕ, zero, suc, _+_, _-_, _*_, _/_, _≤_, _<_}
 use native.Mathlib.Nat.{le-refl}
 use native.Mathlib.Omega.{arith}
-use borrow.Author.Tests.{ne-eqb, le-leb, lt-leb}
+use borrow.Author.Tests.{le-leb, lt-leb}
 use lib.Dec.{leb}
 use lib.ListN.{length, take, drop}
 use lib.Seq.{length-take-le, take-all, take-take, take-add, drop-at}
@@ -19,15 +19,16 @@ use Rattle.ring.specs.Words.{Below}
 use Rattle.ring.proofs.Sums.{all-below}
 use Rattle.signature.specs.Attempt.{keyFrom}
 use Rattle.signature.specs.Bits.{repack}
-use Rattle.signature.specs.Checks.{both}
-use Rattle.signature.specs.Keys.{seedBytes, vkSeed, vkVector}
+use Rattle.signature.specs.Checks.{both, keySized, keyGood, keyChecks}
+use Rattle.signature.specs.Keys.{seedBytes, vkSeed, vkVector, publicOf, sharesOf}
 use Rattle.signature.specs.Matrix.{matrix, filled}
 use Rattle.signature.specs.Expanding.{Listed}
-use Rattle.signature.specs.Sign.{Public, Attempted, made, over, stuck, Answer, answer, Coins, ended, refreshedKey, attempted, noiseAt, maskAt, signFrom}
-use Rattle.signature.specs.SignCalls.{Key, keySized, keyGood, publicOf, sharesOf, signNo, publicFor, signMade, signGo, signOf, Signing, signing, leftBy, signCall}
-use Rattle.signature.specs.SignSteps.{kept}
+use Rattle.signature.specs.Sign.{Public, Attempted, made, over, stuck, Coins, ended, refreshedKey, attempted, noiseAt, maskAt, signFrom}
+use Rattle.signature.specs.Outcome.{Outcome, signing, answer, refusedOr, wiped, firstNo, heldOr}
+use Rattle.signature.specs.SignCalls.{Key, callChecks, publicFor, attemptsOf, signBy, leftBy, signCall, signOf}
+use Rattle.signature.specs.SignSteps.{signNo, signMade, kept}
 use Rattle.signature.proofs.Asked.{sizes}
-use Rattle.ring.proofs.Checks.{both-yes, right-no}
+use Rattle.ring.proofs.Checks.{both-yes, right-no, no-before, yes-before}
 use Rattle.ring.proofs.Filled.{not-filled}
 use Rattle.signature.proofs.Loads.{packed-long}
 use Rattle.signature.proofs.Expanded.{vk-in}
@@ -79,10 +80,10 @@ seed-front p vk = let e : p .kappa / 8 - 0 ≡ p .kappa / 8 = omega arith in ap 
 -- ---- the attempts end with 0, 10, 11 or 12
 
 -- from 1 to 8: the work buffer is then as it was
-abbrev early : Answer → Bool
+abbrev early : Outcome → Bool
 early A = both (leb 1 (A .status)) (leb (A .status) 8)
 
-ended-late : (a : ℕ) (X : Attempted) (later : Answer) → early later ≡ false → early (ended a X later) ≡ false
+ended-late : (a : ℕ) (X : Attempted) (later : Outcome) → early later ≡ false → early (ended a X later) ≡ false
 ended-late a (made b) later h = refl
 ended-late a over later h = h
 ended-late a stuck later h = refl
@@ -116,15 +117,15 @@ module _ (p : Params) (key : Key) (msg : List ℕ) (T : Coins) (n : ℕ) (out wo
   end-unfilled f x a ex ea =
       let e = ap (signMade p front msg T n (matrix p (vkSeed p front))) (not-filled (sharesOf p key) f) ∙ no-shares p front msg T n (matrix p (vkSeed p front)) in
       ap (λ (k : ℕ). signing k a out (zeros (length w))) ex ∙ ap (λ (k : ℕ). signing 10 k out (zeros (length w))) ea
-      ∙ ap (λ (k : ℕ). signing 10 0 out (zeros k)) long ∙ ap (λ (A : Answer). leftBy A out work) (sym e)
+      ∙ ap (λ (k : ℕ). signing 10 0 out (zeros k)) long ∙ ap (λ (A : Outcome). leftBy A out work) (sym e)
 
-  cleared-late : (A : Answer) → early A ≡ false → zeros (length w) ≡ pick (early A) work (zeros (length work))
+  cleared-late : (A : Outcome) → early A ≡ false → zeros (length w) ≡ wiped (A .status) work
   cleared-late A e = ap (λ (k : ℕ). zeros k) long ∙ ap (λ (b : Bool). pick b work (zeros (length work))) (sym e)
 
-  kept-left : (A : Answer) → early A ≡ false → (st at : ℕ) (ys : List ℕ) → answer st at ys ≡ kept A out → signing st at ys (zeros (length w)) ≡ leftBy A out work
+  kept-left : (A : Outcome) → early A ≡ false → (st at : ℕ) (ys : List ℕ) → answer st at ys ≡ kept A out → signing st at ys (zeros (length w)) ≡ leftBy A out work
   kept-left A e st at ys h =
-      ap (λ (B : Answer). signing (B .status) (B .attempts) (B .signature) (zeros (length w))) h
-      ∙ ap (signing (kept A out .status) (kept A out .attempts) (kept A out .signature)) (cleared-late A e)
+      ap (λ (B : Outcome). signing (B .status) (B .reported) (B .bytes) (zeros (length w))) h
+      ∙ ap (signing (kept A out .status) (kept A out .reported) (kept A out .bytes)) (cleared-late A e)
 
   -- the shares X were loaded, and the attempts made with the public key vk
   pub end-made : (vk X : List ℕ) → vk ≡ front → sharesOf p key ≡ some X → (st at : ℕ) (ys : List ℕ)
@@ -133,27 +134,45 @@ module _ (p : Params) (key : Key) (msg : List ℕ) (T : Coins) (n : ℕ) (out wo
   end-made vk X ev es st at ys h =
       let e = ap (λ (v : List ℕ). signMade p v msg T n (matrix p (vkSeed p v)) (some X)) ev ∙ ap (signMade p front msg T n (matrix p (vkSeed p front))) (sym es) in
       kept-left (signMade p front msg T n (matrix p (vkSeed p front)) (sharesOf p key)) (made-late p front msg T n (matrix p (vkSeed p front)) (sharesOf p key)) st at ys
-      (h ∙ ap (λ (A : Answer). kept A out) e)
+      (h ∙ ap (λ (A : Outcome). kept A out) e)
 
 -- ---- the call
 
+-- check 10 and the attempts are the call's end behind its other checks
+pub made-is : (p : Params) (vk msg : List ℕ) (T : Coins) (n : ℕ) (m s : Option (List ℕ))
+    → signMade p vk msg T n m s
+    ≡ refusedOr (firstNo ((10, both (filled m) (filled s)) ∷ [])) (signFrom p (publicFor p vk msg (heldOr m [])) T n 0 (heldOr s []))
+unfolding filled
+made-is p vk msg T n none s = refl
+made-is p vk msg T n (some A) none = refl
+made-is p vk msg T n (some A) (some s) = refl
+
 module _ (p : Params) (key : Key) (n : ℕ) (msg : List ℕ) (T : Coins) (out work : List ℕ) (k : ℕ) (f : k ≡ signNo p key n msg T out work) where
-  abbrev found : Signing
-  found = leftBy (signGo (signNo p key n msg T out work) p key n msg T) out work
+  abbrev found : Outcome
+  found = leftBy (signBy (Selected.Found p) p key n msg T out work) out work
+
+  abbrev last : List (ℕ × Bool)
+  last = (10, both (filled (matrix p (vkSeed p (publicOf p key)))) (filled (sharesOf p key))) ∷ []
 
   pub found-on : k ≡ 0 → leftBy (signMade p (publicOf p key) msg T n (matrix p (vkSeed p (publicOf p key))) (sharesOf p key)) out work ≡ found
-  found-on z = ap (λ (m : ℕ). leftBy (signGo m p key n msg T) out work) (sym z ∙ f)
+  unfolding signNo
+  found-on z =
+      ap (λ (A : Outcome). leftBy A out work)
+      (made-is p (publicOf p key) msg T n (matrix p (vkSeed p (publicOf p key))) (sharesOf p key)
+      ∙ ap (λ (m : ℕ). refusedOr m (attemptsOf p key n msg T))
+      (sym (yes-before (keyChecks p key ++ callChecks p n msg T out work) last refl (sym f ∙ z))))
 
   module _ (no : k ≡ 0 → ⊥) where
     -- k is not 0
-    above : (m : ℕ) → (m ≡ 0 → ⊥) → (1 ≤ m) × (signing m 0 out (pick (both (leb 1 m) (leb m 8)) work (zeros (length work))) ≡ leftBy (signGo m p key n msg T) out work)
+    above : (m : ℕ) → (m ≡ 0 → ⊥) → (1 ≤ m) × (signing m 0 out (wiped m work) ≡ leftBy (refusedOr m (attemptsOf p key n msg T)) out work)
     above zero z = absurd (z refl)
-    above (suc m) z =
-        let b = both (leb 1 (suc m)) (leb (suc m) 8) in
-        (omega arith, ap (λ (x : Bool). signing (suc m) 0 (pick x [] out) (pick b work (zeros (length work)))) (sym (ne-eqb (suc m) 0 z)))
+    above (suc m) z = (omega arith, refl)
 
-    refused : signing k 0 out (pick (both (leb 1 k) (leb k 8)) work (zeros (length work))) ≡ found
-    refused = above k no .1 ∙ ap (λ (m : ℕ). leftBy (signGo m p key n msg T) out work) f
+    refused : signing k 0 out (wiped k work) ≡ found
+    unfolding signNo
+    refused =
+        above k no .1
+        ∙ ap (λ (m : ℕ). leftBy (refusedOr m (attemptsOf p key n msg T)) out work) (no-before (keyChecks p key ++ callChecks p n msg T out work) last k f no)
 
     pub found-refused : k ≤ 8 → signing k 0 out work ≡ found
     found-refused m =
@@ -166,13 +185,13 @@ module _ (p : Params) (key : Key) (n : ℕ) (msg : List ℕ) (T : Coins) (out wo
 module _ (e : Edition) (set d : ℕ) (key : Key) (n : ℕ) (msg : List ℕ) (T : Coins) (out work : List ℕ) where
   pub sign-no-set : lookupOf set d e ≡ Selected.NoSet → signing 1 0 out work ≡ signCall e set d key n msg T out work
   unfolding signCall signOf
-  sign-no-set h = rw h
+  sign-no-set h = rw h refl
 
   pub sign-no-shares : lookupOf set d e ≡ Selected.NoShares → signing 2 0 out work ≡ signCall e set d key n msg T out work
   unfolding signCall signOf
-  sign-no-shares h = rw h
+  sign-no-shares h = rw h refl
 
   pub sign-on : (p : Params) → lookupOf set d e ≡ Selected.Found p
-      → leftBy (signGo (signNo p key n msg T out work) p key n msg T) out work ≡ signCall e set d key n msg T out work
+      → leftBy (signBy (Selected.Found p) p key n msg T out work) out work ≡ signCall e set d key n msg T out work
   unfolding signCall signOf
-  sign-on p h = rw h
+  sign-on p h = rw h refl

@@ -1,9 +1,10 @@
 -- The checks 10, 11 and 16 of verifying, from what the code finds.
 use mathlib.Core.Path.{_≡_, refl, sym, ap, _∙_}
 use mathlib.Core.Bool.{Bool, true, false}
-use mathlib.Core.List.{List, _++_}
+use mathlib.Core.List.{List, [], _∷_, _++_}
 use mathlib.Core.Option.{Option, some}
 use Prim.Native.Nat.{ℕ, _/_}
+use lib.IntN.{ℤ}
 use Rattle.hash.specs.Lists.{pick}
 use Rattle.hash.specs.Shake.{shake256}
 use Rattle.hash.specs.declared.params.Params.{Params}
@@ -12,27 +13,39 @@ use Rattle.ring.proofs.Filled.{not-filled, filled-some}
 use Rattle.signature.specs.Challenge.{headed, ordered, chalHash, chalPoly, chalHeld}
 use Rattle.signature.specs.Checks.{hashEqual}
 use Rattle.signature.specs.Form.{Fields}
-use Rattle.signature.specs.Keys.{vkVector}
-use Rattle.signature.specs.Matrix.{filled}
+use Rattle.signature.specs.Keys.{vkSeed, vkVector}
+use Rattle.signature.specs.Matrix.{matrix, filled}
+use Rattle.signature.specs.Outcome.{firstNo, heldOr}
 use Rattle.signature.specs.Recover.{muOf}
 use Rattle.signature.proofs.ChalResult.{challenge-there, challenge-missing}
-use Rattle.signature.specs.Verify.{recomputed, verifyMatrix, verifyChallenge}
+use Rattle.signature.specs.Verify.{recomputed, hashChecks}
 
 module _ (p : Params) (vk msg : List ℕ) (f : Fields) where
-  pub verdict-matrix : (M : Option (List ℕ)) → filled M ≡ false → verifyMatrix p vk msg f M ≡ 10
-  verdict-matrix M e = ap (verifyMatrix p vk msg f) (not-filled M e)
+  abbrev M : Option (List ℕ)
+  M = matrix p (vkSeed p vk)
 
-  pub verdict-challenge : (M : Option (List ℕ)) → filled M ≡ true → chalHeld (chalPoly p (f .hash)) .ok ≡ false → verifyMatrix p vk msg f M ≡ 11
-  verdict-challenge M e g =
-      ap (verifyMatrix p vk msg f) (filled-some M e)
-      ∙ ap (verifyChallenge p (heldOf M .poly) (vkVector p vk) (muOf p vk msg) f) (challenge-missing (chalPoly p (f .hash)) _ refl g)
+  abbrev C : Option (List ℤ)
+  C = chalPoly p (f .hash)
 
-  pub verdict-hash : (M : Option (List ℕ)) (A : List ℕ) (b : Bool) → M ≡ some A → chalHeld (chalPoly p (f .hash)) .ok ≡ true
+  -- by matrix and challenge, each if it fills
+  abbrev by : Option (List ℕ) → Option (List ℤ) → ℕ
+  by m c =
+      firstNo ((10, filled m) ∷ (11, filled c) ∷ (16, hashEqual f (recomputed p (heldOr m []) (vkVector p vk) (muOf p vk msg) f (heldOr c []))) ∷ [])
+
+  pub verdict-matrix : filled (matrix p (vkSeed p vk)) ≡ false → firstNo (hashChecks p vk msg f) ≡ 10
+  unfolding filled
+  verdict-matrix e = ap (λ (m : Option (List ℕ)). by m C) (not-filled M e)
+
+  pub verdict-challenge : filled (matrix p (vkSeed p vk)) ≡ true → chalHeld (chalPoly p (f .hash)) .ok ≡ false → firstNo (hashChecks p vk msg f) ≡ 11
+  unfolding filled
+  verdict-challenge e g = ap (λ (m : Option (List ℕ)). by m C) (filled-some M e) ∙ ap (by (some (heldOf M .poly))) (challenge-missing C _ refl g)
+
+  pub verdict-hash : (A : List ℕ) (b : Bool) → matrix p (vkSeed p vk) ≡ some A → chalHeld (chalPoly p (f .hash)) .ok ≡ true
       → b ≡ hashEqual f (recomputed p A (vkVector p vk) (muOf p vk msg) f (chalHeld (chalPoly p (f .hash)) .poly))
-      → verifyMatrix p vk msg f M ≡ pick b 0 16
-  verdict-hash M A b m g e =
-      ap (verifyMatrix p vk msg f) m ∙ ap (verifyChallenge p A (vkVector p vk) (muOf p vk msg) f) (challenge-there (chalPoly p (f .hash)) _ refl g)
-      ∙ ap (λ (x : Bool). pick x 0 16) (sym e)
+      → firstNo (hashChecks p vk msg f) ≡ pick b 0 16
+  unfolding filled
+  verdict-hash A b m g e =
+      ap (λ (o : Option (List ℕ)). by o C) m ∙ ap (by (some A)) (challenge-there C _ refl g) ∙ ap (λ (x : Bool). pick x 0 16) (sym e)
 
 -- the code's hash of equal parts
 pub hash-parts : {w w′ mu mu′ : List ℕ} (p : Params) → w ≡ w′ → mu ≡ mu′

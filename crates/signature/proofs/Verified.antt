@@ -1,20 +1,22 @@
 -- The checks of verifying in their order, and what the table gives.
-use mathlib.Core.Path.{_≡_, refl, sym, ap, _∙_}
+use mathlib.Core.Path.{_≡_, refl, sym, _∙_}
 use mathlib.Core.Bool.{Bool, true, false}
 use mathlib.Core.List.{List}
-use Prim.Native.Nat.{ℕ, _<_}
+use Prim.Native.Nat.{ℕ, _+_, _*_, _<_}
 use native.Mathlib.Omega.{arith}
 use borrow.Author.Tests.{lt-leb}
+use lib.Dec.{eqb}
 use lib.ListN.{length}
-use Rattle.hash.specs.Params.{lookupOf}
+use Rattle.hash.specs.Lists.{pick}
+use Rattle.hash.specs.Params.{setIndex, orderIndex, rowAt, paramsOf, lookupOf}
 use Rattle.hash.specs.declared.params.Edition.{Edition}
 use Rattle.hash.specs.declared.params.Params.{Params}
 use Rattle.hash.specs.declared.params.Selected.{Selected}
-use Rattle.hash.proofs.Rows.{found}
-use Rattle.signature.specs.Checks.{ask, publicKeySized, publicKeyGood, messageSized, signatureSized, properForm}
-use Rattle.signature.specs.Form.{read}
+use Rattle.hash.proofs.Rows.{order-count, found}
+use Rattle.hash.proofs.Sets.{look-up}
+use Rattle.signature.specs.Outcome.{firstNo, foundIn}
 use Rattle.signature.specs.Table.{Tabled}
-use Rattle.signature.specs.Verify.{verifyFields, verifyOf, verifyFor, verifyCall}
+use Rattle.signature.specs.Verify.{verifyChecks, verifyCall}
 
 pub tabled : (set d : ℕ) (e : Edition) (p : Params) → lookupOf set d e ≡ Selected.Found p → Tabled p
 tabled set d e p h =
@@ -33,58 +35,29 @@ tabled set d e p h =
       binf-low = omega (arith, b, r .hint-low);
     }
 
--- each no, where those before it are yes
-module _ (p : Params) (vk msg sig : List ℕ) where
-  abbrev rest : ℕ
-  rest = ask 14 (properForm p sig) (verifyFields p vk msg (read p sig))
+-- the look-up of the set, check 1: with one share there is a record or no set
+pub never-shares : (e : Edition) (set : ℕ) → lookupOf set 1 e ≡ Selected.NoShares → ⊥
+never-shares e set h =
+    go (eqb (setIndex set) 3) (sym (look-up set 1 e (order-count 1 (omega arith))) ∙ h)
+  where
+    go : (b : Bool) → pick b Selected.NoSet (Selected.Found (paramsOf (rowAt (6 * setIndex set + orderIndex 1)) e)) ≡ Selected.NoShares → ⊥
+    go true i = let z : _≡_ {A = ℕ} 0 1 = cc in omega arith
+    go false i = let z : _≡_ {A = ℕ} 0 1 = cc in omega arith
 
-  pub no-3 : publicKeySized p vk ≡ false → verifyOf p vk msg sig ≡ 3
-  unfolding verifyOf
-  no-3 a = ap (λ (t : Bool). ask 3 t (ask 4 (publicKeyGood p vk) (ask 9 (messageSized msg) (ask 13 (signatureSized p sig) rest)))) a
+module _ (e : Edition) (set : ℕ) (vk msg sig : List ℕ) where
+  pub verify-no-set : lookupOf set 1 e ≡ Selected.NoSet → 1 ≡ verifyCall e set vk msg sig
+  unfolding verifyCall
+  verify-no-set h = rw h refl
 
-  yes-3 : publicKeySized p vk ≡ true → verifyOf p vk msg sig ≡ ask 4 (publicKeyGood p vk) (ask 9 (messageSized msg) (ask 13 (signatureSized p sig) rest))
-  unfolding verifyOf
-  yes-3 a = ap (λ (t : Bool). ask 3 t (ask 4 (publicKeyGood p vk) (ask 9 (messageSized msg) (ask 13 (signatureSized p sig) rest)))) a
-
-  pub no-4 : publicKeySized p vk ≡ true → publicKeyGood p vk ≡ false → verifyOf p vk msg sig ≡ 4
-  no-4 a b = yes-3 a ∙ ap (λ (t : Bool). ask 4 t (ask 9 (messageSized msg) (ask 13 (signatureSized p sig) rest))) b
-
-  yes-4 : publicKeySized p vk ≡ true → publicKeyGood p vk ≡ true → verifyOf p vk msg sig ≡ ask 9 (messageSized msg) (ask 13 (signatureSized p sig) rest)
-  yes-4 a b = yes-3 a ∙ ap (λ (t : Bool). ask 4 t (ask 9 (messageSized msg) (ask 13 (signatureSized p sig) rest))) b
-
-  pub no-9 : publicKeySized p vk ≡ true → publicKeyGood p vk ≡ true → messageSized msg ≡ false → verifyOf p vk msg sig ≡ 9
-  no-9 a b c = yes-4 a b ∙ ap (λ (t : Bool). ask 9 t (ask 13 (signatureSized p sig) rest)) c
-
-  yes-9 : publicKeySized p vk ≡ true → publicKeyGood p vk ≡ true → messageSized msg ≡ true → verifyOf p vk msg sig ≡ ask 13 (signatureSized p sig) rest
-  yes-9 a b c = yes-4 a b ∙ ap (λ (t : Bool). ask 9 t (ask 13 (signatureSized p sig) rest)) c
-
-  pub no-13 : publicKeySized p vk ≡ true → publicKeyGood p vk ≡ true → messageSized msg ≡ true → signatureSized p sig ≡ false → verifyOf p vk msg sig ≡ 13
-  no-13 a b c d = yes-9 a b c ∙ ap (λ (t : Bool). ask 13 t rest) d
-
-  pub yes-13 : publicKeySized p vk ≡ true → publicKeyGood p vk ≡ true → messageSized msg ≡ true → signatureSized p sig ≡ true
-      → verifyOf p vk msg sig ≡ ask 14 (properForm p sig) (verifyFields p vk msg (read p sig))
-  yes-13 a b c d = yes-9 a b c ∙ ap (λ (t : Bool). ask 13 t rest) d
-
--- the look-up of the set, check 1
-pub verify-no-set : (e : Edition) (set : ℕ) (vk msg sig : List ℕ) → lookupOf set 1 e ≡ Selected.NoSet → 1 ≡ verifyCall e set vk msg sig
-unfolding verifyCall
-verify-no-set e set vk msg sig h = sym (ap (λ (x : Selected). verifyFor x vk msg sig) h)
-
-pub verify-no-shares : (e : Edition) (set : ℕ) (vk msg sig : List ℕ) → lookupOf set 1 e ≡ Selected.NoShares → 2 ≡ verifyCall e set vk msg sig
-unfolding verifyCall
-verify-no-shares e set vk msg sig h = sym (ap (λ (x : Selected). verifyFor x vk msg sig) h)
-
-pub verify-found : (e : Edition) (set : ℕ) (vk msg sig : List ℕ) (p : Params) → lookupOf set 1 e ≡ Selected.Found p → verifyOf p vk msg sig ≡ verifyCall e set vk msg sig
-unfolding verifyCall
-verify-found e set vk msg sig p h = sym (ap (λ (x : Selected). verifyFor x vk msg sig) h)
+  pub verify-found : (p : Params) → lookupOf set 1 e ≡ Selected.Found p → firstNo (verifyChecks (Selected.Found p) p vk msg sig) ≡ verifyCall e set vk msg sig
+  unfolding verifyCall
+  verify-found p h = rw h refl
 
 -- of a message that is too long (check 9) only that is known, and nothing of the signature
 module _ (e : Edition) (set : ℕ) (vk m n s t : List ℕ) (a : 4096 < length m) (b : 4096 < length n) where
   pub long-message : verifyCall e set vk m s ≡ verifyCall e set vk n t
-  unfolding verifyCall verifyOf
-  long-message = go (lookupOf set 1 e) refl
+  unfolding verifyCall
+  long-message = go (lookupOf set 1 e)
     where
-      go : (x : Selected) → lookupOf set 1 e ≡ x → verifyCall e set vk m s ≡ verifyCall e set vk n t
-      go Selected.NoSet h = rw h
-      go Selected.NoShares h = rw h
-      go (Selected.Found p) h = rw (h, lt-leb _ _ a, lt-leb _ _ b)
+      go : (x : Selected) → firstNo (verifyChecks x (foundIn x) vk m s) ≡ firstNo (verifyChecks x (foundIn x) vk n t)
+      go x = rw (lt-leb _ _ a, lt-leb _ _ b) refl

@@ -36,7 +36,7 @@ allZero [] = true
 allZero (zero ∷ l) = allZero l
 allZero (suc b ∷ l) = false
 
--- n numbers of the hint's code and m of the response's from the bits t, where every bit behind them is 0 (question 14)
+-- n numbers of the hint's code and m of the response's from the bits t, where every bit behind them is 0 (check 14)
 abbrev pub fillOf : List ℤ → List ℕ → Option (List ℤ × ℕ) → Option (List ℤ × List ℤ)
 fillOf h t none = none
 fillOf h t (some z) = pick (allZero (drop (z .1) t)) (some (h, z .0)) none

@@ -28,7 +28,7 @@ use Rattle.signature.specs.SignCalls.{Key, packed, expanded}
 -- the key that a call is lent: a signing key's bytes, or the public key's bytes and the words of all shares
 abbrev pub keyFrom : Bool → List ℕ → List ℕ → Key
 keyFrom true bytes words = packed bytes
-keyFrom false bytes words = expanded bytes words
+keyFrom false bytes words = expanded (record { vk = bytes; words = words })
 
 -- what all attempts draw on: of the two forms of noise that which is used, and the mask seeds
 abbrev pub coinsOf : Bool → List ℕ → List ℕ → List ℕ → Coins

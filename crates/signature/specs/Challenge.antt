@@ -9,12 +9,13 @@ use lib.IntN.{ℤ, pos, negsuc}
 use lib.ListN.{length, getD, set, replicate}
 use Rattle.hash.specs.Lists.{pick, table}
 use Rattle.hash.specs.Keccak.{State, keccakF}
-use Rattle.hash.specs.Params.{lookupOf, selectedNo}
+use Rattle.hash.specs.Params.{lookupOf}
 use Rattle.hash.specs.Shake.{absorbFrom, finish, rate, stream, shake256}
 use Rattle.hash.specs.declared.params.Edition.{Edition}
 use Rattle.hash.specs.declared.params.Params.{Params}
 use Rattle.hash.specs.declared.params.Selected.{Selected}
-use Rattle.ring.specs.Checks.{ask, polynomialSized, filled, answered}
+use Rattle.ring.specs.Checks.{firstNo, polynomialSized, filled, answered}
+use Rattle.signature.specs.Outcome.{setKnown, foundIn}
 use Rattle.signature.specs.declared.challenge.Challenged.{Challenged}
 
 -- ---- Algorithm 10 over a stream of bytes
@@ -74,20 +75,17 @@ ordered Edition.Kat w mu = mu ++ w
 unfoldable pub chalHash : Params → List ℕ → List ℕ → List ℕ
 chalHash p w mu = shake256 ((104 ∷ p .k ∷ 0 ∷ 0 ∷ 0 ∷ 0 ∷ 0 ∷ 0 ∷ []) ++ ordered (p .edition) w mu) (p .kappa / 4)
 
--- ---- the sampler over lent bytes: checks 1, 8 and 11
+-- ---- the sampler over lent bytes: s is the look-up's answer, with any share count, on which nothing here depends; p is the record found in it
 
-abbrev pub sampledNo : Params → List ℕ → List ℤ → ℕ
-sampledNo p s out = ask 8 (polynomialSized out) (ask 11 (filled (challenge (p .edition) (p .omega) s)) 0)
-
--- the set is looked up with any share count: nothing here depends on it
-abbrev sampledFor : Selected → List ℕ → List ℤ → ℕ × List ℤ
-sampledFor Selected.NoSet s out = (selectedNo Selected.NoSet, out)
-sampledFor Selected.NoShares s out = (selectedNo Selected.NoShares, out)
-sampledFor (Selected.Found p) s out = answered (sampledNo p s out) (challenge (p .edition) (p .omega) s) out
+abbrev pub sampledNo : Selected → Params → List ℕ → List ℤ → ℕ
+sampledNo s p bytes out = firstNo ((1, setKnown s) ∷ (8, polynomialSized out) ∷ (11, filled (challenge (p .edition) (p .omega) bytes)) ∷ [])
 
 -- the status, and what out holds afterwards
 unfoldable pub sampledChallenge : ℕ → List ℕ → List ℤ → ℕ × List ℤ
-sampledChallenge set s out = sampledFor (lookupOf set 1 Edition.Printed) s out
+sampledChallenge set bytes out =
+    let s = lookupOf set 1 Edition.Printed in
+    let p = foundIn s in
+    answered (sampledNo s p bytes out) (challenge (p .edition) (p .omega) bytes) out
 
 -- ---- the map of taken positions: bit p of eight words, and the ones of all of them
 

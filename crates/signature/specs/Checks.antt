@@ -1,4 +1,4 @@
--- The checks of paper 01 ("Questions put to a call"), each by its number. The first no decides, and its number is the status (`ask`).
+-- The checks of paper 01 ("Questions put to a call"), each by its number. The first no decides, and its number is the status (`firstNo`).
 use mathlib.Core.Bool.{Bool, true, false}
 use mathlib.Core.List.{List, [], _∷_}
 use mathlib.Core.Option.{Option, some, none}
@@ -6,14 +6,14 @@ use Prim.Native.Nat.{ℕ, _+_, _*_}
 use lib.Dec.{eqb, leb}
 use lib.ListN.{length, drop}
 use Rattle.hash.specs.declared.params.Params.{Params}
-pub use Rattle.ring.specs.Checks.{ask, both}
+pub use Rattle.ring.specs.Checks.{firstNo, both}
 use Rattle.ring.specs.Words.{q, allBelow}
 use Rattle.sharing.specs.Noise.{noiseBytes}
 use Rattle.signature.specs.Form.{Fields, write, read}
-use Rattle.signature.specs.Keys.{vkVector, fullShare, keygenBytes}
+use Rattle.signature.specs.Keys.{Key, packed, expanded, vkVector, fullShare, keygenBytes}
 
 -- 1. Is the set 128, 192 or 256?   2. Is d one of the six?
--- The look-up in the parameter table puts these two (lookupOf: NoSet, NoShares).
+-- The look-up in the parameter table puts these two (lookupOf); its answer says yes or no to each (setKnown, sharesKnown).
 
 -- 3. Is the key exactly as long as set (and d) say?
 abbrev pub signingKeySized : Params → List ℕ → Bool
@@ -35,6 +35,22 @@ fullShareGood p key = allBelow q (fullShare p (drop (p .«vk_bytes») key))
 
 abbrev pub shareWordsGood : List ℕ → Bool
 shareWordsGood words = allBelow q words
+
+-- 3 to 5, of a key of either form
+abbrev pub keySized : Params → Key → Bool
+keySized p (packed key) = signingKeySized p key
+keySized p (expanded K) = expandedKeySized p (K .vk) (K .words)
+
+abbrev pub keyGood : Params → Key → Bool
+keyGood p (packed key) = publicKeyGood p key
+keyGood p (expanded K) = publicKeyGood p (K .vk)
+
+abbrev pub sharesGood : Params → Key → Bool
+sharesGood p (packed key) = fullShareGood p key
+sharesGood p (expanded K) = shareWordsGood (K .words)
+
+abbrev pub keyChecks : Params → Key → List (ℕ × Bool)
+keyChecks p key = (3, keySized p key) ∷ (4, keyGood p key) ∷ (5, sharesGood p key) ∷ []
 
 -- 6. Are the allowed attempts (01: tries) from 1 to 16?
 abbrev pub attemptsAllowed : ℕ → Bool

@@ -2,15 +2,11 @@
 use mathlib.Core.Path.{_≡_}
 use mathlib.Core.List.{List}
 use Prim.Native.Nat.{ℕ, _+_, _-_, _*_, _≤_}
-use lib.ListN.{take, drop}
-use Rattle.hash.specs.Lists.{pick}
 use Rattle.hash.specs.Params.{ShareCount}
 use Rattle.hash.specs.declared.params.Params.{Params}
 use Rattle.ring.specs.Uniform.{heldOf}
 use Rattle.sharing.specs.Blocks.{build}
-use Rattle.signature.specs.Matrix.{filled}
-use Rattle.signature.specs.Keys.{seedBytes, shareAt, expandOf}
-use Rattle.signature.specs.KeyCalls.{Outcome, outcome}
+use Rattle.signature.specs.Keys.{seedBytes, shareAt}
 
 -- what every record of the table has
 pub record Listed (p : Params) : Type 0 where
@@ -33,8 +29,3 @@ expandedAt p part j i = heldOf (shareAt p part j i) .poly
 
 unfoldable pub expandedShares : Params → List ℕ → List ℕ
 expandedShares p part = build (p .l) (λ (j : ℕ). build (p .shares) (expandedAt p part j))
-
--- what the call leaves where only question 10 is open
-unfoldable pub expandedKey : Params → List ℕ → List ℕ → List ℕ → Outcome
-expandedKey p key bytes words =
-    pick (filled (expandOf p key)) (outcome 0 (take (p .«vk_bytes») key) (expandedShares p (drop (p .«vk_bytes») key))) (outcome 10 bytes words)

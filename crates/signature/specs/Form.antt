@@ -34,7 +34,7 @@ write p f =
     (some (chop 8 (p .«sig_bytes») (formBits f ++ replicate (8 * p .«sig_bytes» - bitCount f) 0)))
     none
 
--- the reader: hint and response behind the hash; what comes behind them is not looked at here (question 14 does)
+-- the reader: hint and response behind the hash; what comes behind them is not looked at here (check 14 does)
 abbrev readResponse : Params → List ℕ → List ℤ → Option (List ℤ × ℕ) → Option Fields
 readResponse p hash hint none = none
 readResponse p hash hint (some z) = some (record { hash = hash; hint = hint; response = z .0 })

@@ -1,83 +1,68 @@
--- The calls on keys: key generation, expanding, refreshing. What each answers and leaves in every buffer, for any input.
-use mathlib.Core.List.{List}
-use mathlib.Core.Option.{Option, some, none}
-use Prim.Native.Nat.{ℕ, zero, suc}
-use lib.ListN.{length, take}
-use Rattle.hash.specs.Params.{lookupOf, selectedNo}
+-- The calls on keys: key generation, expanding, refreshing. The checks that each puts, in their order, and what it leaves in every buffer, for
+-- any input. In each s is the look-up's answer and p the record found in it.
+use mathlib.Core.Bool.{Bool}
+use mathlib.Core.List.{List, [], _∷_, _++_}
+use Prim.Native.Nat.{ℕ}
+use Rattle.hash.specs.Params.{lookupOf}
 use Rattle.hash.specs.declared.params.Edition.{Edition}
 use Rattle.hash.specs.declared.params.Params.{Params}
 use Rattle.hash.specs.declared.params.Selected.{Selected}
-use Rattle.hash.specs.Lists.{zeros}
-use Rattle.signature.specs.Keys.{keygenOf, expandOf, refreshOf}
-use Rattle.signature.specs.Checks.{ask, signingKeySized, expandedKeySized, publicKeyGood, fullShareGood, shareWordsGood, maskSeedSized, keygenSeedsSized, keygenBuffersSized}
+use Rattle.signature.specs.Checks.{maskSeedSized, keygenSeedsSized, keygenBuffersSized, expandedKeySized, keyChecks}
+use Rattle.signature.specs.ExpandedKey.{ExpandedKey}
+use Rattle.signature.specs.Keys.{packed, expanded, keygenOf, expandOf, expandedOf, refreshedOf}
+use Rattle.signature.specs.Matrix.{filled}
+use Rattle.signature.specs.Outcome.{Outcome, outcome, firstNo, heldOr, written, wiped, setKnown, sharesKnown, foundIn}
 
--- the status, and what the lent byte and word buffers hold afterwards
-pub record Outcome : Type 0 where
-  pub status : ℕ
-  pub bytes : List ℕ
-  pub words : List ℕ
+-- ---- key generation: the result is the signing key; the words are the work buffer's
 
-abbrev pub outcome : ℕ → List ℕ → List ℕ → Outcome
-outcome n b w = record { status = n; bytes = b; words = w }
+abbrev pub keygenChecks : Selected → Params → List ℕ → List ℕ → List ℕ → List ℕ → List (ℕ × Bool)
+keygenChecks s p seeds mask out work =
+    (1, setKnown s)
+    ∷ (2, sharesKnown s)
+    ∷ (7, keygenSeedsSized p seeds mask)
+    ∷ (8, keygenBuffersSized p out work)
+    ∷ (10, filled (keygenOf p seeds mask))
+    ∷ []
 
--- ---- key generation: checks 1, 2, 7, 8, 10. The result is the signing key; the words are the work buffer's
-
-unfoldable pub keygenNo : Params → List ℕ → List ℕ → List ℕ → List ℕ → ℕ
-keygenNo p seeds mask out work = ask 7 (keygenSeedsSized p seeds mask) (ask 8 (keygenBuffersSized p out work) 0)
-
-abbrev pub keygenMade : Option (List ℕ) → List ℕ → List ℕ → Outcome
-keygenMade none out work = outcome 10 out (zeros (length work))
-keygenMade (some key) out work = outcome 0 key (zeros (length work))
-
-abbrev keygenGo : ℕ → Params → List ℕ → List ℕ → List ℕ → List ℕ → Outcome
-keygenGo zero p seeds mask out work = keygenMade (keygenOf p seeds mask) out work
-keygenGo (suc n) p seeds mask out work = outcome (suc n) out work
-
-abbrev keygenFor : Selected → List ℕ → List ℕ → List ℕ → List ℕ → Outcome
-keygenFor Selected.NoSet seeds mask out work = outcome (selectedNo Selected.NoSet) out work
-keygenFor Selected.NoShares seeds mask out work = outcome (selectedNo Selected.NoShares) out work
-keygenFor (Selected.Found p) seeds mask out work = keygenGo (keygenNo p seeds mask out work) p seeds mask out work
+-- with status n
+abbrev pub keygenLeaves : ℕ → Params → List ℕ → List ℕ → List ℕ → List ℕ → Outcome
+keygenLeaves n p seeds mask out work = outcome n (written n (heldOr (keygenOf p seeds mask) []) out) (wiped n work)
 
 unfoldable pub keygenCall : Edition → ℕ → ℕ → List ℕ → List ℕ → List ℕ → List ℕ → Outcome
-keygenCall e set d seeds mask out work = keygenFor (lookupOf set d e) seeds mask out work
+keygenCall e set d seeds mask out work =
+    let s = lookupOf set d e in
+    let p = foundIn s in
+    keygenLeaves (firstNo (keygenChecks s p seeds mask out work)) p seeds mask out work
 
--- ---- expanding: checks 1, 2, 3, 4, 5, 8, 10. The results are the public key's bytes and the words of all shares
+-- ---- expanding and refreshing: the result is an expanded key, its bytes and its words
 
-unfoldable pub expandNo : Params → List ℕ → List ℕ → List ℕ → ℕ
-expandNo p key bytes words =
-    ask 3 (signingKeySized p key) (ask 4 (publicKeyGood p key) (ask 5 (fullShareGood p key) (ask 8 (expandedKeySized p bytes words) 0)))
+-- with status n; K is the key
+abbrev pub keyLeaves : ℕ → ExpandedKey → List ℕ → List ℕ → Outcome
+keyLeaves n K bytes words = outcome n (written n (K .vk) bytes) (written n (K .words) words)
 
-abbrev expandMade : Params → List ℕ → Option (List ℕ) → List ℕ → List ℕ → Outcome
-expandMade p key none bytes words = outcome 10 bytes words
-expandMade p key (some shares) bytes words = outcome 0 (take (p .«vk_bytes») key) shares
-
-abbrev expandGo : ℕ → Params → List ℕ → List ℕ → List ℕ → Outcome
-expandGo zero p key bytes words = expandMade p key (expandOf p key) bytes words
-expandGo (suc n) p key bytes words = outcome (suc n) bytes words
-
-abbrev expandFor : Selected → List ℕ → List ℕ → List ℕ → Outcome
-expandFor Selected.NoSet key bytes words = outcome (selectedNo Selected.NoSet) bytes words
-expandFor Selected.NoShares key bytes words = outcome (selectedNo Selected.NoShares) bytes words
-expandFor (Selected.Found p) key bytes words = expandGo (expandNo p key bytes words) p key bytes words
+abbrev pub expandChecks : Selected → Params → List ℕ → List ℕ → List ℕ → List (ℕ × Bool)
+expandChecks s p key bytes words =
+    (1, setKnown s)
+    ∷ (2, sharesKnown s)
+    ∷ keyChecks p (packed key)
+    ++ ((8, expandedKeySized p bytes words) ∷ (10, filled (expandOf p key)) ∷ [])
 
 unfoldable pub expandCall : Edition → ℕ → ℕ → List ℕ → List ℕ → List ℕ → Outcome
-expandCall e set d key bytes words = expandFor (lookupOf set d e) key bytes words
+expandCall e set d key bytes words =
+    let s = lookupOf set d e in
+    let p = foundIn s in
+    keyLeaves (firstNo (expandChecks s p key bytes words)) (expandedOf p key) bytes words
 
--- ---- refreshing: checks 1 to 5, 7, 8. Lent an expanded key and a mask seed; the results are an expanded key
+-- lent an expanded key and a mask seed
+abbrev pub refreshChecks : Selected → Params → ExpandedKey → List ℕ → List ℕ → List ℕ → List (ℕ × Bool)
+refreshChecks s p K mask bytes words =
+    (1, setKnown s)
+    ∷ (2, sharesKnown s)
+    ∷ keyChecks p (expanded K)
+    ++ ((7, maskSeedSized mask) ∷ (8, expandedKeySized p bytes words) ∷ [])
 
-unfoldable pub refreshNo : Params → List ℕ → List ℕ → List ℕ → List ℕ → List ℕ → ℕ
-refreshNo p key shares mask bytes words =
-    ask 3 (expandedKeySized p key shares)
-    (ask 4 (publicKeyGood p key) (ask 5 (shareWordsGood shares) (ask 7 (maskSeedSized mask) (ask 8 (expandedKeySized p bytes words) 0))))
-
-abbrev refreshGo : ℕ → Params → List ℕ → List ℕ → List ℕ → List ℕ → List ℕ → Outcome
-refreshGo zero p key shares mask bytes words = outcome 0 key (refreshOf p shares mask)
-refreshGo (suc n) p key shares mask bytes words = outcome (suc n) bytes words
-
-abbrev refreshFor : Selected → List ℕ → List ℕ → List ℕ → List ℕ → List ℕ → Outcome
-refreshFor Selected.NoSet key shares mask bytes words = outcome (selectedNo Selected.NoSet) bytes words
-refreshFor Selected.NoShares key shares mask bytes words = outcome (selectedNo Selected.NoShares) bytes words
-refreshFor (Selected.Found p) key shares mask bytes words = refreshGo (refreshNo p key shares mask bytes words) p key shares mask bytes words
-
-unfoldable pub refreshCall : ℕ → ℕ → List ℕ → List ℕ → List ℕ → List ℕ → List ℕ → Outcome
-refreshCall set d key shares mask bytes words = refreshFor (lookupOf set d Edition.Printed) key shares mask bytes words
+unfoldable pub refreshCall : ℕ → ℕ → ExpandedKey → List ℕ → List ℕ → List ℕ → Outcome
+refreshCall set d K mask bytes words =
+    let s = lookupOf set d Edition.Printed in
+    let p = foundIn s in
+    keyLeaves (firstNo (refreshChecks s p K mask bytes words)) (refreshedOf p K mask) bytes words

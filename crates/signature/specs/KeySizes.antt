@@ -1,9 +1,6 @@
--- The checks of key generation over lengths, and the ranges by which the sizes in them are machine numbers.
-use Prim.Native.Nat.{ℕ, _≤_}
-use lib.Dec.{eqb}
+-- The ranges by which the sizes in the checks of key generation and signing are machine numbers.
+use Prim.Native.Nat.{_≤_}
 use Rattle.hash.specs.declared.params.Params.{Params}
-use Rattle.signature.specs.Keys.{keygenBytes}
-use Rattle.signature.specs.Checks.{ask, both, workWords}
 
 -- holds for every record of the parameter table (KeyRanges: ranged)
 pub record Ranges (p : Params) : Type 0 where
@@ -13,8 +10,3 @@ pub record Ranges (p : Params) : Type 0 where
   pub columns-low : p .l ≤ 7
   pub rep-low : p .rep ≤ 8
   pub kappa-low : p .kappa ≤ 256
-
--- keygenNo, of the lengths of seeds, mask, out and work
-unfoldable pub keygenNoOf : Params → ℕ → ℕ → ℕ → ℕ → ℕ
-keygenNoOf p seeds mask out work =
-    ask 7 (both (eqb seeds (keygenBytes p)) (eqb mask 32)) (ask 8 (both (eqb out (p .«sk_bytes»)) (eqb work (workWords p))) 0)

@@ -1,9 +1,10 @@
 -- Keys: byte forms (000, 2.5.2 and 2.5.3), MaskCompress and MaskDecompress (Algorithms 14 and 15), KeyGen (Algorithm 1).
-use mathlib.Core.List.{List, _++_}
+use mathlib.Core.List.{List, [], _++_}
 use mathlib.Core.Option.{Option, some, none}
 use Prim.Native.Nat.{ℕ, zero, suc, _+_, _-_, _*_, _/_}
 use lib.ListN.{take, drop}
 use Rattle.hash.specs.declared.params.Params.{Params}
+use Rattle.ring.specs.Checks.{heldOr}
 use Rattle.ring.specs.Transform.{ntt}
 use Rattle.ring.specs.Round.{roundT}
 use Rattle.sharing.specs.Blocks.{block, build, totals, each}
@@ -12,6 +13,7 @@ use Rattle.sharing.specs.Masks.{masks, maskStart}
 use Rattle.sharing.specs.Noise.{noiseBytes}
 use Rattle.sharing.specs.declared.masks.MaskGen.{MaskGen}
 use Rattle.signature.specs.Bits.{repack}
+use Rattle.signature.specs.ExpandedKey.{ExpandedKey}
 use Rattle.signature.specs.Compress.{seededShareOf, collectedOf, compressedOf}
 use Rattle.signature.specs.Matrix.{buildAll, matrix}
 use Rattle.signature.specs.Masked.{seeded, maskedNoise, maskedImage}
@@ -89,5 +91,32 @@ keygenOf p seeds mask =
 unfoldable pub expandOf : Params → List ℕ → Option (List ℕ)
 expandOf p key = decompressed p (drop (p .«vk_bytes») key)
 
+-- the key that this gives, if all shares fill
+abbrev pub expandedOf : Params → List ℕ → ExpandedKey
+expandedOf p key = record { vk = take (p .«vk_bytes») key; words = heldOr (expandOf p key) [] }
+
 unfoldable pub refreshOf : Params → List ℕ → List ℕ → List ℕ
 refreshOf p words mask = refreshed masks (p .shares) (maskStart mask) (p .l) words
+
+abbrev pub refreshedOf : Params → ExpandedKey → List ℕ → ExpandedKey
+refreshedOf p K mask = record { vk = K .vk; words = refreshOf p (K .words) mask }
+
+-- what key generation made the signing key of: its public key, and the shares of s
+abbrev pub generatedOf : Params → List ℕ → List ℕ → List ℕ → ExpandedKey
+generatedOf p seeds mask key = record { vk = take (p .«vk_bytes») key; words = keyShares p (noisePart p seeds) (maskStart mask) }
+
+-- ---- a key that a call is lent
+
+-- a signing key's bytes, or an expanded key
+pub data Key : Type 0 where
+  packed : List ℕ → Key
+  expanded : ExpandedKey → Key
+
+-- its public key, and its shares, if the share seeds fill (check 10)
+abbrev pub publicOf : Params → Key → List ℕ
+publicOf p (packed key) = take (p .«vk_bytes») key
+publicOf p (expanded K) = K .vk
+
+abbrev pub sharesOf : Params → Key → Option (List ℕ)
+sharesOf p (packed key) = expandOf p key
+sharesOf p (expanded K) = some (K .words)

@@ -6,6 +6,7 @@ pub mod Challenge
 pub mod Checks
 pub mod Code
 pub mod Compress
+pub mod ExpandedKey
 pub mod Form
 pub mod KeyCalls
 pub mod Keygen
@@ -15,6 +16,7 @@ pub mod Masked
 pub mod MaskedSteps
 pub mod Matrix
 pub mod MatrixSteps
+pub mod Outcome
 pub mod Expanding
 pub mod Recover
 pub mod RecoverSteps

@@ -17,6 +17,7 @@ use Rattle.signature.specs.Bounds.{checkBounds}
 use Rattle.signature.specs.Challenge.{chalHash, chalPoly}
 use Rattle.signature.specs.Form.{Fields, write}
 use Rattle.signature.specs.Masked.{Noise, Step, onward, refresh, seeded, explicit, maskedNoise, maskedImage}
+use Rattle.signature.specs.Outcome.{Outcome, answer}
 use Rattle.signature.specs.Recover.{recovered, hintOf, centredAll}
 
 -- what all attempts have from the public key and the message: the matrix, t and mu (lines 1 to 3)
@@ -30,15 +31,6 @@ pub data Attempted : Type 0 where
   made : List ℕ → Attempted
   over : Attempted
   stuck : Attempted
-
--- what signing answers; with a refusal the signature is empty
-pub record Answer : Type 0 where
-  pub status : ℕ
-  pub attempts : ℕ
-  pub signature : List ℕ
-
-abbrev pub answer : ℕ → ℕ → List ℕ → Answer
-answer n t s = record { status = n; attempts = t; signature = s }
 
 -- ---- lines 9 to 20, from the sums of the shares
 
@@ -121,13 +113,13 @@ unfoldable pub maskAt : Coins → ℕ → MaskGen
 maskAt T a = maskStart (block 32 a (T .masks))
 
 -- the end of attempt number a + 1, or what the later ones give
-abbrev pub ended : ℕ → Attempted → Answer → Answer
+abbrev pub ended : ℕ → Attempted → Outcome → Outcome
 ended a (made b) later = answer 0 (suc a) b
 ended a over later = later
 ended a stuck later = answer 11 (suc a) []
 
 -- `left` attempts in the order of the coins, from number a + 1, with the key's shares s; 12 where none passes
-unfoldable pub signFrom : Params → Public → Coins → ℕ → ℕ → List ℕ → Answer
+unfoldable pub signFrom : Params → Public → Coins → ℕ → ℕ → List ℕ → Outcome
 signFrom p P T zero a s = answer 12 a []
 signFrom p P T (suc left) a s =
     ended a (attempted p P (noiseAt p T a) (maskAt T a) s) (signFrom p P T left (suc a) (refreshedKey p (noiseAt p T a) (maskAt T a) (P .matrix) s .shares))

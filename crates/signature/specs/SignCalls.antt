@@ -1,95 +1,59 @@
--- The signing calls: with a signing key or an expanded key, from seeds or with explicit noise. What each answers and leaves in every buffer.
+-- The signing calls: with a signing key or an expanded key, from seeds or with explicit noise. The checks that each puts, in their order, what
+-- each answers and what it leaves in every buffer.
 use mathlib.Core.Bool.{Bool}
-use mathlib.Core.List.{List, []}
-use mathlib.Core.Option.{Option, some, none}
-use Prim.Native.Nat.{ℕ, zero, suc}
-use lib.Dec.{eqb, leb}
-use lib.ListN.{length, take}
-use Rattle.hash.specs.Lists.{zeros, pick}
-use Rattle.hash.specs.Params.{lookupOf, selectedNo}
+use mathlib.Core.List.{List, [], _∷_, _++_}
+use Prim.Native.Nat.{ℕ}
+use Rattle.hash.specs.Lists.{pick}
+use Rattle.hash.specs.Params.{lookupOf}
 use Rattle.hash.specs.declared.params.Edition.{Edition}
 use Rattle.hash.specs.declared.params.Params.{Params}
 use Rattle.hash.specs.declared.params.Selected.{Selected}
-use Rattle.signature.specs.Checks.{ask, both, signingKeySized, expandedKeySized, publicKeyGood, fullShareGood, shareWordsGood, attemptsAllowed, signSeedsSized, signNoiseGood, signBuffersSized, messageSized}
-use Rattle.signature.specs.Keys.{vkSeed, vkVector, expandOf}
-use Rattle.signature.specs.Matrix.{matrix}
+use Rattle.signature.specs.Checks.{attemptsAllowed, signSeedsSized, signNoiseGood, signBuffersSized, messageSized, keyChecks}
+pub use Rattle.signature.specs.Keys.{Key, packed, expanded}
+use Rattle.signature.specs.Keys.{vkSeed, vkVector, publicOf, sharesOf}
+use Rattle.signature.specs.Matrix.{matrix, filled}
+use Rattle.signature.specs.Outcome.{Outcome, signing, refusedOr, firstNo, both, heldOr, written, wiped, setKnown, sharesKnown, foundIn}
 use Rattle.signature.specs.Recover.{muOf}
-use Rattle.signature.specs.Sign.{Public, Answer, answer, Coins, signFrom}
+use Rattle.signature.specs.Sign.{Public, Coins, signFrom}
 
--- a signing key's bytes; or an expanded key (01: opened key): the public key's bytes and the words of all shares
-pub data Key : Type 0 where
-  packed : List ℕ → Key
-  expanded : List ℕ → List ℕ → Key
-
-abbrev pub keySized : Params → Key → Bool
-keySized p (packed key) = signingKeySized p key
-keySized p (expanded vk words) = expandedKeySized p vk words
-
-abbrev pub keyGood : Params → Key → Bool
-keyGood p (packed key) = publicKeyGood p key
-keyGood p (expanded vk words) = publicKeyGood p vk
-
-abbrev pub sharesGood : Params → Key → Bool
-sharesGood p (packed key) = fullShareGood p key
-sharesGood p (expanded vk words) = shareWordsGood words
-
--- its public key, and its shares, if the share seeds fill (check 10)
-abbrev pub publicOf : Params → Key → List ℕ
-publicOf p (packed key) = take (p .«vk_bytes») key
-publicOf p (expanded vk words) = vk
-
-abbrev pub sharesOf : Params → Key → Option (List ℕ)
-sharesOf p (packed key) = expandOf p key
-sharesOf p (expanded vk words) = some words
-
+-- check 7
 abbrev pub coinsGood : Params → ℕ → Coins → Bool
 coinsGood p n T = pick (T .explicit) (signNoiseGood p n (T .noise) (T .masks)) (signSeedsSized p n (T .noise) (T .masks))
 
--- checks 3 to 9; 0 where none is a no
-unfoldable pub signNo : Params → Key → ℕ → List ℕ → Coins → List ℕ → List ℕ → ℕ
-signNo p key n msg T out work =
-    ask 3 (keySized p key)
-    (ask 4 (keyGood p key)
-    (ask 5 (sharesGood p key)
-    (ask 6 (attemptsAllowed n)
-    (ask 7 (coinsGood p n T) (ask 8 (signBuffersSized p out work) (ask 9 (messageSized msg) 0))))))
+-- 6 to 9, where n attempts are allowed
+abbrev pub callChecks : Params → ℕ → List ℕ → Coins → List ℕ → List ℕ → List (ℕ × Bool)
+callChecks p n msg T out work =
+    (6, attemptsAllowed n) ∷ (7, coinsGood p n T) ∷ (8, signBuffersSized p out work) ∷ (9, messageSized msg) ∷ []
+
+-- 1 to 10, the last of the matrix and of the share seeds
+abbrev pub signChecks : Selected → Params → Key → ℕ → List ℕ → Coins → List ℕ → List ℕ → List (ℕ × Bool)
+signChecks s p key n msg T out work =
+    (1, setKnown s)
+    ∷ (2, sharesKnown s)
+    ∷ keyChecks p key
+    ++ callChecks p n msg T out work
+    ++ ((10, both (filled (matrix p (vkSeed p (publicOf p key)))) (filled (sharesOf p key))) ∷ [])
 
 abbrev pub publicFor : Params → List ℕ → List ℕ → List ℕ → Public
 publicFor p vk msg A = record { matrix = A; vector = vkVector p vk; mu = muOf p vk msg }
 
--- check 10, the matrix and the share seeds; then the attempts
-abbrev pub signMade : Params → List ℕ → List ℕ → Coins → ℕ → Option (List ℕ) → Option (List ℕ) → Answer
-signMade p vk msg T n none s = answer 10 0 []
-signMade p vk msg T n (some A) none = answer 10 0 []
-signMade p vk msg T n (some A) (some s) = signFrom p (publicFor p vk msg A) T n 0 s
+-- behind them the attempts: 11 within each, 12 where none passes
+abbrev pub attemptsOf : Params → Key → ℕ → List ℕ → Coins → Outcome
+attemptsOf p key n msg T =
+    signFrom p (publicFor p (publicOf p key) msg (heldOr (matrix p (vkSeed p (publicOf p key))) [])) T n 0 (heldOr (sharesOf p key) [])
 
-abbrev pub signGo : ℕ → Params → Key → ℕ → List ℕ → Coins → Answer
-signGo zero p key n msg T = signMade p (publicOf p key) msg T n (matrix p (vkSeed p (publicOf p key))) (sharesOf p key)
-signGo (suc m) p key n msg T = answer (suc m) 0 []
+-- both
+abbrev pub signBy : Selected → Params → Key → ℕ → List ℕ → Coins → List ℕ → List ℕ → Outcome
+signBy s p key n msg T out work = refusedOr (firstNo (signChecks s p key n msg T out work)) (attemptsOf p key n msg T)
 
-abbrev pub signFor : Selected → Key → ℕ → List ℕ → Coins → List ℕ → List ℕ → Answer
-signFor Selected.NoSet key n msg T out work = answer (selectedNo Selected.NoSet) 0 []
-signFor Selected.NoShares key n msg T out work = answer (selectedNo Selected.NoShares) 0 []
-signFor (Selected.Found p) key n msg T out work = signGo (signNo p key n msg T out work) p key n msg T
+unfoldable pub signOf : Edition → ℕ → ℕ → Key → ℕ → List ℕ → Coins → List ℕ → List ℕ → Outcome
+signOf e set d key n msg T out work =
+    let s = lookupOf set d e in
+    signBy s (foundIn s) key n msg T out work
 
-unfoldable pub signOf : Edition → ℕ → ℕ → Key → ℕ → List ℕ → Coins → List ℕ → List ℕ → Answer
-signOf e set d key n msg T out work = signFor (lookupOf set d e) key n msg T out work
+-- the answer A, and what is left in the buffers for the signature and for work
+abbrev pub leftBy : Outcome → List ℕ → List ℕ → Outcome
+leftBy A out work = signing (A .status) (A .reported) (written (A .status) (A .bytes) out) (wiped (A .status) work)
 
--- what a call gives and leaves: the result is written with 0 only; the work buffer is as it was up to 8, all zero after
-pub record Signing : Type 0 where
-  pub status : ℕ
-  pub attempts : ℕ
-  pub bytes : List ℕ
-  pub words : List ℕ
-
-abbrev pub signing : ℕ → ℕ → List ℕ → List ℕ → Signing
-signing n a b w = record { status = n; attempts = a; bytes = b; words = w }
-
-abbrev pub leftBy : Answer → List ℕ → List ℕ → Signing
-leftBy A out work =
-    signing (A .status) (A .attempts)
-    (pick (eqb (A .status) 0) (A .signature) out)
-    (pick (both (leb 1 (A .status)) (leb (A .status) 8)) work (zeros (length work)))
-
-unfoldable pub signCall : Edition → ℕ → ℕ → Key → ℕ → List ℕ → Coins → List ℕ → List ℕ → Signing
+unfoldable pub signCall : Edition → ℕ → ℕ → Key → ℕ → List ℕ → Coins → List ℕ → List ℕ → Outcome
 signCall e set d key n msg T out work = leftBy (signOf e set d key n msg T out work) out work

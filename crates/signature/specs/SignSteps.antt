@@ -1,11 +1,9 @@
--- The steps of a signing call: its checks in two parts, the end of an attempt as the code tells it, and what the attempts leave.
+-- The steps of a signing call: its checks before any step, the end of an attempt as the code tells it, and what the attempts leave.
 use mathlib.Core.Path.{_≡_}
-use mathlib.Core.List.{List}
-use mathlib.Core.Option.{some}
+use mathlib.Core.List.{List, [], _++_}
+use mathlib.Core.Option.{Option, some, none}
 use Prim.Native.Nat.{ℕ, _*_}
-use lib.Dec.{eqb}
 use lib.IntN.{ℤ}
-use Rattle.hash.specs.Lists.{pick}
 use Rattle.hash.specs.declared.params.Params.{Params}
 use Rattle.ring.specs.Words.{q}
 use Rattle.ring.specs.Round.{residues}
@@ -13,20 +11,23 @@ use Rattle.sharing.specs.Region.{span}
 use Rattle.sharing.specs.declared.masks.MaskGen.{MaskGen}
 use Rattle.signature.specs.Attempt.{atR, keyIn, Begun, LastRow, hashOf}
 use Rattle.signature.specs.Challenge.{chalPoly}
-use Rattle.signature.specs.Checks.{ask, attemptsAllowed, signBuffersSized, messageSized}
+use Rattle.signature.specs.Checks.{keyChecks}
 use Rattle.signature.specs.Keys.{vkVector}
 use Rattle.signature.specs.Masked.{Noise}
-use Rattle.signature.specs.Sign.{Public, Attempted, made, over, stuck, Answer, answer, Coins, refreshedKey, refreshedResponse, attempted, noiseAt, maskAt}
-use Rattle.signature.specs.SignCalls.{Key, keySized, keyGood, sharesGood, coinsGood}
+use Rattle.signature.specs.Outcome.{Outcome, answer, firstNo, written}
+use Rattle.signature.specs.Sign.{Public, Attempted, made, over, stuck, Coins, refreshedKey, refreshedResponse, attempted, noiseAt, maskAt, signFrom}
+use Rattle.signature.specs.SignCalls.{Key, callChecks, publicFor}
 use Rattle.signature.specs.declared.sign.AttemptEnd.{AttemptEnd}
 
--- signNo in two parts: checks 3 to 5, of the key; checks 6 to 9
-unfoldable pub keyNo : Params → Key → ℕ
-keyNo p key = ask 3 (keySized p key) (ask 4 (keyGood p key) (ask 5 (sharesGood p key) 0))
+-- checks 3 to 9, before any step
+unfoldable pub signNo : Params → Key → ℕ → List ℕ → Coins → List ℕ → List ℕ → ℕ
+signNo p key n msg T out work = firstNo (keyChecks p key ++ callChecks p n msg T out work)
 
-unfoldable pub callNo : Params → ℕ → List ℕ → Coins → List ℕ → List ℕ → ℕ
-callNo p n msg T out work =
-    ask 6 (attemptsAllowed n) (ask 7 (coinsGood p n T) (ask 8 (signBuffersSized p out work) (ask 9 (messageSized msg) 0)))
+-- behind them, of the matrix and the shares, if they fill: check 10, then the attempts
+abbrev pub signMade : Params → List ℕ → List ℕ → Coins → ℕ → Option (List ℕ) → Option (List ℕ) → Outcome
+signMade p vk msg T n none s = answer 10 0 []
+signMade p vk msg T n (some A) none = answer 10 0 []
+signMade p vk msg T n (some A) (some s) = signFrom p (publicFor p vk msg A) T n 0 s
 
 -- what all attempts have, by mu
 abbrev pub publicBy : Params → List ℕ → List ℕ → List ℕ → Public
@@ -61,5 +62,5 @@ abbrev pub EndedAt : Params → Public → Coins → ℕ → List ℕ → Attemp
 EndedAt p P T i s r xs ys work = EndedAs p P (noiseAt p T i) (maskAt T i) s r xs ys work
 
 -- an answer with what the signature's buffer, out before, holds afterwards
-abbrev pub kept : Answer → List ℕ → Answer
-kept A out = answer (A .status) (A .attempts) (pick (eqb (A .status) 0) (A .signature) out)
+abbrev pub kept : Outcome → List ℕ → Outcome
+kept A out = answer (A .status) (A .reported) (written (A .status) (A .bytes) out)

@@ -68,7 +68,7 @@ fn zeros(buf: &[u8], at: usize) -> bool
     true
 }
 
-// Reads hint and response behind the hash. True where they could be read and every bit behind them is 0 (question 14).
+// Reads hint and response behind the hash. True where they could be read and every bit behind them is 0 (check 14).
 pub(crate) fn read(sig: &[u8], hash_bytes: usize, hint: &mut [i64], response: &mut [i64]) -> bool
     requires { ⌜ «hash_bytes» ≤ length (now sig) ⌝ }
     requires { ⌜ length (now sig) < 2 ^ 17 ⌝ }

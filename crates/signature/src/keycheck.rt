@@ -1,9 +1,97 @@
-// The checks of key generation (01, questions 7 and 8), over the lengths of what is lent.
+// The checks of a key (01: 3 to 5), and those of key generation (7 and 8).
 ghost use mathlib.Core.Path.{_≡_};
-ghost use Rattle.signature.specs.Keys.{keygenBytes};
-ghost use Rattle.signature.specs.Checks.{workWords};
-ghost use Rattle.signature.specs.KeySizes.{Ranges, keygenNoOf};
+ghost use mathlib.Core.List.{[], _∷_};
+ghost use Prim.Native.Nat.{_+_, _*_, _≤_};
+ghost use lib.Dec.{eqb};
+ghost use lib.ListN.{length, take, drop};
+ghost use Rattle.ring.specs.Words.{q, allBelow};
+ghost use Rattle.signature.specs.Bits.{repack};
+ghost use Rattle.signature.specs.Checks.{firstNo, both, workWords, keygenSeedsSized, keygenBuffersSized, keyChecks};
+ghost use Rattle.signature.specs.Expanding.{Listed, partBytes};
+ghost use Rattle.signature.specs.Keys.{packed, expanded, fullShare, keygenBytes};
+ghost use Rattle.signature.specs.KeySizes.{Ranges};
+use crate::bits::unpack;
+use crate::int::Q;
 use hash::params::Params;
+use ring::poly::all_below;
+
+// Checks 3 and 8, of an expanded key: are there vk bytes and n words?
+pub(crate) fn sized(vk: usize, n: usize, bytes: &[u8], words: &[u64]) -> bool
+    ensures { λ r. ⌜ r ≡ both (eqb (length (now (bytes .entry))) vk) (eqb (length (now (words .entry))) n) ⌝ }
+{
+    if bytes.len() != vk {
+        return false;
+    }
+    words.len() == n
+}
+
+// Check 4: are the k * 512 coefficients of t, 7 bits each behind the n bytes of the seed, below 125?
+pub(crate) fn public_key_good(key: &[u8], n: usize, k: usize) -> bool
+    requires { ⌜ (n + k * 448 ≤ length (now key)) × (k ≤ 9) ⌝ }
+    ensures { λ r. ⌜ r ≡ allBelow 125 (repack 8 7 (k * 512) (take (k * 448) (drop n (now (key .entry))))) ⌝ }
+{
+    let mut t = [0u64; 4608];
+    let m = k * 512;
+    let e = n + k * 448;
+    unpack(&key[n..e], 7, &mut t[0..m]);
+    all_below(&t[0..m], 125)
+}
+
+// The full share, 49 bits a coefficient behind the seeds.
+pub(crate) fn full_share(p: Params, part: &[u8], out: &mut [u64])
+    requires { ⌜ Listed p × (length (now part) ≡ partBytes p) × (length (now out) ≡ p .l * 512) ⌝ }
+    ensures { λ _. ⌜ now (out .exit) ≡ fullShare p (now (part .entry)) ⌝ }
+{
+    let a = (p.shares - 1) * (p.kappa / 8);
+    unpack(&part[a..], 49, out);
+}
+
+// Check 5: are the words of the full share below q?
+pub(crate) fn full_share_good(p: Params, part: &[u8]) -> bool
+    requires { ⌜ Listed p × (length (now part) ≡ partBytes p) ⌝ }
+    ensures { λ r. ⌜ r ≡ allBelow q (fullShare p (now (part .entry))) ⌝ }
+{
+    let mut full = [0u64; 3584];
+    let n = p.l * 512;
+    full_share(p, part, &mut full[0..n]);
+    all_below(&full[0..n], Q)
+}
+
+// Checks 3 to 5 of a signing key: the number of the first no, or 0.
+pub(crate) fn packed_no(p: Params, key: &[u8]) -> u32
+    requires { ⌜ Listed p ⌝ }
+    ensures { λ r. ⌜ r ≡ firstNo (keyChecks p (packed (now (key .entry)))) ⌝ }
+{
+    let vk = p.vk_bytes;
+    if key.len() != p.sk_bytes {
+        return 3;
+    }
+    if !public_key_good(key, p.kappa / 8, p.k) {
+        return 4;
+    }
+    if !full_share_good(p, &key[vk..]) {
+        return 5;
+    }
+    0
+}
+
+// .. of an expanded key.
+pub(crate) fn expanded_no(p: Params, key: &[u8], words: &[u64]) -> u32
+    requires { ⌜ Listed p ⌝ }
+    ensures { λ r. ⌜ r ≡ firstNo (keyChecks p (expanded (record { vk = now (key .entry); words = now (words .entry) }))) ⌝ }
+{
+    let n = p.l * (p.shares * 512);
+    if !sized(p.vk_bytes, n, key, words) {
+        return 3;
+    }
+    if !public_key_good(key, p.kappa / 8, p.k) {
+        return 4;
+    }
+    if !all_below(words, Q) {
+        return 5;
+    }
+    0
+}
 
 // The bytes that key generation is lent: matrix seed, noise seeds, share seeds.
 pub(crate) fn keygen_bytes(p: Params) -> usize
@@ -22,21 +110,21 @@ pub(crate) fn work_words(p: Params) -> usize
     512 * (2 * p.l * p.shares + 4 * p.shares + 2 * p.k + 8)
 }
 
-// The number of the first no, or 0.
-pub(crate) fn keygen_no(p: Params, seeds: usize, mask: usize, out: usize, work: usize) -> u32
+// The first no of key generation behind the look-up, but check 10, or 0.
+pub(crate) fn keygen_no(p: Params, seeds: &[u8], mask_seed: &[u8], out: &[u8], work: &[u64]) -> u32
     requires { ⌜ Ranges p ⌝ }
-    ensures { λ r. ⌜ r ≡ keygenNoOf p seeds mask out work ⌝ }
+    ensures { λ r. ⌜ r ≡ firstNo ((7, keygenSeedsSized p (now (seeds .entry)) (now («mask_seed» .entry))) ∷ (8, keygenBuffersSized p (now (out .entry)) (now (work .entry))) ∷ []) ⌝ }
 {
-    if seeds != keygen_bytes(p) {
+    if seeds.len() != keygen_bytes(p) {
         return 7;
     }
-    if mask != 32 {
+    if mask_seed.len() != 32 {
         return 7;
     }
-    if out != p.sk_bytes {
+    if out.len() != p.sk_bytes {
         return 8;
     }
-    if work != work_words(p) {
+    if work.len() != work_words(p) {
         return 8;
     }
     0

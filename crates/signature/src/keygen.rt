@@ -1,6 +1,6 @@
 // Key generation (000, Algorithm 1, lines 2 to 8, and the compression of s) on one work buffer, laid out as specs/Keygen.antt says.
 ghost use mathlib.Core.Path.{_≡_};
-ghost use mathlib.Core.List.{List};
+ghost use mathlib.Core.List.{List, [], _∷_};
 ghost use mathlib.Core.Option.{some};
 ghost use Prim.Native.Nat.{ℕ, _+_, _-_, _*_, _/_, _≤_};
 ghost use lib.ListN.{length};
@@ -9,12 +9,13 @@ ghost use Rattle.sharing.specs.Region.{span};
 ghost use Rattle.sharing.specs.Encoding.{skip, addNoise};
 ghost use Rattle.sharing.specs.Masks.{masks, maskStart};
 ghost use Rattle.sharing.specs.Noise.{seedNoise, noiseBytes};
-ghost use Rattle.signature.specs.Checks.{both, workWords};
+ghost use Rattle.signature.specs.Checks.{firstNo, both, workWords};
 ghost use Rattle.signature.specs.Keygen.{Small, Rounded, Generated, keyOf};
-ghost use Rattle.signature.specs.KeyCalls.{outcome, keygenMade, keygenCall};
+ghost use Rattle.signature.specs.KeyCalls.{keygenLeaves, keygenCall};
 ghost use Rattle.signature.specs.Keys.{vkSeed, noisePart, sharePart, keygenBytes, keyShares, compressed, keygenOf};
 ghost use Rattle.signature.specs.MaskedSteps.{MatrixHeld, rowsOf};
 ghost use Rattle.signature.specs.Matrix.{matrix, filled};
+ghost use Rattle.signature.specs.Outcome.{outcome};
 use crate::compress::compress_vector;
 use crate::keycheck::keygen_no;
 use crate::keyform::write_key;
@@ -131,7 +132,7 @@ fn write_made(work: &[u64], p: Params, seeds: &[u8], out: &mut [u8])
 fn generate(p: Params, seeds: &[u8], mask_seed: &[u8], out: &mut [u8], work: &mut [u64]) -> u32
     requires { ⌜ Small p × (length (now work) ≡ workWords p) × (length (now seeds) ≡ keygenBytes p) ⌝ }
     requires { ⌜ length (now out) ≡ p .kappa / 8 + p .k * 448 + ((p .shares - 1) * (p .kappa / 8) + p .l * 3136) ⌝ }
-    ensures { λ r. ⌜ outcome r (now (out .exit)) (now (work .exit)) ≡ keygenMade (keygenOf p (now (seeds .entry)) (now («mask_seed» .entry))) (now (out .entry)) (now (work .entry)) ⌝ }
+    ensures { λ r. ⌜ outcome r (now (out .exit)) (now (work .exit)) ≡ keygenLeaves (firstNo ((10, filled (keygenOf p (now (seeds .entry)) (now («mask_seed» .entry)))) ∷ [])) p (now (seeds .entry)) (now («mask_seed» .entry)) (now (out .entry)) (now (work .entry)) ⌝ }
 {
     if !make_key(work, p, seeds, mask_seed) {
         clear(work);
@@ -158,7 +159,7 @@ pub fn keygen(
         Selected::NoSet => 1,
         Selected::NoShares => 2,
         Selected::Found(p) => {
-            let k = keygen_no(p, seeds.len(), mask_seed.len(), key_out.len(), work.len());
+            let k = keygen_no(p, seeds, mask_seed, key_out, work);
             if k == 0 {
                 return generate(p, seeds, mask_seed, key_out, work);
             }

@@ -1,30 +1,31 @@
-// Keys: expanding and refreshing (01, "Questions put to a call"; 000, Algorithms 11 and 15). A call puts its questions in their order; the
-// first no is its status, and the results are then as they were.
+// Keys: expanding and refreshing (01, "Questions put to a call"; 000, Algorithms 11 and 15). A call puts its checks in their order; the first
+// no is its status, and the results are then as they were.
 ghost use mathlib.Core.Path.{_≡_};
-ghost use Prim.Native.Nat.{_+_, _*_, _≤_, _<_};
-ghost use lib.Dec.{eqb};
-ghost use lib.ListN.{length, take, drop};
+ghost use mathlib.Core.List.{[], _∷_, _++_};
+ghost use Prim.Native.Nat.{_*_, _≤_, _<_};
+ghost use lib.ListN.{length, drop};
 ghost use Rattle.hash.specs.Params.{ShareCount};
-ghost use Rattle.ring.specs.Words.{q, Below, Words, allBelow};
+ghost use Rattle.ring.specs.Words.{q, Below, Words};
 ghost use Rattle.ring.specs.Uniform.{heldOf};
 ghost use Rattle.sharing.specs.Blocks.{build};
 ghost use Rattle.sharing.specs.Region.{Wrote};
 ghost use Rattle.sharing.specs.Encoding.{skip, refreshed};
 ghost use Rattle.sharing.specs.Masks.{masks, maskStart};
-ghost use Rattle.signature.specs.Bits.{repack};
-ghost use Rattle.signature.specs.Checks.{both};
+ghost use Rattle.signature.specs.Checks.{firstNo, maskSeedSized, expandedKeySized, keyChecks};
 ghost use Rattle.signature.specs.Matrix.{buildAll, filled};
-ghost use Rattle.signature.specs.Keys.{fullShare, seededShare, shareAt, decompressed};
-ghost use Rattle.signature.specs.Expanding.{Listed, partBytes, expandedAt, expandedShares, expandedKey};
-ghost use Rattle.signature.specs.KeyCalls.{outcome, expandNo, expandCall, refreshNo, refreshCall};
-use crate::bits::unpack;
+ghost use Rattle.signature.specs.Keys.{packed, expanded, fullShare, seededShare, shareAt, decompressed, expandOf, expandedOf};
+ghost use Rattle.signature.specs.Expanding.{Listed, partBytes, expandedAt, expandedShares};
+ghost use Rattle.signature.specs.KeyCalls.{keyLeaves, expandCall, refreshCall};
+ghost use Rattle.signature.specs.Outcome.{outcome};
 use crate::compress::seeded_share;
-use crate::int::Q;
+use crate::keycheck::expanded_no;
+use crate::keycheck::full_share;
+use crate::keycheck::packed_no;
+use crate::keycheck::sized;
 use hash::params::Edition;
 use hash::params::Params;
 use hash::params::Selected;
 use hash::params::lookup;
-use ring::poly::all_below;
 use ring::poly::copy_into;
 use ring::uniform::Sampled;
 use sharing::encoding::zero_encoding_at;
@@ -47,28 +48,6 @@ pub(crate) fn copy_bytes(a: &[u8], out: &mut [u8])
     }
 }
 
-// Question 4: are the k * 512 coefficients of t, 7 bits each behind the n bytes of the seed, below 125?
-pub(crate) fn public_key_good(key: &[u8], n: usize, k: usize) -> bool
-    requires { ⌜ (n + k * 448 ≤ length (now key)) × (k ≤ 9) ⌝ }
-    ensures { λ r. ⌜ r ≡ allBelow 125 (repack 8 7 (k * 512) (take (k * 448) (drop n (now (key .entry))))) ⌝ }
-{
-    let mut t = [0u64; 4608];
-    let m = k * 512;
-    let e = n + k * 448;
-    unpack(&key[n..e], 7, &mut t[0..m]);
-    all_below(&t[0..m], 125)
-}
-
-// Questions 3 and 8, of an expanded key: are there vk bytes and n words?
-pub(crate) fn sized(vk: usize, n: usize, bytes: &[u8], words: &[u64]) -> bool
-    ensures { λ r. ⌜ r ≡ both (eqb (length (now (bytes .entry))) vk) (eqb (length (now (words .entry))) n) ⌝ }
-{
-    if bytes.len() != vk {
-        return false;
-    }
-    words.len() == n
-}
-
 // The first no of refreshing behind the look-up, or 0.
 fn refresh_no(
     p: Params,
@@ -79,23 +58,16 @@ fn refresh_no(
     words_out: &[u64],
 ) -> u32
     requires { ⌜ Listed p ⌝ }
-    ensures { λ r. ⌜ r ≡ refreshNo p (now (bytes .entry)) (now (words .entry)) (now («mask_seed» .entry)) (now («bytes_out» .entry)) (now («words_out» .entry)) ⌝ }
+    ensures { λ r. ⌜ r ≡ firstNo (keyChecks p (expanded (record { vk = now (bytes .entry); words = now (words .entry) })) ++ ((7, maskSeedSized (now («mask_seed» .entry))) ∷ (8, expandedKeySized p (now («bytes_out» .entry)) (now («words_out» .entry))) ∷ [])) ⌝ }
 {
-    let vk = p.vk_bytes;
-    let n = p.l * (p.shares * 512);
-    if !sized(vk, n, bytes, words) {
-        return 3;
-    }
-    if !public_key_good(bytes, p.kappa / 8, p.k) {
-        return 4;
-    }
-    if !all_below(words, Q) {
-        return 5;
+    let k = expanded_no(p, bytes, words);
+    if k != 0 {
+        return k;
     }
     if mask_seed.len() != 32 {
         return 7;
     }
-    if !sized(vk, n, bytes_out, words_out) {
+    if !sized(p.vk_bytes, p.l * (p.shares * 512), bytes_out, words_out) {
         return 8;
     }
     0
@@ -146,7 +118,7 @@ pub fn refresh_key(
     bytes_out: &mut [u8],
     words_out: &mut [u64],
 ) -> u32
-    ensures { λ r. ⌜ outcome r (now («bytes_out» .exit)) (now («words_out» .exit)) ≡ refreshCall set shares (now (bytes .entry)) (now (words .entry)) (now («mask_seed» .entry)) (now («bytes_out» .entry)) (now («words_out» .entry)) ⌝ }
+    ensures { λ r. ⌜ outcome r (now («bytes_out» .exit)) (now («words_out» .exit)) ≡ refreshCall set shares (record { vk = now (bytes .entry); words = now (words .entry) }) (now («mask_seed» .entry)) (now («bytes_out» .entry)) (now («words_out» .entry)) ⌝ }
 {
     match lookup(set, shares, Edition::Printed) {
         Selected::NoSet => 1,
@@ -170,7 +142,7 @@ fn seeded_at(p: Params, part: &[u8], j: usize, i: usize) -> Sampled
     seeded_share(edition, part, p.kappa / 8, i, j)
 }
 
-// Question 10 for polynomial j: do all of its seeded shares fill?
+// Check 10 for polynomial j: do all of its seeded shares fill?
 fn polynomial_fills(p: Params, part: &[u8], j: usize) -> bool
     requires { ⌜ Listed p × (length (now part) ≡ partBytes p) × (j < p .l) ⌝ }
     ensures { λ r. ⌜ r ≡ filled (buildAll (p .shares) (shareAt p (now (part .entry)) j)) ⌝ }
@@ -185,7 +157,7 @@ fn polynomial_fills(p: Params, part: &[u8], j: usize) -> bool
     true
 }
 
-// Question 10: do all seeded shares fill?
+// Check 10: do all seeded shares fill?
 pub(crate) fn shares_fill(p: Params, part: &[u8]) -> bool
     requires { ⌜ Listed p × (length (now part) ≡ partBytes p) ⌝ }
     ensures { λ r. ⌜ r ≡ filled (decompressed p (now (part .entry))) ⌝ }
@@ -197,26 +169,6 @@ pub(crate) fn shares_fill(p: Params, part: &[u8]) -> bool
         }
     }
     true
-}
-
-// The full share, 49 bits a coefficient behind the seeds.
-fn full_share(p: Params, part: &[u8], out: &mut [u64])
-    requires { ⌜ Listed p × (length (now part) ≡ partBytes p) × (length (now out) ≡ p .l * 512) ⌝ }
-    ensures { λ _. ⌜ now (out .exit) ≡ fullShare p (now (part .entry)) ⌝ }
-{
-    let a = (p.shares - 1) * (p.kappa / 8);
-    unpack(&part[a..], 49, out);
-}
-
-// Question 5: are the words of the full share below q?
-pub(crate) fn full_share_good(p: Params, part: &[u8]) -> bool
-    requires { ⌜ Listed p × (length (now part) ≡ partBytes p) ⌝ }
-    ensures { λ r. ⌜ r ≡ allBelow q (fullShare p (now (part .entry))) ⌝ }
-{
-    let mut full = [0u64; 3584];
-    let n = p.l * 512;
-    full_share(p, part, &mut full[0..n]);
-    all_below(&full[0..n], Q)
 }
 
 // Share i of polynomial j: the full one is share 0.
@@ -270,32 +222,26 @@ pub(crate) fn decompress_shares(p: Params, part: &[u8], out: &mut [u64])
     decompress_all(p, part, &full[0..n], out);
 }
 
-// The first no of expanding behind the look-up, but question 10, or 0.
+// The first no of expanding behind the look-up, but check 10, or 0.
 fn expand_no(p: Params, key: &[u8], bytes_out: &[u8], words_out: &[u64]) -> u32
     requires { ⌜ Listed p ⌝ }
-    ensures { λ r. ⌜ r ≡ expandNo p (now (key .entry)) (now («bytes_out» .entry)) (now («words_out» .entry)) ⌝ }
+    ensures { λ r. ⌜ r ≡ firstNo (keyChecks p (packed (now (key .entry))) ++ ((8, expandedKeySized p (now («bytes_out» .entry)) (now («words_out» .entry))) ∷ [])) ⌝ }
 {
-    let vk = p.vk_bytes;
-    if key.len() != p.sk_bytes {
-        return 3;
+    let k = packed_no(p, key);
+    if k != 0 {
+        return k;
     }
-    if !public_key_good(key, p.kappa / 8, p.k) {
-        return 4;
-    }
-    if !full_share_good(p, &key[vk..]) {
-        return 5;
-    }
-    if !sized(vk, p.l * (p.shares * 512), bytes_out, words_out) {
+    if !sized(p.vk_bytes, p.l * (p.shares * 512), bytes_out, words_out) {
         return 8;
     }
     0
 }
 
-// Question 10, before anything is written; then the results of expanding: the public key's bytes, and the words of all shares.
+// Check 10, before anything is written; then the results of expanding: the public key's bytes, and the words of all shares.
 fn expand_found(p: Params, key: &[u8], bytes_out: &mut [u8], words_out: &mut [u64]) -> u32
     requires { ⌜ Listed p × (length (now key) ≡ p .«sk_bytes») × Below q (fullShare p (drop (p .«vk_bytes») (now key))) ⌝ }
     requires { ⌜ (length (now «bytes_out») ≡ p .«vk_bytes») × (length (now «words_out») ≡ p .l * (p .shares * 512)) ⌝ }
-    ensures { λ r. ⌜ outcome r (now («bytes_out» .exit)) (now («words_out» .exit)) ≡ expandedKey p (now (key .entry)) (now («bytes_out» .entry)) (now («words_out» .entry)) ⌝ }
+    ensures { λ r. ⌜ outcome r (now («bytes_out» .exit)) (now («words_out» .exit)) ≡ keyLeaves (firstNo ((10, filled (expandOf p (now (key .entry)))) ∷ [])) (expandedOf p (now (key .entry))) (now («bytes_out» .entry)) (now («words_out» .entry)) ⌝ }
 {
     let vk = p.vk_bytes;
     if !shares_fill(p, &key[vk..]) {

@@ -4,18 +4,20 @@ ghost use mathlib.Core.Bool.{true, false};
 ghost use mathlib.Core.Option.{some};
 ghost use Prim.Native.Nat.{_≤_};
 ghost use lib.ListN.{length};
+ghost use Rattle.hash.specs.declared.params.Selected.{Selected};
 ghost use Rattle.ring.specs.Words.{q, Below};
 ghost use Rattle.signature.specs.Attempt.{keyFrom, coinsOf, Within, keyIn};
 ghost use Rattle.signature.specs.Checks.{workWords};
 ghost use Rattle.signature.specs.Keygen.{Small};
 ghost use Rattle.signature.specs.KeySizes.{Ranges};
-ghost use Rattle.signature.specs.Keys.{vkSeed, vkVector};
+ghost use Rattle.signature.specs.Keys.{vkSeed, vkVector, publicOf, sharesOf};
 ghost use Rattle.signature.specs.MaskedSteps.{matrixIn, MatrixHeld};
 ghost use Rattle.signature.specs.Matrix.{matrix};
 ghost use Rattle.signature.specs.Expanding.{Listed};
-ghost use Rattle.signature.specs.Sign.{answer, signFrom};
-ghost use Rattle.signature.specs.SignCalls.{packed, expanded, publicOf, sharesOf, coinsGood, signNo, signMade, signGo, signing, leftBy, signCall};
-ghost use Rattle.signature.specs.SignSteps.{publicBy, EndedAt, kept};
+ghost use Rattle.signature.specs.Outcome.{answer, signing};
+ghost use Rattle.signature.specs.Sign.{signFrom};
+ghost use Rattle.signature.specs.SignCalls.{packed, expanded, coinsGood, signBy, leftBy, signCall};
+ghost use Rattle.signature.specs.SignSteps.{publicBy, signNo, signMade, EndedAt, kept};
 ghost use Rattle.signature.specs.Table.{Tabled};
 use crate::attempt::answer;
 use crate::commit::commit;
@@ -224,7 +226,7 @@ fn sign_found(
     work: &mut [u64],
 ) -> Signed
     requires { ⌜ Tabled p × Listed p × Small p × Ranges p ⌝ }
-    ensures { λ r. ⌜ signing (r .status) (r .attempts) (now (out .exit)) (now (work .exit)) ≡ leftBy (signGo (signNo p (keyFrom packed (now (key .entry)) (now (words .entry))) attempts (now (message .entry)) (coinsOf explicit (now (seeds .entry)) (now (noise .entry)) (now («mask_seeds» .entry))) (now (out .entry)) (now (work .entry))) p (keyFrom packed (now (key .entry)) (now (words .entry))) attempts (now (message .entry)) (coinsOf explicit (now (seeds .entry)) (now (noise .entry)) (now («mask_seeds» .entry)))) (now (out .entry)) (now (work .entry)) ⌝ }
+    ensures { λ r. ⌜ signing (r .status) (r .attempts) (now (out .exit)) (now (work .exit)) ≡ leftBy (signBy (Selected.Found p) p (keyFrom packed (now (key .entry)) (now (words .entry))) attempts (now (message .entry)) (coinsOf explicit (now (seeds .entry)) (now (noise .entry)) (now («mask_seeds» .entry))) (now (out .entry)) (now (work .entry))) (now (out .entry)) (now (work .entry)) ⌝ }
 {
     let k = sign_no(
         p,
@@ -394,7 +396,7 @@ pub fn sign_expanded(
     signature_out: &mut [u8],
     work: &mut [u64],
 ) -> Signed
-    ensures { λ r. ⌜ signing (r .status) (r .attempts) (now («signature_out» .exit)) (now (work .exit)) ≡ signCall edition set shares (expanded (now (bytes .entry)) (now (words .entry))) attempts (now (message .entry)) (record { explicit = false; noise = now («noise_seeds» .entry); masks = now («mask_seeds» .entry) }) (now («signature_out» .entry)) (now (work .entry)) ⌝ }
+    ensures { λ r. ⌜ signing (r .status) (r .attempts) (now («signature_out» .exit)) (now (work .exit)) ≡ signCall edition set shares (expanded (record { vk = now (bytes .entry); words = now (words .entry) })) attempts (now (message .entry)) (record { explicit = false; noise = now («noise_seeds» .entry); masks = now («mask_seeds» .entry) }) (now («signature_out» .entry)) (now (work .entry)) ⌝ }
 {
     let none = [0u64; 0];
     sign_any(
@@ -429,7 +431,7 @@ pub fn sign_expanded_explicit(
     signature_out: &mut [u8],
     work: &mut [u64],
 ) -> Signed
-    ensures { λ r. ⌜ signing (r .status) (r .attempts) (now («signature_out» .exit)) (now (work .exit)) ≡ signCall edition set shares (expanded (now (bytes .entry)) (now (words .entry))) attempts (now (message .entry)) (record { explicit = true; noise = now («noise_words» .entry); masks = now («mask_seeds» .entry) }) (now («signature_out» .entry)) (now (work .entry)) ⌝ }
+    ensures { λ r. ⌜ signing (r .status) (r .attempts) (now («signature_out» .exit)) (now (work .exit)) ≡ signCall edition set shares (expanded (record { vk = now (bytes .entry); words = now (words .entry) })) attempts (now (message .entry)) (record { explicit = true; noise = now («noise_words» .entry); masks = now («mask_seeds» .entry) }) (now («signature_out» .entry)) (now (work .entry)) ⌝ }
 {
     let unused = [0u8; 0];
     sign_any(

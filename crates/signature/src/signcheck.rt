@@ -1,60 +1,24 @@
-// The checks of signing behind the look-up (01, questions 3 to 9): the number of the first no, or 0.
+// The checks of signing behind the look-up (01: 3 to 9): the number of the first no, or 0.
 ghost use mathlib.Core.Path.{_≡_};
 ghost use Prim.Native.Nat.{_≤_};
 ghost use Rattle.signature.specs.Attempt.{keyFrom, coinsOf};
 ghost use Rattle.signature.specs.Keygen.{Small};
 ghost use Rattle.signature.specs.KeySizes.{Ranges};
 ghost use Rattle.signature.specs.Expanding.{Listed};
-ghost use Rattle.signature.specs.SignCalls.{packed, expanded, coinsGood, signNo};
-ghost use Rattle.signature.specs.SignSteps.{keyNo, callNo};
+ghost use Rattle.signature.specs.Checks.{firstNo, keyChecks};
+ghost use Rattle.signature.specs.SignCalls.{coinsGood, callChecks};
+ghost use Rattle.signature.specs.SignSteps.{signNo};
 use crate::int::Q;
+use crate::keycheck::expanded_no;
+use crate::keycheck::packed_no;
 use crate::keycheck::work_words;
-use crate::keys::full_share_good;
-use crate::keys::public_key_good;
-use crate::keys::sized;
 use hash::params::Params;
 use ring::poly::all_below;
 
-// Checks 3 to 5 of a signing key.
-fn packed_no(p: Params, key: &[u8]) -> u32
-    requires { ⌜ Listed p ⌝ }
-    ensures { λ r. ⌜ r ≡ keyNo p (packed (now (key .entry))) ⌝ }
-{
-    let vk = p.vk_bytes;
-    if key.len() != p.sk_bytes {
-        return 3;
-    }
-    if !public_key_good(key, p.kappa / 8, p.k) {
-        return 4;
-    }
-    if !full_share_good(p, &key[vk..]) {
-        return 5;
-    }
-    0
-}
-
-// .. of an expanded key.
-fn expanded_no(p: Params, key: &[u8], words: &[u64]) -> u32
-    requires { ⌜ Listed p ⌝ }
-    ensures { λ r. ⌜ r ≡ keyNo p (expanded (now (key .entry)) (now (words .entry))) ⌝ }
-{
-    let n = p.l * (p.shares * 512);
-    if !sized(p.vk_bytes, n, key, words) {
-        return 3;
-    }
-    if !public_key_good(key, p.kappa / 8, p.k) {
-        return 4;
-    }
-    if !all_below(words, Q) {
-        return 5;
-    }
-    0
-}
-
-// .. of a key of either form.
+// Checks 3 to 5, of a key of either form.
 fn key_no(p: Params, packed: bool, key: &[u8], words: &[u64]) -> u32
     requires { ⌜ Listed p ⌝ }
-    ensures { λ r. ⌜ r ≡ keyNo p (keyFrom packed (now (key .entry)) (now (words .entry))) ⌝ }
+    ensures { λ r. ⌜ r ≡ firstNo (keyChecks p (keyFrom packed (now (key .entry)) (now (words .entry)))) ⌝ }
 {
     if packed {
         return packed_no(p, key);
@@ -100,7 +64,7 @@ fn call_no(
     work: &[u64],
 ) -> u32
     requires { ⌜ Small p × Ranges p ⌝ }
-    ensures { λ r. ⌜ r ≡ callNo p attempts (now (message .entry)) (coinsOf explicit (now (seeds .entry)) (now (noise .entry)) (now («mask_seeds» .entry))) (now (out .entry)) (now (work .entry)) ⌝ }
+    ensures { λ r. ⌜ r ≡ firstNo (callChecks p attempts (now (message .entry)) (coinsOf explicit (now (seeds .entry)) (now (noise .entry)) (now («mask_seeds» .entry))) (now (out .entry)) (now (work .entry))) ⌝ }
 {
     if attempts < 1 {
         return 6;

@@ -6,19 +6,20 @@ ghost use mathlib.Core.Option.{some};
 ghost use Prim.Native.Nat.{ℕ, _+_, _*_, _≤_, _<_};
 ghost use lib.IntN.{pos, natAbs};
 ghost use lib.ListN.{length, getD};
+ghost use Rattle.hash.specs.declared.params.Selected.{Selected};
 ghost use Rattle.ring.specs.Words.{q, Below, Words};
 ghost use Rattle.ring.specs.Round.{residues};
 ghost use Rattle.sharing.specs.Region.{span};
 ghost use Rattle.signature.specs.Answers.{fieldsOf};
-ghost use Rattle.signature.specs.Checks.{ask, sameBytes, properForm};
-ghost use Rattle.signature.specs.Form.{read, hashBytes};
+ghost use Rattle.signature.specs.Checks.{firstNo, sameBytes};
+ghost use Rattle.signature.specs.Form.{hashBytes};
 ghost use Rattle.signature.specs.Keys.{vkSeed, vkVector};
 ghost use Rattle.signature.specs.MaskedSteps.{transformed};
 ghost use Rattle.signature.specs.Matrix.{matrix, matrixOf, filled};
 ghost use Rattle.signature.specs.Recover.{recovered, adjusted, boundTo};
 ghost use Rattle.signature.specs.RecoverSteps.{adjustedRows};
 ghost use Rattle.signature.specs.Table.{Tabled};
-ghost use Rattle.signature.specs.Verify.{verifyMatrix, verifyFields, verifyOf, verifyCall};
+ghost use Rattle.signature.specs.Verify.{hashChecks, formChecks, verifyChecks, verifyCall};
 use crate::bits::unpack;
 use crate::bounds::check_bounds;
 use crate::challenge::chal_hash;
@@ -26,7 +27,7 @@ use crate::challenge::chal_poly;
 use crate::challenge::hash_two;
 use crate::form::read;
 use crate::int::Q;
-use crate::keys::public_key_good;
+use crate::keycheck::public_key_good;
 use crate::matrix::expand_row;
 use crate::recover::recover_row;
 use crate::residues::adjust;
@@ -141,7 +142,7 @@ fn verify_hash(p: Params, vk: &[u8], msg: &[u8], hash: &[u8], hint: &[i64], z: &
     requires { ⌜ (length (now hint) ≡ p .k * 512) × (length (now z) ≡ p .l * 512) ⌝ }
     requires { ⌜ ((i : ℕ) → i < length (now hint) → natAbs (getD (now hint) i (pos 0)) < 31) ⌝ }
     requires { ⌜ ((i : ℕ) → i < length (now z) → natAbs (getD (now z) i (pos 0)) < q) ⌝ }
-    ensures { λ r. ⌜ r ≡ verifyMatrix p (now (vk .entry)) (now (msg .entry)) (fieldsOf (now (hash .entry)) (now (hint .entry)) (now (z .entry))) (matrix p (vkSeed p (now (vk .entry)))) ⌝ }
+    ensures { λ r. ⌜ r ≡ firstNo (hashChecks p (now (vk .entry)) (now (msg .entry)) (fieldsOf (now (hash .entry)) (now (hint .entry)) (now (z .entry)))) ⌝ }
 {
     let k = p.k;
     let edition = p.edition;
@@ -169,7 +170,7 @@ fn verify_hash(p: Params, vk: &[u8], msg: &[u8], hash: &[u8], hint: &[i64], z: &
 // Lines 1 and 2: the fields, checks 14 and 15; then the rest.
 fn verify_fields(p: Params, vk: &[u8], msg: &[u8], sig: &[u8]) -> u32
     requires { ⌜ Tabled p × (length (now vk) ≡ p .«vk_bytes») × Below 125 (vkVector p (now vk)) × (length (now sig) ≡ p .«sig_bytes») ⌝ }
-    ensures { λ r. ⌜ r ≡ ask 14 (properForm p (now (sig .entry))) (verifyFields p (now (vk .entry)) (now (msg .entry)) (read p (now (sig .entry)))) ⌝ }
+    ensures { λ r. ⌜ r ≡ firstNo (formChecks p (now (vk .entry)) (now (msg .entry)) (now (sig .entry))) ⌝ }
 {
     let n = p.k * 512;
     let m = p.l * 512;
@@ -188,7 +189,7 @@ fn verify_fields(p: Params, vk: &[u8], msg: &[u8], sig: &[u8]) -> u32
 // The checks of lengths and of the public key, then the rest.
 fn verify_with(p: Params, vk: &[u8], msg: &[u8], sig: &[u8]) -> u32
     requires { ⌜ Tabled p ⌝ }
-    ensures { λ r. ⌜ r ≡ verifyOf p (now (vk .entry)) (now (msg .entry)) (now (sig .entry)) ⌝ }
+    ensures { λ r. ⌜ r ≡ firstNo (verifyChecks (Selected.Found p) p (now (vk .entry)) (now (msg .entry)) (now (sig .entry))) ⌝ }
 {
     if vk.len() != p.vk_bytes {
         return 3;

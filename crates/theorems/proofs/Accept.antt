@@ -12,6 +12,7 @@ use lib.IntN.{ℤ}
 use lib.ListN.{length}
 use Rattle.hash.specs.Lists.{pick}
 use Rattle.hash.specs.declared.params.Params.{Params}
+use Rattle.hash.specs.declared.params.Selected.{Selected}
 use Rattle.hash.proofs.Output.{output-length, output-bytes}
 use Rattle.hash.proofs.Sets.{setOf}
 use Rattle.ring.specs.Words.{q, subq, Words}
@@ -26,20 +27,21 @@ use Rattle.sharing.proofs.Decode.{words-sum, totals-words}
 use Rattle.sharing.proofs.Lists.{length-build}
 use Rattle.signature.specs.Bounds.{checkBounds}
 use Rattle.signature.specs.Challenge.{chalHash, chalPoly}
-use Rattle.signature.specs.Checks.{ask, publicKeySized, publicKeyGood, attemptsAllowed, messageSized, properForm}
+use Rattle.signature.specs.Checks.{firstNo, publicKeySized, publicKeyGood, attemptsAllowed, messageSized, properForm, hashEqual}
 use Rattle.signature.specs.Form.{Fields, write, read}
 use Rattle.signature.specs.Keys.{vkSeed}
 use Rattle.signature.specs.Masked.{Noise, maskedImage}
-use Rattle.signature.specs.Matrix.{matrix}
+use Rattle.signature.specs.Matrix.{matrix, filled}
+use Rattle.signature.specs.Outcome.{Outcome}
 use Rattle.signature.specs.Recover.{productRow, recoveredRow, recovered, hintOf, adjusted}
-use Rattle.signature.specs.Sign.{Public, Attempted, Answer, Coins, signedFields, wrote, finished, challenged, concluded, refreshedKey, refreshedResponse, attempted, noiseAt, maskAt, ended, signFrom}
+use Rattle.signature.specs.Sign.{Public, Attempted, Coins, signedFields, wrote, finished, challenged, concluded, refreshedKey, refreshedResponse, attempted, noiseAt, maskAt, ended, signFrom}
 use Rattle.signature.specs.Sign.Attempted.{made, over, stuck}
 use Rattle.signature.specs.SignCalls.{publicFor}
-use Rattle.signature.specs.Verify.{recomputed, verifyChallenge, verifyFields, verifyOf}
+use Rattle.signature.specs.Verify.{recomputed, fieldsIn, fieldChecks, verifyChecks}
 use Rattle.signature.proofs.Canonical.{Sized, write-read, write-length}
 use Rattle.signature.proofs.Centred.{length-centred}
 use Rattle.signature.proofs.SameBytes.{same-refl}
-use Rattle.theorems.specs.Plain.{plainNo}
+use Rattle.theorems.specs.Plain.{plainChecks}
 use Rattle.theorems.proofs.ShareCount.{k-same, l-same, concluded-same, public-same}
 use Rattle.theorems.proofs.Hint.{residues-centred, length-hint, hint-back}
 
@@ -84,27 +86,27 @@ module _ (p : Params) (vk msg A : List ℕ) (eA : matrix p (vkSeed p vk) ≡ som
         ap (λ (x : List ℕ). chalHash p (adjusted (recovered p A x (residues q c) (P .vector)) (hintOf (roundW w) y)) (P .mu)) (residues-centred z (wz .low))
         ∙ ap (λ (x : List ℕ). chalHash p x (P .mu)) (hint-back w y (lw ∙ sym (recovered-long p A z (residues q c) (P .vector))))
 
-    challenge-good : verifyChallenge p A (P .vector) (P .mu) fields (some c) ≡ 0
-    challenge-good = rw (hash-back, same-refl (fields .hash)) refl
+    hash-good : hashEqual fields (recomputed p A (P .vector) (P .mu) fields c) ≡ true
+    hash-good = rw (hash-back, same-refl (fields .hash)) refl
 
     hash-is : (x : List ℤ) → chalPoly p hash ≡ some x → chalPoly p (fields .hash) ≡ some x
     unfolding signedFields
     hash-is x e = e
 
     fields-good : (b : List ℕ) → chalPoly p hash ≡ some c → checkBounds p fields ≡ true → write p fields ≡ some b
-        → (properForm p b ≡ true) × (verifyFields p vk msg (read p b) ≡ 0)
-    unfolding properForm
+        → (properForm p b ≡ true) × (firstNo (fieldChecks p vk msg (fieldsIn (read p b))) ≡ 0)
+    unfolding properForm filled
     fields-good b ec eb ew =
         let r : read p b ≡ some fields = write-read p fields b sized ew in
         let ch : chalPoly p (fields .hash) ≡ some c = hash-is c ec in
-        (rw (r, ew) (same-refl b), rw (r, eb, eA, ch) challenge-good)
+        (rw (r, ew) (same-refl b), rw (r, eb, eA, ch, hash-good) refl)
 
   -- ---- what a signature is to be
 
   pub record Good (b : List ℕ) : Type 0 where
     pub long : length b ≡ p .«sig_bytes»
     pub form : properForm p b ≡ true
-    pub fields : verifyFields p vk msg (read p b) ≡ 0
+    pub fields : firstNo (fieldChecks p vk msg (fieldsIn (read p b))) ≡ 0
 
   pick-made : (t : Bool) (x : Attempted) (b : List ℕ) → pick t x over ≡ made b → (t ≡ true) × (x ≡ made b)
   pick-made true x b e = (refl, e)
@@ -132,16 +134,12 @@ module _ (p : Params) (vk msg A : List ℕ) (eA : matrix p (vkSeed p vk) ≡ som
     concluded-good r = challenged-good (chalPoly p (chalHash p (roundW w) (P .mu))) refl r
 
   -- the verifier's first checks are among those that signing passed
-  pub verify-good : (n : ℕ) (sig : List ℕ) → plainNo p vk n msg ≡ 0 → Good sig → verifyOf p vk msg sig ≡ 0
-  unfolding verifyOf plainNo
+  pub verify-good : (n : ℕ) (sig : List ℕ) → firstNo (plainChecks p vk n msg) ≡ 0 → Good sig → firstNo (verifyChecks (Selected.Found p) p vk msg sig) ≡ 0
   verify-good n sig h g =
-      let q9 : ℕ = ask 9 (messageSized msg) 0 in
-      let q6 : ℕ = ask 6 (attemptsAllowed n) q9 in
-      let q4 : ℕ = ask 4 (publicKeyGood p vk) q6 in
-      let a3 : (publicKeySized p vk ≡ true) × (q4 ≡ 0) = asked 2 (publicKeySized p vk) q4 h in
-      let a4 : (publicKeyGood p vk ≡ true) × (q6 ≡ 0) = asked 3 (publicKeyGood p vk) q6 (a3 .1) in
-      let a6 : (attemptsAllowed n ≡ true) × (q9 ≡ 0) = asked 5 (attemptsAllowed n) q9 (a4 .1) in
-      let a9 : (messageSized msg ≡ true) × (_≡_ {A = ℕ} 0 0) = asked 8 (messageSized msg) 0 (a6 .1) in
+      let a3 = asked 2 (publicKeySized p vk) _ h in
+      let a4 = asked 3 (publicKeyGood p vk) _ (a3 .1) in
+      let a6 = asked 5 (attemptsAllowed n) _ (a4 .1) in
+      let a9 = asked 8 (messageSized msg) _ (a6 .1) in
       let a13 : eqb (length sig) (p .«sig_bytes») ≡ true = eq-eqb (length sig) (p .«sig_bytes») (g .long) in
       let a14 : properForm p sig ≡ true = g .form in
       rw (a3 .0, a4 .0, a9 .0, a13, a14) (g .fields)
@@ -161,14 +159,14 @@ module _ (p r : Params) (h : setOf p ≡ setOf r) (vk msg A : List ℕ) (eA : ma
       b
       (ap (λ (X : Public). concluded r X w z) (sym (public-same p r h vk msg A)) ∙ sym (concluded-same p r h (publicFor p vk msg A) w z) ∙ e)
 
-  ended-good : (a : ℕ) (t : Attempted) (later : Answer) → ((b : List ℕ) → t ≡ made b → Good r vk msg A eA b)
-      → (later .status ≡ 0 → Good r vk msg A eA (later .signature)) → ended a t later .status ≡ 0 → Good r vk msg A eA (ended a t later .signature)
+  ended-good : (a : ℕ) (t : Attempted) (later : Outcome) → ((b : List ℕ) → t ≡ made b → Good r vk msg A eA b)
+      → (later .status ≡ 0 → Good r vk msg A eA (later .bytes)) → ended a t later .status ≡ 0 → Good r vk msg A eA (ended a t later .bytes)
   ended-good a (made b) later f g e = f b refl
   ended-good a over later f g e = g e
   ended-good a stuck later f g e = absurd (omega arith)
 
   pub from-good : (T : Coins) (left a : ℕ) (s : List ℕ) → signFrom p (publicFor p vk msg A) T left a s .status ≡ 0
-      → Good r vk msg A eA (signFrom p (publicFor p vk msg A) T left a s .signature)
+      → Good r vk msg A eA (signFrom p (publicFor p vk msg A) T left a s .bytes)
   unfolding signFrom
   from-good T zero a s e = absurd (omega arith)
   from-good T (suc left) a s e =

@@ -1,9 +1,8 @@
 -- Agreement: two units with equal sums at every coefficient have the same secret and the same noise totals, so that they answer alike.
-use mathlib.Core.Path.{_≡_, refl, sym, ap, _∙_}
+use mathlib.Core.Path.{_≡_, refl, sym, ap, subst, _∙_}
 use mathlib.Core.Bool.{Bool, true, false}
-use mathlib.Core.List.{List}
-use mathlib.Core.Option.{Option, some, none}
-use Prim.Native.Nat.{ℕ, zero, suc, _+_, _*_, _%_, _<_}
+use mathlib.Core.List.{List, []}
+use Prim.Native.Nat.{ℕ, zero, suc, _+_, _*_, _<_}
 use native.Mathlib.Omega.{arith}
 use lib.Dec.{eqb}
 use lib.ListN.{getD}
@@ -12,39 +11,23 @@ use Rattle.hash.specs.Params.{setIndex, orderIndex, rowAt, paramsOf}
 use Rattle.hash.specs.declared.params.Params.{Params}
 use Rattle.hash.specs.declared.params.Selected.{Selected}
 use Rattle.hash.proofs.Sets.{setOf, found-set, look-up}
-use Rattle.ring.specs.Words.{q, Words}
+use Rattle.ring.specs.Words.{Words}
 use Rattle.ring.proofs.Sums.{same-residues}
-use Rattle.sharing.specs.Blocks.{block, build, sumN, total}
-use Rattle.sharing.proofs.Built.{totals-are}
-use Rattle.sharing.proofs.Decode.{words-sum, total-words, total-at, sumN-ext}
-use Rattle.sharing.proofs.Lists.{block-words, block-at, build-ext}
+use Rattle.sharing.specs.Blocks.{build, total, totals}
+use Rattle.sharing.proofs.Decode.{words-sum}
+use Rattle.sharing.proofs.Lists.{build-ext}
+use Rattle.signature.specs.ExpandedKey.{secretAt}
 use Rattle.signature.specs.Keys.{vkSeed}
 use Rattle.signature.specs.Matrix.{matrix}
+use Rattle.signature.specs.Outcome.{refusedOr, firstNo, heldOr}
 use Rattle.signature.specs.Sign.{Public}
 use Rattle.signature.specs.SignCalls.{publicFor}
-use Rattle.theorems.specs.Plain.{Totals, noiseTotal, totalsOf, plainFrom, plainNo, plainMade, plainGo, signPlain}
-use Rattle.theorems.specs.Unit.{UnitCall, signUnit, recordOf, wordAt, secretAt, noiseTotalAt, Fits, Sound, Alike, SameSecret, EqualTotals}
+use Rattle.theorems.specs.Plain.{Totals, noiseTotal, totalsOf, plainFrom, plainChecks, signPlain}
+use Rattle.theorems.specs.Unit.{UnitCall, signUnit, recordOf, noiseTotalAt, Fits, Sound, Alike, SameSecret, EqualTotals}
+use Rattle.signature.proofs.Secrets.{secrets-totals}
 use Rattle.theorems.proofs.ShareCount.{k-same, l-same, plain-same}
 use Rattle.theorems.proofs.Collapse.{unitSecret, noiseOf, noiseTotals, shares-are, sign-plain, sign-unknown}
 use Rattle.theorems.proofs.NoiseTotals.{first-at, second-at}
-
--- ---- the secret, place by place
-
--- the sum of the d shares of polynomial i of n, at coefficient x
-total-words-at : (d n i : ℕ) (xs : List ℕ) → Words (n * (d * 512)) xs → i < n → (x : ℕ) → x < 512
-    → getD (total d (block (d * 512) i xs)) x 0 ≡ sumN d (λ (j : ℕ). getD xs (i * (d * 512) + (j * 512 + x)) 0) % q
-total-words-at d n i xs w h x lx =
-    total-at d (block (d * 512) i xs) (block-words n i xs w h) x lx
-    ∙ ap (λ (m : ℕ). m % q)
-    (sumN-ext d (λ (j : ℕ). getD (block 512 j (block (d * 512) i xs)) x 0) (λ (j : ℕ). getD xs (i * (d * 512) + (j * 512 + x)) 0)
-    (λ (j : ℕ) (lj : j < d). block-at 512 j (block (d * 512) i xs) x lx ∙ block-at (d * 512) i xs (j * 512 + x) (omega arith)))
-
-module _ (u : UnitCall) (p : Params) (is : recordOf u ≡ Selected.Found p) (h : Fits p u) where
-  secret-at : (i x : ℕ) → i < p .l → x < 512 → getD (total (p .shares) (block (p .shares * 512) i (u .words))) x 0 ≡ secretAt u i x
-  unfolding secretAt wordAt
-  secret-at i x li lx =
-      total-words-at (p .shares) (p .l) i (u .words) (h .share-words) li x lx
-      ∙ ap (λ (d : ℕ). sumN d (λ (j : ℕ). getD (u .words) (i * (d * 512) + (j * 512 + x)) 0) % q) (shares-are u p is h)
 
 -- ---- plain signing looks only at the totals of the allowed attempts
 
@@ -55,18 +38,12 @@ plain-ext p P e f zero a s h = refl
 plain-ext p P e f (suc left) a s h =
     cc (h a (omega arith), plain-ext p P e f left (suc a) s (λ (b : ℕ) (l : b < suc a + left). h b (omega arith)))
 
-module _ (p : Params) (vk : List ℕ) (n : ℕ) (msg s : List ℕ) (e f : ℕ → Totals) (h : (b : ℕ) → b < n → e b ≡ f b) where
-  made-ext : (o : Option (List ℕ)) → plainMade p vk n msg s e o ≡ plainMade p vk n msg s f o
-  made-ext none = refl
-  made-ext (some A) = plain-ext p (publicFor p vk msg A) e f n 0 s (λ (b : ℕ) (l : b < 0 + n). h b (omega arith))
-
-  go-ext : (m : ℕ) → plainGo m p vk n msg s e ≡ plainGo m p vk n msg s f
-  go-ext zero = made-ext (matrix p (vkSeed p vk))
-  go-ext (suc m) = refl
-
-  sign-ext : signPlain p vk n msg s e ≡ signPlain p vk n msg s f
-  unfolding signPlain
-  sign-ext = go-ext (plainNo p vk n msg)
+sign-ext : (p : Params) (vk : List ℕ) (n : ℕ) (msg s : List ℕ) (e f : ℕ → Totals) → ((b : ℕ) → b < n → e b ≡ f b)
+    → signPlain p vk n msg s e ≡ signPlain p vk n msg s f
+unfolding signPlain
+sign-ext p vk n msg s e f h =
+    ap (refusedOr (firstNo (plainChecks p vk n msg)))
+    (plain-ext p (publicFor p vk msg (heldOr (matrix p (vkSeed p vk)) [])) e f n 0 s (λ (b : ℕ) (l : b < 0 + n). h b (omega arith)))
 
 -- ---- two units
 
@@ -91,14 +68,12 @@ module _ (u v : UnitCall) (p r : Params) (iu : recordOf u ≡ Selected.Found p) 
 
   secret-same : SameSecret u v → unitSecret p u ≡ unitSecret r v
   secret-same s =
-      totals-are (p .l) (p .shares) (u .words)
-      ∙ build-same (p .l) (r .l) (λ (i : ℕ). total (p .shares) (block (p .shares * 512) i (u .words))) (λ (i : ℕ). total (r .shares) (block (r .shares * 512) i (v .words)))
-      (l-same p r one-set)
-      (λ (i : ℕ). total-words (p .shares) (block (p .shares * 512) i (u .words))) (λ (i : ℕ). total-words (r .shares) (block (r .shares * 512) i (v .words)))
+      let e : p .l ≡ r .l = l-same p r one-set in
+      let w : Words (p .l * (r .shares * 512)) (v .key .words) = subst (λ (n : ℕ). Words (n * (r .shares * 512)) (v .key .words)) (sym e) (hv .share-words) in
+      secrets-totals (p .shares) (r .shares) (p .l) (u .key) (v .key) (hu .share-words) w
       (λ (i x : ℕ) (l : i < p .l) (lx : x < 512).
-      let m : i < r .l = omega (arith, l-same p r one-set) in
-      secret-at u p iu hu i x l lx ∙ s .equal p iu i x l lx ∙ sym (secret-at v r iv hv i x m lx))
-      ∙ sym (totals-are (r .l) (r .shares) (v .words))
+      ap (λ (d : ℕ). secretAt d (u .key) i x) (shares-are u p iu hu) ∙ s .equal p iu i x l lx ∙ ap (λ (d : ℕ). secretAt d (v .key) i x) (sym (shares-are v r iv hv)))
+      ∙ ap (λ (n : ℕ). totals n (r .shares) (v .key .words)) e
 
   noise-same : EqualTotals u v → (a : ℕ) → a < u .attempts → noiseTotals p u a ≡ noiseTotals r v a
   unfolding totalsOf
@@ -126,13 +101,13 @@ module _ (u v : UnitCall) (p r : Params) (iu : recordOf u ≡ Selected.Found p) 
   -- of a known set
   known-agree : SameSecret u v → EqualTotals u v → signUnit u ≡ signUnit v
   known-agree s t =
-      let e1 : signUnit u ≡ signPlain p (u .vk) (u .attempts) (u .message) (unitSecret p u) (noiseTotals p u) = sign-plain u p iu hu in
-      let e2 : signUnit v ≡ signPlain r (v .vk) (v .attempts) (v .message) (unitSecret r v) (noiseTotals r v) = sign-plain v r iv hv in
-      let e3 : signPlain p (u .vk) (u .attempts) (u .message) (unitSecret p u) (noiseTotals p u) ≡ signPlain p (u .vk) (u .attempts) (u .message) (unitSecret p u) (noiseTotals r v) =
-      sign-ext p (u .vk) (u .attempts) (u .message) (unitSecret p u) (noiseTotals p u) (noiseTotals r v) (noise-same t) in
-      let e4 : signPlain p (u .vk) (u .attempts) (u .message) (unitSecret p u) (noiseTotals r v) ≡ signPlain r (u .vk) (u .attempts) (u .message) (unitSecret p u) (noiseTotals r v) =
-      plain-same p r one-set (u .vk) (u .attempts) (u .message) (unitSecret p u) (noiseTotals r v) in
-      let e5 : signPlain r (u .vk) (u .attempts) (u .message) (unitSecret p u) (noiseTotals r v) ≡ signPlain r (v .vk) (v .attempts) (v .message) (unitSecret r v) (noiseTotals r v) =
+      let e1 : signUnit u ≡ signPlain p (u .key .vk) (u .attempts) (u .message) (unitSecret p u) (noiseTotals p u) = sign-plain u p iu hu in
+      let e2 : signUnit v ≡ signPlain r (v .key .vk) (v .attempts) (v .message) (unitSecret r v) (noiseTotals r v) = sign-plain v r iv hv in
+      let e3 : signPlain p (u .key .vk) (u .attempts) (u .message) (unitSecret p u) (noiseTotals p u) ≡ signPlain p (u .key .vk) (u .attempts) (u .message) (unitSecret p u) (noiseTotals r v) =
+      sign-ext p (u .key .vk) (u .attempts) (u .message) (unitSecret p u) (noiseTotals p u) (noiseTotals r v) (noise-same t) in
+      let e4 : signPlain p (u .key .vk) (u .attempts) (u .message) (unitSecret p u) (noiseTotals r v) ≡ signPlain r (u .key .vk) (u .attempts) (u .message) (unitSecret p u) (noiseTotals r v) =
+      plain-same p r one-set (u .key .vk) (u .attempts) (u .message) (unitSecret p u) (noiseTotals r v) in
+      let e5 : signPlain r (u .key .vk) (u .attempts) (u .message) (unitSecret p u) (noiseTotals r v) ≡ signPlain r (v .key .vk) (v .attempts) (v .message) (unitSecret r v) (noiseTotals r v) =
       cc (secret-same s, al .keys, al .messages, al .attempts) in
       e1 ∙ e3 ∙ e4 ∙ e5 ∙ sym e2
 

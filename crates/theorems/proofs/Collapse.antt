@@ -3,8 +3,7 @@
 use mathlib.Core.Path.{_≡_, refl, sym, ap, _∙_, subst}
 use mathlib.Core.Bool.{Bool, true, false}
 use mathlib.Core.List.{List, []}
-use mathlib.Core.Option.{Option, some, none}
-use Prim.Native.Nat.{ℕ, zero, suc, _+_, _*_, _^_, _≤_, _<_}
+use Prim.Native.Nat.{ℕ, _+_, _*_, _^_, _≤_, _<_}
 use native.Mathlib.Omega.{arith}
 use borrow.Author.Tests.{eqb-true, eq-eqb}
 use lib.Dec.{eqb}
@@ -20,14 +19,15 @@ use Rattle.ring.proofs.Sums.{all-below, residues-drop}
 use Rattle.sharing.specs.Blocks.{block, totals}
 use Rattle.sharing.proofs.Lists.{block-words}
 use Rattle.sharing.proofs.Samples.{seedNoise-words, explicitNoise-words}
-use Rattle.signature.specs.Checks.{both, signSeedsSized, signNoiseGood, signBuffersSized}
+use Rattle.signature.specs.Checks.{both, publicKeySized, signSeedsSized, signNoiseGood, signBuffersSized}
 use Rattle.signature.specs.Keys.{vkSeed}
 use Rattle.signature.specs.Masked.{Noise, seeded, explicit}
-use Rattle.signature.specs.Matrix.{matrix}
-use Rattle.signature.specs.Sign.{answer, noiseSize, noiseFrom, noiseAt}
-use Rattle.signature.specs.SignCalls.{coinsGood, signNo, publicFor, signMade, signGo, signFor, signOf}
-use Rattle.theorems.specs.Plain.{Totals, totalsOf, plainNo, plainMade, plainGo, signPlain}
-use Rattle.theorems.specs.Unit.{UnitCall, keyOf, coinsOf, signUnit, recordOf, Fits}
+use Rattle.signature.specs.Matrix.{matrix, filled}
+use Rattle.signature.specs.Outcome.{answer, refusedOr, firstNo, heldOr, foundIn}
+use Rattle.signature.specs.Sign.{noiseSize, noiseFrom, noiseAt}
+use Rattle.signature.specs.SignCalls.{Key, coinsGood, signChecks, publicFor, attemptsOf, signBy, signOf}
+use Rattle.theorems.specs.Plain.{Totals, totalsOf, plainChecks, signPlain}
+use Rattle.theorems.specs.Unit.{UnitCall, signUnit, recordOf, Fits}
 use Rattle.theorems.proofs.Steps.{GoodNoise, collapse}
 
 -- ---- noise that check 7 passed is words below q
@@ -70,10 +70,10 @@ module _ (p : Params) where
 
 -- the unit's secret; its noise in attempt a + 1, and the totals of it
 abbrev pub unitSecret : Params → UnitCall → List ℕ
-unitSecret p u = totals (p .l) (p .shares) (u .words)
+unitSecret p u = totals (p .l) (p .shares) (u .key .words)
 
 abbrev pub noiseOf : Params → UnitCall → ℕ → Noise
-noiseOf p u a = noiseAt p (coinsOf u) a
+noiseOf p u a = noiseAt p (u .coins) a
 
 abbrev pub noiseTotals : Params → UnitCall → ℕ → Totals
 noiseTotals p u a = totalsOf p (noiseOf p u a)
@@ -91,39 +91,31 @@ module _ (u : UnitCall) (p : Params) (is : recordOf u ≡ Selected.Found p) (h :
   pub good : (a : ℕ) → a < u .attempts → GoodNoise p (noiseOf p u a)
   unfolding noiseAt
   good a l =
-      noise-good p uw-low (u .attempts) (u .noise) (u .masks) a l (u .explicit) (h .coins)
+      noise-good p uw-low (u .attempts) (u .coins .noise) (u .coins .masks) a l (u .coins .explicit) (h .coins)
 
   -- the checks that it passes fall away
-  no-plain : signNo p (keyOf u) (u .attempts) (u .message) (coinsOf u) (u .result) (u .work) ≡ plainNo p (u .vk) (u .attempts) (u .message)
-  unfolding signNo plainNo
-  no-plain =
-      let e3 : eqb (length (u .words)) (p .l * (p .shares * 512)) ≡ true = eq-eqb _ _ (h .share-words .long) in
-      let e5 : allBelow q (u .words) ≡ true = below-yes q (u .words) (h .share-words .low) in
-      let e7 : coinsGood p (u .attempts) (coinsOf u) ≡ true = h .coins in
+  checks-plain : firstNo (signChecks (Selected.Found p) p (Key.expanded (u .key)) (u .attempts) (u .message) (u .coins) (u .result) (u .work))
+      ≡ firstNo (plainChecks p (u .key .vk) (u .attempts) (u .message))
+  unfolding filled
+  checks-plain =
+      let e3 : eqb (length (u .key .words)) (p .l * (p .shares * 512)) ≡ true = eq-eqb _ _ (h .share-words .long) in
+      let e5 : allBelow q (u .key .words) ≡ true = below-yes q (u .key .words) (h .share-words .low) in
+      let e7 : coinsGood p (u .attempts) (u .coins) ≡ true = h .coins in
       let e8 : signBuffersSized p (u .result) (u .work) ≡ true = h .buffers in
-      rw (e3, e5, e7, e8, both-last) refl
-
-  made-plain : (o : Option (List ℕ)) → signMade p (u .vk) (u .message) (coinsOf u) (u .attempts) o (some (u .words))
-      ≡ plainMade p (u .vk) (u .attempts) (u .message) (unitSecret p u) (noiseTotals p u) o
-  made-plain none = refl
-  made-plain (some A) =
-      collapse p (subst (λ (x : ℕ). x ≡ 2 ^ orderIndex x) (sym shares-are) (row .power)) (publicFor p (u .vk) (u .message) A) (coinsOf u) (u .attempts) 0
-      (λ (b : ℕ) (l : b < 0 + u .attempts). good b (omega arith)) (u .words) (h .share-words)
-
-  go-plain : (m : ℕ) → signGo m p (keyOf u) (u .attempts) (u .message) (coinsOf u)
-      ≡ plainGo m p (u .vk) (u .attempts) (u .message) (unitSecret p u) (noiseTotals p u)
-  go-plain zero = made-plain (matrix p (vkSeed p (u .vk)))
-  go-plain (suc m) = refl
+      rw (e3, e5, e7, e8, both-last (publicKeySized p (u .key .vk)), both-last (filled (matrix p (vkSeed p (u .key .vk))))) refl
 
   -- COLLAPSE
-  pub sign-plain : signUnit u ≡ signPlain p (u .vk) (u .attempts) (u .message) (unitSecret p u) (noiseTotals p u)
+  pub sign-plain : signUnit u ≡ signPlain p (u .key .vk) (u .attempts) (u .message) (unitSecret p u) (noiseTotals p u)
   unfolding signUnit signOf signPlain
   sign-plain =
-      ap (λ (s : Selected). signFor s (keyOf u) (u .attempts) (u .message) (coinsOf u) (u .result) (u .work)) is
-      ∙ go-plain (signNo p (keyOf u) (u .attempts) (u .message) (coinsOf u) (u .result) (u .work))
-      ∙ ap (λ (m : ℕ). plainGo m p (u .vk) (u .attempts) (u .message) (unitSecret p u) (noiseTotals p u)) no-plain
+      ap (λ (s : Selected). signBy s (foundIn s) (Key.expanded (u .key)) (u .attempts) (u .message) (u .coins) (u .result) (u .work)) is
+      ∙ ap (λ (m : ℕ). refusedOr m (attemptsOf p (Key.expanded (u .key)) (u .attempts) (u .message) (u .coins))) checks-plain
+      ∙ ap (refusedOr (firstNo (plainChecks p (u .key .vk) (u .attempts) (u .message))))
+      (collapse p (subst (λ (x : ℕ). x ≡ 2 ^ orderIndex x) (sym shares-are) (row .power))
+      (publicFor p (u .key .vk) (u .message) (heldOr (matrix p (vkSeed p (u .key .vk))) [])) (u .coins) (u .attempts) 0
+      (λ (b : ℕ) (l : b < 0 + u .attempts). good b (omega arith)) (u .key .words) (h .share-words))
 
 -- of an unknown set there is one answer
 pub sign-unknown : (u : UnitCall) → recordOf u ≡ Selected.NoSet → signUnit u ≡ answer 1 0 []
 unfolding signUnit signOf
-sign-unknown u is = ap (λ (s : Selected). signFor s (keyOf u) (u .attempts) (u .message) (coinsOf u) (u .result) (u .work)) is
+sign-unknown u is = ap (λ (s : Selected). signBy s (foundIn s) (Key.expanded (u .key)) (u .attempts) (u .message) (u .coins) (u .result) (u .work)) is

@@ -3,17 +3,17 @@ use mathlib.Core.Path.{_≡_, refl, sym, ap, _∙_}
 use mathlib.Core.Bool.{true}
 use mathlib.Core.List.{List}
 use Prim.Native.Nat.{ℕ}
-use borrow.Author.Tests.{eq-eqb}
 use lib.ListN.{take}
-use Rattle.hash.specs.Lists.{pick}
 use Rattle.hash.specs.Params.{ShareCount, lookupOf}
 use Rattle.hash.specs.declared.params.Edition.{Edition}
 use Rattle.hash.specs.declared.params.Params.{Params}
 use Rattle.hash.specs.declared.params.Selected.{Selected}
-use Rattle.signature.specs.Sign.{Answer, Coins}
-use Rattle.signature.specs.SignCalls.{Key, Signing, leftBy, signOf, signCall}
+use Rattle.signature.specs.ExpandedKey.{ExpandedKey}
+use Rattle.signature.specs.Outcome.{Outcome, written}
+use Rattle.signature.specs.Sign.{Coins}
+use Rattle.signature.specs.SignCalls.{Key, leftBy, signOf, signCall}
 use Rattle.signature.specs.Verify.{verifyCall}
-use Rattle.theorems.specs.Unit.{UnitCall, coinsOf, signUnit, callUnit, Sound, Alike, SameSecret, EqualTotals}
+use Rattle.theorems.specs.Unit.{UnitCall, signUnit, callUnit, Sound, Alike, SameSecret, EqualTotals}
 use Rattle.theorems.specs.Witness.{Wanted, Has, laidFor, laid, hadBy}
 use Rattle.theorems.proofs.Agree.{answers-agree}
 use Rattle.theorems.proofs.AcceptCall.{known-accepted, found-with}
@@ -21,30 +21,30 @@ use Rattle.theorems.proofs.Witness.{laid-sound, laid-has, had, has-alik
 
 -- The verifier accepts what is signed with an expanded key: whatever the set, share count, key, message, noise and masks, if signing returns 0,
 -- verifying that signature with that public key and message returns 0.
-pub accepted : (e : Edition) (set d : ℕ) (vk words : List ℕ) (n : ℕ) (msg : List ℕ) (T : Coins) (out work : List ℕ)
-    → signOf e set d (Key.expanded vk words) n msg T out work .status ≡ 0
-    → verifyCall e set vk msg (signOf e set d (Key.expanded vk words) n msg T out work .signature) ≡ 0
-accepted e set d vk words n msg T out work h =
-    let f = found-with e set d (Key.expanded vk words) n msg T out work h in
-    known-accepted e set d (f .0) (f .1) (Key.expanded vk words) n msg T out work h
+pub accepted : (e : Edition) (set d : ℕ) (K : ExpandedKey) (n : ℕ) (msg : List ℕ) (T : Coins) (out work : List ℕ)
+    → signOf e set d (Key.expanded K) n msg T out work .status ≡ 0
+    → verifyCall e set (K .vk) msg (signOf e set d (Key.expanded K) n msg T out work .bytes) ≡ 0
+accepted e set d K n msg T out work h =
+    let f = found-with e set d (Key.expanded K) n msg T out work h in
+    known-accepted e set d (f .0) (f .1) (Key.expanded K) n msg T out work h
 
 -- It accepts what is signed with a signing key too; the public key is the signing key's front.
 pub accepted-packed : (e : Edition) (set d : ℕ) (p : Params) → lookupOf set d e ≡ Selected.Found p
     → (key : List ℕ) (n : ℕ) (msg : List ℕ) (T : Coins) (out work : List ℕ)
     → signOf e set d (Key.packed key) n msg T out work .status ≡ 0
-    → verifyCall e set (take (p .«vk_bytes») key) msg (signOf e set d (Key.packed key) n msg T out work .signature) ≡ 0
+    → verifyCall e set (take (p .«vk_bytes») key) msg (signOf e set d (Key.packed key) n msg T out work .bytes) ≡ 0
 accepted-packed e set d p is key n msg T out work h = known-accepted e set d p is (Key.packed key) n msg T out work h
 
-pub accepted-unit : (u : UnitCall) → signUnit u .status ≡ 0 → verifyCall (u .edition) (u .set) (u .vk) (u .message) (signUnit u .signature) ≡ 0
+pub accepted-unit : (u : UnitCall) → signUnit u .status ≡ 0 → verifyCall (u .edition) (u .set) (u .key .vk) (u .message) (signUnit u .bytes) ≡ 0
 unfolding signUnit
-accepted-unit u h = accepted (u .edition) (u .set) (u .shares) (u .vk) (u .words) (u .attempts) (u .message) (coinsOf u) (u .result) (u .work) h
+accepted-unit u h = accepted (u .edition) (u .set) (u .shares) (u .key) (u .attempts) (u .message) (u .coins) (u .result) (u .work) h
 
 -- Two units alike in set, public key, message and allowed attempts, each with an expanded key of any of the six share counts; their shares add to
 -- the same secret, and in every allowed attempt their noise adds to equal totals at every coefficient. Whatever the share counts, the sharings, the
 -- mask seeds and what the buffers held, both from seeds, both with explicit noise or one and one: status, attempts and signature are the same,
 -- after a refusal too; and with 0 the verifier accepts the signature.
 pub agreement : (u v : UnitCall) → Sound u → Sound v → Alike u v → SameSecret u v → EqualTotals u v
-    → (signUnit u ≡ signUnit v) × (signUnit u .status ≡ 0 → verifyCall (u .edition) (u .set) (u .vk) (u .message) (signUnit u .signature) ≡ 0)
+    → (signUnit u ≡ signUnit v) × (signUnit u .status ≡ 0 → verifyCall (u .edition) (u .set) (u .key .vk) (u .message) (signUnit u .bytes) ≡ 0)
 agreement u v hu hv al s t = (answers-agree u v hu hv al s t, accepted-unit u)
 
 -- ---- what agreement supposes can be met
@@ -52,7 +52,7 @@ agreement u v hu hv al s t = (answers-agree u v hu hv al s t, accepted-unit u)
 -- For every unit, and for each of the six share counts, there is a sound unit of that count, with explicit noise, that is alike, has the same
 -- secret and has equal noise totals.
 pub met : (u : UnitCall) (d : ℕ) → ShareCount d
-    → (v : UnitCall) × (v .shares ≡ d) × (v .explicit ≡ true) × Sound v × Alike u v × SameSecret u v × EqualTotals u v
+    → (v : UnitCall) × (v .shares ≡ d) × (v .coins .explicit ≡ true) × Sound v × Alike u v × SameSecret u v × EqualTotals u v
 unfolding laid laidFor
 met u d c =
     let w : Wanted = hadBy u in
@@ -86,22 +86,22 @@ met-across w c d hc hd =
 -- equal status and attempts; with 0 the result buffers hold the same signature, which the verifier accepts
 pub record Agreed (u v : UnitCall) : Type 0 where
   pub status : callUnit u .status ≡ callUnit v .status
-  pub attempts : callUnit u .attempts ≡ callUnit v .attempts
+  pub attempts : callUnit u .reported ≡ callUnit v .reported
   pub bytes : callUnit u .status ≡ 0 → callUnit u .bytes ≡ callUnit v .bytes
-  pub verified : callUnit u .status ≡ 0 → verifyCall (u .edition) (u .set) (u .vk) (u .message) (callUnit u .bytes) ≡ 0
+  pub verified : callUnit u .status ≡ 0 → verifyCall (u .edition) (u .set) (u .key .vk) (u .message) (callUnit u .bytes) ≡ 0
 
 -- what a call leaves in its result buffer with 0
 left-is : (u : UnitCall) → callUnit u ≡ leftBy (signUnit u) (u .result) (u .work)
 unfolding callUnit signUnit signCall
 left-is u = refl
 
-left-bytes : (A : Answer) (out work : List ℕ) → A .status ≡ 0 → leftBy A out work .bytes ≡ A .signature
-left-bytes A out work e = ap (λ b. pick b (A .signature) out) (eq-eqb (A .status) 0 e)
+left-bytes : (A : Outcome) (out work : List ℕ) → A .status ≡ 0 → leftBy A out work .bytes ≡ A .bytes
+left-bytes A out work e = ap (λ (n : ℕ). written n (A .bytes) out) e
 
-bytes-are : (u : UnitCall) → callUnit u .status ≡ 0 → callUnit u .bytes ≡ signUnit u .signature
+bytes-are : (u : UnitCall) → callUnit u .status ≡ 0 → callUnit u .bytes ≡ signUnit u .bytes
 bytes-are u h =
     let l : callUnit u ≡ leftBy (signUnit u) (u .result) (u .work) = left-is u in
-    ap (λ (s : Signing). s .bytes) l ∙ left-bytes (signUnit u) (u .result) (u .work) (ap (λ (s : Signing). s .status) (sym l) ∙ h)
+    ap (λ (s : Outcome). s .bytes) l ∙ left-bytes (signUnit u) (u .result) (u .work) (ap (λ (s : Outcome). s .status) (sym l) ∙ h)
 
 pub results-agree : (u v : UnitCall) → Sound u → Sound v → Alike u v → SameSecret u v → EqualTotals u v → Agreed u v
 results-agree u v hu hv al s t =
@@ -109,12 +109,12 @@ results-agree u v hu hv al s t =
     let lu : callUnit u ≡ leftBy (signUnit u) (u .result) (u .work) = left-is u in
     let lv : callUnit v ≡ leftBy (signUnit v) (v .result) (v .work) = left-is v in
     let st : callUnit u .status ≡ callUnit v .status = cc (p, lu, lv) in
-    let at : callUnit u .attempts ≡ callUnit v .attempts = cc (p, lu, lv) in
+    let at : callUnit u .reported ≡ callUnit v .reported = cc (p, lu, lv) in
     record {
       status = st;
       attempts = at;
-      bytes = λ (h : callUnit u .status ≡ 0). bytes-are u h ∙ ap (λ (A : Answer). A .signature) p ∙ sym (bytes-are v (sym st ∙ h));
+      bytes = λ (h : callUnit u .status ≡ 0). bytes-are u h ∙ ap (λ (A : Outcome). A .bytes) p ∙ sym (bytes-are v (sym st ∙ h));
       verified = λ (h : callUnit u .status ≡ 0).
-          ap (verifyCall (u .edition) (u .set) (u .vk) (u .message)) (bytes-are u h)
-          ∙ accepted-unit u (ap (λ (x : Signing). x .status) (sym lu) ∙ h);
+          ap (verifyCall (u .edition) (u .set) (u .key .vk) (u .message)) (bytes-are u h)
+          ∙ accepted-unit u (ap (λ (x : Outcome). x .status) (sym lu) ∙ h);
     }

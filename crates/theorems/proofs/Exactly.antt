@@ -2,8 +2,8 @@
 -- challenge hash is the one recomputed from them (000, Algorithm 3, in the one byte form of 2.5.1).
 use mathlib.Core.Path.{_≡_, refl, sym, ap, subst, _∙_}
 use mathlib.Core.Bool.{true}
-use mathlib.Core.List.{List}
-use mathlib.Core.Option.{Option, some, none}
+use mathlib.Core.List.{List, []}
+use mathlib.Core.Option.{Option, some}
 use Prim.Native.Nat.{ℕ}
 use native.Mathlib.Omega.{arith}
 use lib.IntN.{ℤ}
@@ -19,14 +19,16 @@ use Rattle.signature.specs.Challenge.{chalPoly}
 use Rattle.signature.specs.Checks.{publicKeySized, publicKeyGood, messageSized, signatureSized, properForm, hashEqual}
 use Rattle.signature.specs.Form.{Fields, write, read}
 use Rattle.signature.specs.Keys.{vkSeed, vkVector}
-use Rattle.signature.specs.Matrix.{matrix}
+use Rattle.signature.specs.Matrix.{matrix, filled}
+use Rattle.signature.specs.Outcome.{firstNo, heldOr, foundIn}
 use Rattle.signature.specs.Recover.{muOf}
-use Rattle.signature.specs.Verify.{recomputed, verifyChallenge, verifyMatrix, verifyFields, verifyOf, verifyFor, verifyCall}
+use Rattle.signature.specs.Verify.{recomputed, recomputedFor, fieldsIn, fieldChecks, verifyChecks, verifyCall}
 use Rattle.signature.proofs.Canonical.{Sized, write-read, write-length, read-sized}
 use Rattle.ring.proofs.Checks.{asked}
+use Rattle.ring.proofs.Filled.{filled-held}
 use Rattle.signature.proofs.Proper.{proper-some, proper-is}
 use Rattle.signature.proofs.SameBytes.{same-refl, same-eq}
-use Rattle.signature.proofs.Verified.{tabled}
+use Rattle.signature.proofs.Verified.{tabled, never-shares}
 
 -- what the submission accepts, with the limits of paper 01
 pub record Accepts (e : Edition) (set : ℕ) (vk msg sig : List ℕ) : Type 0 where
@@ -47,72 +49,57 @@ pub record Accepts (e : Edition) (set : ℕ) (vk msg sig : List ℕ) : Type 0 wh
   pub sampled : chalPoly p (f .hash) ≡ some c
   pub equal : f .hash ≡ recomputed p A (vkVector p vk) (muOf p vk msg) f c
 
--- .. of the record of the set
-record Passed (p : Params) (vk msg sig : List ℕ) : Type 0 where
-  key-sized : publicKeySized p vk ≡ true
-  key-good : publicKeyGood p vk ≡ true
-  message-sized : messageSized msg ≡ true
-  signature-sized : signatureSized p sig ≡ true
-  proper : properForm p sig ≡ true
-  rest : verifyFields p vk msg (read p sig) ≡ 0
-
-passed : (p : Params) (vk msg sig : List ℕ) → verifyOf p vk msg sig ≡ 0 → Passed p vk msg sig
-unfolding verifyOf
-passed p vk msg sig z =
-    let a = asked 2 (publicKeySized p vk) _ z in
-    let b = asked 3 (publicKeyGood p vk) _ (a .1) in
-    let c = asked 8 (messageSized msg) _ (b .1) in
-    let d = asked 12 (signatureSized p sig) _ (c .1) in
-    let g = asked 13 (properForm p sig) _ (d .1) in
-    record { key-sized = a .0; key-good = b .0; message-sized = c .0; signature-sized = d .0; proper = g .0; rest = g .1 }
-
 module _ (e : Edition) (set : ℕ) (vk msg sig : List ℕ) (byte : Bytes sig) where
+  -- .. of the record of the set and the fields read: each check in its turn
+  of-fields : (p : Params) → lookupOf set 1 e ≡ Selected.Found p → publicKeySized p vk ≡ true → publicKeyGood p vk ≡ true → messageSized msg ≡ true
+      → signatureSized p sig ≡ true → (f : Fields) → read p sig ≡ some f → write p f ≡ some sig → firstNo (fieldChecks p vk msg f) ≡ 0
+      → Accepts e set vk msg sig
+  of-fields p l a3 a4 a9 a13 f r w z =
+      let A = heldOr (matrix p (vkSeed p vk)) [] in
+      let x = heldOr (chalPoly p (f .hash)) [] in
+      let a15 = asked 14 (checkBounds p f) _ z in
+      let a10 = asked 9 (filled (matrix p (vkSeed p vk))) _ (a15 .1) in
+      let a11 = asked 10 (filled (chalPoly p (f .hash))) _ (a10 .1) in
+      let a16 = asked 15 (hashEqual f (recomputedFor p vk msg f)) 0 (a11 .1) in
+      let n = eqb-true (length sig) (p .«sig_bytes») a13 in
+      let t = tabled set 1 e p l in
+      record {
+        p = p;
+        row = l;
+        key-sized = a3;
+        key-good = a4;
+        message-sized = a9;
+        f = f;
+        sized = read-sized p sig f byte (omega (arith, n, t .hash-fits)) r;
+        written = w;
+        bounds = a15 .0;
+        A = A;
+        expanded = filled-held (matrix p (vkSeed p vk)) (a10 .0);
+        c = x;
+        sampled = filled-held (chalPoly p (f .hash)) (a11 .0);
+        equal = same-eq (f .hash) (recomputedFor p vk msg f) (a16 .0);
+      }
+
   pub only-accepted : verifyCall e set vk msg sig ≡ 0 → Accepts e set vk msg sig
   unfolding verifyCall
   only-accepted z = look (lookupOf set 1 e) refl z
     where
-      hash : (p : Params) → lookupOf set 1 e ≡ Selected.Found p → Passed p vk msg sig → (f : Fields) → read p sig ≡ some f → write p f ≡ some sig
-          → checkBounds p f ≡ true → (A : List ℕ) → matrix p (vkSeed p vk) ≡ some A
-          → (o : Option (List ℤ)) → chalPoly p (f .hash) ≡ o → verifyChallenge p A (vkVector p vk) (muOf p vk msg) f o ≡ 0 → Accepts e set vk msg sig
-      hash p l h f r w b A m none c v = absurd (omega (arith, v))
-      hash p l h f r w b A m (some x) c v =
-          let n = eqb-true (length sig) (p .«sig_bytes») (h .signature-sized) in
-          let t = tabled set 1 e p l in
-          record {
-            p = p;
-            row = l;
-            key-sized = h .key-sized;
-            key-good = h .key-good;
-            message-sized = h .message-sized;
-            f = f;
-            sized = read-sized p sig f byte (omega (arith, n, t .hash-fits)) r;
-            written = w;
-            bounds = b;
-            A = A;
-            expanded = m;
-            c = x;
-            sampled = c;
-            equal = same-eq (f .hash) (recomputed p A (vkVector p vk) (muOf p vk msg) f x) (asked 15 (hashEqual f (recomputed p A (vkVector p vk) (muOf p vk msg) f x)) 0 v .0);
-          }
-
-      entries : (p : Params) → lookupOf set 1 e ≡ Selected.Found p → Passed p vk msg sig → (f : Fields) → read p sig ≡ some f → write p f ≡ some sig
-          → checkBounds p f ≡ true → (o : Option (List ℕ)) → matrix p (vkSeed p vk) ≡ o → verifyMatrix p vk msg f o ≡ 0 → Accepts e set vk msg sig
-      entries p l h f r w b none m v = absurd (omega (arith, v))
-      entries p l h f r w b (some A) m v = hash p l h f r w b A m (chalPoly p (f .hash)) refl v
-
-      look : (x : Selected) → lookupOf set 1 e ≡ x → verifyFor x vk msg sig ≡ 0 → Accepts e set vk msg sig
+      look : (s : Selected) → lookupOf set 1 e ≡ s → firstNo (verifyChecks s (foundIn s) vk msg sig) ≡ 0 → Accepts e set vk msg sig
       look Selected.NoSet l v = absurd (omega (arith, v))
-      look Selected.NoShares l v = absurd (omega (arith, v))
+      look Selected.NoShares l v = absurd (never-shares e set l)
       look (Selected.Found p) l v =
-          let h = passed p vk msg sig v in
-          let w = proper-is p sig (h .proper) in
-          let u : verifyFields p vk msg (some (w .f)) ≡ 0 = ap (verifyFields p vk msg) (sym (w .read-is)) ∙ h .rest in
-          let b = asked 14 (checkBounds p (w .f)) _ u in
-          entries p l h (w .f) (w .read-is) (w .write-is) (b .0) (matrix p (vkSeed p vk)) refl (b .1)
+          let a3 = asked 2 (publicKeySized p vk) _ v in
+          let a4 = asked 3 (publicKeyGood p vk) _ (a3 .1) in
+          let a9 = asked 8 (messageSized msg) _ (a4 .1) in
+          let a13 = asked 12 (signatureSized p sig) _ (a9 .1) in
+          let a14 = asked 13 (properForm p sig) _ (a13 .1) in
+          let w = proper-is p sig (a14 .0) in
+          of-fields p l (a3 .0) (a4 .0) (a9 .0) (a13 .0) (w .f) (w .read-is) (w .write-is)
+          (ap (λ (o : Option Fields). firstNo (fieldChecks p vk msg (fieldsIn o))) (sym (w .read-is)) ∙ a14 .1)
 
 -- no hypothesis on the bytes: the writer makes bytes
 pub all-accepted : (e : Edition) (set : ℕ) (vk msg sig : List ℕ) → Accepts e set vk msg sig → verifyCall e set vk msg sig ≡ 0
-unfolding verifyCall verifyOf
+unfolding verifyCall filled
 all-accepted e set vk msg sig a =
     let p = a .p in
     let f = a .f in

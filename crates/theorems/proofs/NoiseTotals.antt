@@ -42,24 +42,24 @@ module _ (u : UnitCall) (p : Params) (is : recordOf u ≡ Selected.Found p) (h :
   -- polynomial k of a sharing's noise f, number i of the l + k
   module _ (f : ℕ → ℕ → List ℕ) (k i : ℕ) where
     lent-total : ((t : ℕ) → t < 1 → Words (p .shares * 512) (f k t))
-        → ((j : ℕ) → j < p .shares → getD (f k 0) (j * 512 + x) 0 ≡ getD (u .noise) (((a * m + i) * p .shares + j) * 512 + x) 0)
+        → ((j : ℕ) → j < p .shares → getD (f k 0) (j * 512 + x) 0 ≡ getD (u .coins .noise) (((a * m + i) * p .shares + j) * 512 + x) 0)
         → getD (noiseTotal (p .shares) 1 f k) x 0 ≡ sumN (u .shares) (λ (j : ℕ). lentAt p u a i j x) % q
     unfolding lentAt
     lent-total w e =
         total-is (p .shares) 1 f k w x hx
         ∙ ap (λ (n : ℕ). n % q)
         (sumN-one (λ (t : ℕ). sumN (p .shares) (λ (j : ℕ). getD (f k t) (j * 512 + x) 0))
-        ∙ sumN-ext (p .shares) (λ (j : ℕ). getD (f k 0) (j * 512 + x) 0) (λ (j : ℕ). getD (u .noise) (((a * m + i) * p .shares + j) * 512 + x) 0) e)
-        ∙ ap (λ (d : ℕ). sumN d (λ (j : ℕ). getD (u .noise) (((a * m + i) * d + j) * 512 + x) 0) % q) (shares-are u p is h)
+        ∙ sumN-ext (p .shares) (λ (j : ℕ). getD (f k 0) (j * 512 + x) 0) (λ (j : ℕ). getD (u .coins .noise) (((a * m + i) * p .shares + j) * 512 + x) 0) e)
+        ∙ ap (λ (d : ℕ). sumN d (λ (j : ℕ). getD (u .coins .noise) (((a * m + i) * d + j) * 512 + x) 0) % q) (shares-are u p is h)
 
     sampled-total : ((t : ℕ) → t < p .rep → Words (p .shares * 512) (f k t)) → pick (ltb i (p .l)) i (i - p .l) ≡ k
         → ((t j : ℕ) → t < p .rep → j < p .shares
-        → getD (f k t) (j * 512 + x) 0 ≡ getD (sampleU (noiseHeader t k j) (block (p .kappa / 8) (((a * m + i) * p .rep + t) * p .shares + j) (u .noise)) (p .uw)) x 0)
+        → getD (f k t) (j * 512 + x) 0 ≡ getD (sampleU (noiseHeader t k j) (block (p .kappa / 8) (((a * m + i) * p .rep + t) * p .shares + j) (u .coins .noise)) (p .uw)) x 0)
         → getD (noiseTotal (p .shares) (p .rep) f k) x 0 ≡ sumN (p .rep) (λ (t : ℕ). sumN (u .shares) (λ (j : ℕ). sampledAt p u a i t j x)) % q
     unfolding sampledAt
     sampled-total w n e =
         let g : ℕ → ℕ → ℕ → ℕ → ℕ = λ (b d t j : ℕ).
-        getD (sampleU (noiseHeader t b j) (block (p .kappa / 8) (((a * m + i) * p .rep + t) * d + j) (u .noise)) (p .uw)) x 0 in
+        getD (sampleU (noiseHeader t b j) (block (p .kappa / 8) (((a * m + i) * p .rep + t) * d + j) (u .coins .noise)) (p .uw)) x 0 in
         total-is (p .shares) (p .rep) f k w x hx
         ∙ ap (λ (n : ℕ). n % q)
         (sumN-ext (p .rep) (λ (t : ℕ). sumN (p .shares) (λ (j : ℕ). getD (f k t) (j * 512 + x) 0)) (λ (t : ℕ). sumN (p .shares) (g k (p .shares) t))
@@ -76,34 +76,34 @@ module _ (u : UnitCall) (p : Params) (is : recordOf u ≡ Selected.Found p) (h :
       (sumN (p .rep) (λ (t : ℕ). sumN (u .shares) (λ (j : ℕ). sampledAt p u a i t j x)) % q)
 
   abbrev had : Bool → Noise
-  had b = noiseFrom p b (block (noiseSize p b) a (u .noise))
+  had b = noiseFrom p b (block (noiseSize p b) a (u .coins .noise))
 
   first-by : (b : Bool) → GoodNoise p (had b) → (i : ℕ) → i < p .l → getD (noiseTotal (p .shares) (had b .reps) (had b .first) i) x 0 ≡ chosen b i
   unfolding explicit seeded
   first-by true w i hi =
-      lent-total (had true .first) i i (λ (t : ℕ) ht. w .first i t hi ht) (λ (j : ℕ) (hj : j < p .shares). explicit-first p (u .noise) a i 0 j x hi hj hx)
+      lent-total (had true .first) i i (λ (t : ℕ) ht. w .first i t hi ht) (λ (j : ℕ) (hj : j < p .shares). explicit-first p (u .coins .noise) a i 0 j x hi hj hx)
   first-by false w i hi =
       let e : ltb i (p .l) ≡ true = lt-ltb i (p .l) hi in
       sampled-total (had false .first) i i (λ (t : ℕ) ht. w .first i t hi ht) (rw e refl)
-      (λ (t j : ℕ) (ht : t < p .rep) (hj : j < p .shares). seeded-first p (u .noise) a (uw-low u p is h) i t j x hi ht hj hx)
+      (λ (t j : ℕ) (ht : t < p .rep) (hj : j < p .shares). seeded-first p (u .coins .noise) a (uw-low u p is h) i t j x hi ht hj hx)
 
   second-by : (b : Bool) → GoodNoise p (had b) → (i : ℕ) → i < p .k → getD (noiseTotal (p .shares) (had b .reps) (had b .second) i) x 0 ≡ chosen b (p .l + i)
   unfolding explicit seeded
   second-by true w i hi =
       lent-total (had true .second) i (p .l + i) (λ (t : ℕ) ht. w .second i t hi ht)
-      (λ (j : ℕ) (hj : j < p .shares). explicit-second p (u .noise) a i 0 j x hi hj hx)
+      (λ (j : ℕ) (hj : j < p .shares). explicit-second p (u .coins .noise) a i 0 j x hi hj hx)
   second-by false w i hi =
       let e : ltb (p .l + i) (p .l) ≡ false = le-ltb (p .l + i) (p .l) (let z : p .l ≤ p .l + i = omega arith in z) in
       let s : p .l + i - p .l ≡ i = omega arith in
       sampled-total (had false .second) i (p .l + i) (λ (t : ℕ) ht. w .second i t hi ht) (rw (e, s) refl)
-      (λ (t j : ℕ) (ht : t < p .rep) (hj : j < p .shares). seeded-second p (u .noise) a (uw-low u p is h) i t j x hi ht hj hx)
+      (λ (t j : ℕ) (ht : t < p .rep) (hj : j < p .shares). seeded-second p (u .coins .noise) a (uw-low u p is h) i t j x hi ht hj hx)
 
   module _ (la : a < u .attempts) where
     -- the first l polynomials, and the k behind them
     pub first-at : (i : ℕ) → i < p .l → getD (noiseTotal (p .shares) (noiseOf p u a .reps) (noiseOf p u a .first) i) x 0 ≡ noiseTotalAt p u a i x
     unfolding noiseTotalAt noiseAt
-    first-at i hi = first-by (u .explicit) (good u p is h a la) i hi
+    first-at i hi = first-by (u .coins .explicit) (good u p is h a la) i hi
 
     pub second-at : (i : ℕ) → i < p .k → getD (noiseTotal (p .shares) (noiseOf p u a .reps) (noiseOf p u a .second) i) x 0 ≡ noiseTotalAt p u a (p .l + i) x
     unfolding noiseTotalAt noiseAt
-    second-at i hi = second-by (u .explicit) (good u p is h a la) i hi
+    second-at i hi = second-by (u .coins .explicit) (good u p is h a la) i hi

@@ -1,6 +1,6 @@
 -- Plain signing, and what signing does from line 9 on, look at nothing in the record that depends on the share count (setOf).
 use mathlib.Core.Path.{_≡_, refl, sym, ap, _∙_}
-use mathlib.Core.List.{List}
+use mathlib.Core.List.{List, []}
 use mathlib.Core.Option.{Option, some, none}
 use Prim.Native.Nat.{ℕ, zero, suc}
 use lib.IntN.{ℤ}
@@ -12,10 +12,11 @@ use Rattle.signature.specs.Challenge.{chalHash, chalPoly}
 use Rattle.signature.specs.Form.{write}
 use Rattle.signature.specs.Keys.{vkSeed, vkVector}
 use Rattle.signature.specs.Matrix.{matrix}
+use Rattle.signature.specs.Outcome.{refusedOr, firstNo, heldOr}
 use Rattle.signature.specs.Recover.{recovered}
 use Rattle.signature.specs.Sign.{Public, signedFields, finished, challenged, concluded}
 use Rattle.signature.specs.SignCalls.{publicFor}
-use Rattle.theorems.specs.Plain.{Totals, plainCommitment, plainResponse, plainAttempt, plainFrom, plainNo, plainMade, plainGo, signPlain}
+use Rattle.theorems.specs.Plain.{Totals, plainCommitment, plainResponse, plainAttempt, plainFrom, plainChecks, signPlain}
 
 module _ (p : Params) where
   challenged-set : (P : Public) (w hash : List ℕ) (z : List ℕ → List ℕ) (o : Option (List ℤ))
@@ -45,23 +46,20 @@ module _ (p : Params) where
   unfolding vkSeed
   matrix-set vk = refl
 
-  no-set : (vk : List ℕ) (n : ℕ) (msg : List ℕ) → plainNo p vk n msg ≡ plainNo (setOf p) vk n msg
-  unfolding plainNo vkVector
-  no-set vk n msg = refl
+  checks-set : (vk : List ℕ) (n : ℕ) (msg : List ℕ) → firstNo (plainChecks p vk n msg) ≡ firstNo (plainChecks (setOf p) vk n msg)
+  unfolding vkVector vkSeed
+  checks-set vk n msg = refl
 
-  module _ (vk : List ℕ) (n : ℕ) (msg s : List ℕ) (e : ℕ → Totals) where
-    made-set : (o : Option (List ℕ)) → plainMade p vk n msg s e o ≡ plainMade (setOf p) vk n msg s e o
-    made-set none = refl
-    made-set (some A) =
-        from-set (publicFor p vk msg A) e n 0 s ∙ ap (λ (P : Public). plainFrom (setOf p) P e n 0 s) (public-set vk msg A)
-
-    go-set : (m : ℕ) → plainGo m p vk n msg s e ≡ plainGo m (setOf p) vk n msg s e
-    go-set zero = made-set (matrix p (vkSeed p vk)) ∙ ap (plainMade (setOf p) vk n msg s e) (matrix-set vk)
-    go-set (suc m) = refl
-
-    sign-set : signPlain p vk n msg s e ≡ signPlain (setOf p) vk n msg s e
-    unfolding signPlain
-    sign-set = go-set (plainNo p vk n msg) ∙ ap (λ (m : ℕ). plainGo m (setOf p) vk n msg s e) (no-set vk n msg)
+  sign-set : (vk : List ℕ) (n : ℕ) (msg s : List ℕ) (e : ℕ → Totals) → signPlain p vk n msg s e ≡ signPlain (setOf p) vk n msg s e
+  unfolding signPlain
+  sign-set vk n msg s e =
+      let P : Public = publicFor p vk msg (heldOr (matrix p (vkSeed p vk)) []) in
+      let same : P ≡ publicFor (setOf p) vk msg (heldOr (matrix (setOf p) (vkSeed (setOf p) vk)) []) =
+      public-set vk msg (heldOr (matrix p (vkSeed p vk)) [])
+      ∙ ap (λ (m : Option (List ℕ)). publicFor (setOf p) vk msg (heldOr m [])) (matrix-set vk) in
+      ap (λ (m : ℕ). refusedOr m (plainFrom p P e n 0 s)) (checks-set vk n msg)
+      ∙ ap (refusedOr (firstNo (plainChecks (setOf p) vk n msg)))
+      (from-set P e n 0 s ∙ ap (λ (X : Public). plainFrom (setOf p) X e n 0 s) same)
 
 -- of two records of one set
 module _ (p r : Params) (h : setOf p ≡ setOf r) where
@@ -80,8 +78,8 @@ module _ (p r : Params) (h : setOf p ≡ setOf r) where
   pub matrix-same : (vk : List ℕ) → matrix p (vkSeed p vk) ≡ matrix r (vkSeed r vk)
   matrix-same vk = matrix-set p vk ∙ ap (λ (x : Params). matrix x (vkSeed x vk)) h ∙ sym (matrix-set r vk)
 
-  pub no-same : (vk : List ℕ) (n : ℕ) (msg : List ℕ) → plainNo p vk n msg ≡ plainNo r vk n msg
-  no-same vk n msg = no-set p vk n msg ∙ ap (λ (x : Params). plainNo x vk n msg) h ∙ sym (no-set r vk n msg)
+  pub checks-same : (vk : List ℕ) (n : ℕ) (msg : List ℕ) → firstNo (plainChecks p vk n msg) ≡ firstNo (plainChecks r vk n msg)
+  checks-same vk n msg = checks-set p vk n msg ∙ ap (λ (x : Params). firstNo (plainChecks x vk n msg)) h ∙ sym (checks-set r vk n msg)
 
   pub plain-same : (vk : List ℕ) (n : ℕ) (msg s : List ℕ) (e : ℕ → Totals) → signPlain p vk n msg s e ≡ signPlain r vk n msg s e
   plain-same vk n msg s e = sign-set p vk n msg s e ∙ ap (λ (x : Params). signPlain x vk n msg s e) h ∙ sym (sign-set r vk n msg s e)

@@ -8,7 +8,7 @@ use native.Mathlib.Omega.{arith}
 use borrow.Author.Tests.{eq-eqb, ne-eqb}
 use lib.Dec.{eqb, lit<}
 use lib.ListN.{length, getD}
-use Rattle.hash.specs.Lists.{zeros, pick}
+use Rattle.hash.specs.Lists.{pick}
 use Rattle.hash.specs.Params.{ShareCount, lookupOf}
 use Rattle.hash.specs.declared.params.Params.{Params}
 use Rattle.hash.specs.declared.params.Selected.{Selected}
@@ -22,8 +22,10 @@ use Rattle.sharing.proofs.Decode.{sumN-ext}
 use Rattle.ring.proofs.Sums.{words-zeros}
 use Rattle.sharing.proofs.Lists.{block-at, inside, words-build, block-build}
 use Rattle.signature.specs.Checks.{workWords}
-use Rattle.theorems.specs.Unit.{UnitCall, recordOf, wordAt, secretAt, lentAt, noiseTotalAt, Fits, Sound, Alike, SameSecret, EqualTotals}
-use Rattle.theorems.specs.Witness.{Wanted, Has, allOrZero, inFirst, laidFor, recordIn, laid, hadBy}
+use Rattle.signature.specs.ExpandedKey.{ExpandedKey, shareWordAt, secretAt}
+use Rattle.signature.specs.Outcome.{foundIn}
+use Rattle.theorems.specs.Unit.{UnitCall, recordOf, lentAt, noiseTotalAt, Fits, Sound, Alike, SameSecret, EqualTotals}
+use Rattle.theorems.specs.Witness.{Wanted, Has, allOrZero, inFirst, laidFor, laid, hadBy}
 use Rattle.ring.proofs.Checks.{below-yes}
 use Rattle.hash.proofs.Sets.{setOf, Beside, beside}
 use Rattle.theorems.proofs.ShareCount.{k-same, l-same}
@@ -85,7 +87,7 @@ module _ (w : Wanted) (d : ℕ) (p : Params) (is : lookupOf (w .set) d (w .editi
 
   laid-is : laid d w ≡ laidFor p d w
   unfolding laid
-  laid-is = ap (λ (s : Selected). laidFor (recordIn (w .edition) s) d w) is
+  laid-is = ap (λ (s : Selected). laidFor (foundIn s) d w) is
 
   -- the noise of attempt a + 1
   abbrev noiseIn : ℕ → List ℕ
@@ -94,11 +96,11 @@ module _ (w : Wanted) (d : ℕ) (p : Params) (is : lookupOf (w .set) d (w .editi
   in-words : (a : ℕ) → Words (m * (d * 512)) (noiseIn a)
   in-words a = words-build m (λ (i : ℕ). inFirst d (w .totals a i)) (λ (i : ℕ) (h : i < m). in-first-words (w .totals a i) d)
 
-  secret-words : Words (p .l * (d * 512)) (v .words)
+  secret-words : Words (p .l * (d * 512)) (v .key .words)
   unfolding laidFor
   secret-words = words-build (p .l) (λ (i : ℕ). inFirst d (w .secret i)) (λ (i : ℕ) (h : i < p .l). in-first-words (w .secret i) d)
 
-  noise-words : Words (w .attempts * (m * (d * 512))) (v .noise)
+  noise-words : Words (w .attempts * (m * (d * 512))) (v .coins .noise)
   unfolding laidFor
   noise-words = words-build (w .attempts) noiseIn (λ (a : ℕ) (h : a < w .attempts). in-words a)
 
@@ -106,19 +108,19 @@ module _ (w : Wanted) (d : ℕ) (p : Params) (is : lookupOf (w .set) d (w .editi
   unfolding laidFor
   laid-fits =
       let n : m * (d * 512) ≡ m * p .shares * 512 = omega (arith, ap (λ (x : ℕ). m * x) shares-are) in
-      let e7 : eqb (length (v .noise)) (w .attempts * (m * p .shares * 512)) ≡ true = eq-eqb _ _ (noise-words .long ∙ ap (λ (x : ℕ). w .attempts * x) n) in
-      let b7 : allBelow q (v .noise) ≡ true = below-yes q (v .noise) (noise-words .low) in
-      let m7 : eqb (length (v .masks)) (w .attempts * 32) ≡ true = eq-eqb _ _ (words-zeros (w .attempts * 32) .long) in
+      let e7 : eqb (length (v .coins .noise)) (w .attempts * (m * p .shares * 512)) ≡ true = eq-eqb _ _ (noise-words .long ∙ ap (λ (x : ℕ). w .attempts * x) n) in
+      let b7 : allBelow q (v .coins .noise) ≡ true = below-yes q (v .coins .noise) (noise-words .low) in
+      let m7 : eqb (length (v .coins .masks)) (w .attempts * 32) ≡ true = eq-eqb _ _ (words-zeros (w .attempts * 32) .long) in
       let r8 : eqb (length (v .result)) (p .«sig_bytes») ≡ true = eq-eqb _ _ (words-zeros (p .«sig_bytes») .long) in
       let w8 : eqb (length (v .work)) (workWords p) ≡ true = eq-eqb _ _ (words-zeros (workWords p) .long) in
       record {
-        share-words = subst (λ (x : ℕ). Words (p .l * (x * 512)) (v .words)) (sym shares-are) secret-words;
+        share-words = subst (λ (x : ℕ). Words (p .l * (x * 512)) (v .key .words)) (sym shares-are) secret-words;
         coins = rw (e7, b7, m7) refl;
         buffers = rw (r8, w8) refl;
       }
 
-  word-is : (i j x : ℕ) → i < p .l → j < d → x < 512 → wordAt v i j x ≡ pick (eqb j 0) (w .secret i x % q) 0
-  unfolding wordAt laidFor
+  word-is : (i j x : ℕ) → i < p .l → j < d → x < 512 → shareWordAt d (v .key) i j x ≡ pick (eqb j 0) (w .secret i x % q) 0
+  unfolding shareWordAt laidFor
   word-is i j x hi hj hx =
       built-at (d * 512) (p .l) (λ (i : ℕ). inFirst d (w .secret i)) (λ (i : ℕ) (h : i < p .l). in-first-words (w .secret i) d .long) i (j * 512 + x) hi
       (omega arith)
@@ -135,11 +137,11 @@ module _ (w : Wanted) (d : ℕ) (p : Params) (is : lookupOf (w .set) d (w .editi
       ∙ in-first-at (w .totals a i) d j x hj hx
 
   module _ (c : ShareCount d) where
-    laid-secret : (i x : ℕ) → i < p .l → x < 512 → secretAt v i x ≡ w .secret i x % q
+    laid-secret : (i x : ℕ) → i < p .l → x < 512 → secretAt d (v .key) i x ≡ w .secret i x % q
     unfolding secretAt laidFor
     laid-secret i x hi hx =
         ap (λ (n : ℕ). n % q)
-        (sumN-ext d (λ (j : ℕ). wordAt v i j x) (λ (j : ℕ). pick (eqb j 0) (w .secret i x % q) 0) (λ (j : ℕ) (hj : j < d). word-is i j x hi hj hx))
+        (sumN-ext d (λ (j : ℕ). shareWordAt d (v .key) i j x) (λ (j : ℕ). pick (eqb j 0) (w .secret i x % q) 0) (λ (j : ℕ) (hj : j < d). word-is i j x hi hj hx))
         ∙ sum-is d (w .secret i x) (count-low d c .0)
 
     laid-total : (a i x : ℕ) → a < w .attempts → i < m → x < 512 → noiseTotalAt p v a i x ≡ w .totals a i x % q
@@ -169,7 +171,7 @@ laid-has w d c =
       message = refl;
       attempts = refl;
       secret = λ (p : Params) (is : recordOf (laid d w) ≡ Selected.Found p) (i x : ℕ) (hi : i < p .l) (hx : x < 512).
-          ap (λ (u : UnitCall). secretAt u i x) (laid-is w d p is) ∙ laid-secret w d p is c i x hi hx;
+          ap (λ (u : UnitCall). secretAt (u .shares) (u .key) i x) (laid-is w d p is) ∙ laid-secret w d p is c i x hi hx;
       totals = λ (p : Params) (is : recordOf (laid d w) ≡ Selected.Found p) (a i x : ℕ) (ha : a < w .attempts) (hi : i < p .l + p .k) (hx : x < 512).
           ap (λ (u : UnitCall). noiseTotalAt p u a i x) (laid-is w d p is) ∙ laid-total w d p is c a i x ha hi hx;
     }
@@ -177,9 +179,9 @@ laid-has w d c =
 -- ---- two units that have the same
 
 -- secrets and noise totals are residues
-secret-mod : (u : UnitCall) (i x : ℕ) → secretAt u i x % q ≡ secretAt u i x
+secret-mod : (d : ℕ) (K : ExpandedKey) (i x : ℕ) → secretAt d K i x % q ≡ secretAt d K i x
 unfolding secretAt
-secret-mod u i x = omega arith
+secret-mod d K i x = omega arith
 
 pick-mod : (b : Bool) (x y : ℕ) → pick b (x % q) (y % q) % q ≡ pick b (x % q) (y % q)
 pick-mod true x y = omega arith
@@ -187,7 +189,7 @@ pick-mod false x y = omega arith
 
 total-mod : (p : Params) (u : UnitCall) (a i x : ℕ) → noiseTotalAt p u a i x % q ≡ noiseTotalAt p u a i x
 unfolding noiseTotalAt
-total-mod p u a i x = pick-mod (u .explicit) (sumN (u .shares) (λ (j : ℕ). lentAt p u a i j x)) _
+total-mod p u a i x = pick-mod (u .coins .explicit) (sumN (u .shares) (λ (j : ℕ). lentAt p u a i j x)) _
 
 pub had : (u : UnitCall) → Has (hadBy u) u
 unfolding hadBy
@@ -198,9 +200,9 @@ had u =
       vk = refl;
       message = refl;
       attempts = refl;
-      secret = λ (p : Params) is (i x : ℕ) hi hx. sym (secret-mod u i x);
+      secret = λ (p : Params) is (i x : ℕ) hi hx. sym (secret-mod (u .shares) (u .key) i x);
       totals = λ (p : Params) (is : recordOf u ≡ Selected.Found p) (a i x : ℕ) ha hi hx.
-          sym (ap (λ (s : Selected). noiseTotalAt (recordIn (u .edition) s) u a i x % q) is ∙ total-mod p u a i x);
+          sym (ap (λ (s : Selected). noiseTotalAt (foundIn s) u a i x % q) is ∙ total-mod p u a i x);
     }
 
 module _ (w : Wanted) (u v : UnitCall) (hu : Has w u) (hv : Has w v) where

@@ -1,5 +1,6 @@
 -- The worked instances of paper 01 (its "Table of marked instances") and its limits, as rows about the definitions.
 use mathlib.Core.Path.{_≡_}
+use mathlib.Core.Bool.{Bool}
 use mathlib.Core.List.{List, [], _∷_, _++_}
 use Prim.Native.Nat.{ℕ, _-_, _*_, _≤_, _<_}
 use lib.IntN.{pos, negℤ}
@@ -13,7 +14,7 @@ use Rattle.ring.specs.Round.{rounded, centred}
 use Rattle.ring.specs.Transform.{mul}
 use Rattle.sharing.specs.Blocks.{block, total}
 use Rattle.sharing.specs.Noise.{noiseBytes}
-use Rattle.signature.specs.Checks.{ask, publicKeyGood, fullShareGood, shareWordsGood, attemptsAllowed, messageSized}
+use Rattle.signature.specs.Checks.{firstNo, publicKeyGood, fullShareGood, shareWordsGood, attemptsAllowed, messageSized}
 use Rattle.signature.specs.Keys.{vkVector, fullShare}
 
 -- P1 to P12
@@ -42,17 +43,21 @@ pub record Instances : Type 0 where
   pub p12-2 : (e : Edition) → (p : Params) × ((lookupOf 128 2 e ≡ Selected.Found p) × (noiseBytes p ≡ 1152))
   pub p12-32 : (e : Edition) → (p : Params) × ((lookupOf 128 32 e ≡ Selected.Found p) × (noiseBytes p ≡ 18432))
 
--- the limits; `rest` is the status of the checks that follow
+-- the limits; `rest` are the checks that follow
 pub record Limits : Type 0 where
-  pub message-4096 : (m : List ℕ) (rest : ℕ) → length m ≡ 4096 → ask 9 (messageSized m) rest ≡ rest
-  pub message-4097 : (m : List ℕ) (rest : ℕ) → length m ≡ 4097 → ask 9 (messageSized m) rest ≡ 9
-  pub attempts-0 : (rest : ℕ) → ask 6 (attemptsAllowed 0) rest ≡ 6
-  pub attempts-17 : (rest : ℕ) → ask 6 (attemptsAllowed 17) rest ≡ 6
+  pub message-4096 : (m : List ℕ) (rest : List (ℕ × Bool)) → length m ≡ 4096 → firstNo ((9, messageSized m) ∷ rest) ≡ firstNo rest
+  pub message-4097 : (m : List ℕ) (rest : List (ℕ × Bool)) → length m ≡ 4097 → firstNo ((9, messageSized m) ∷ rest) ≡ 9
+  pub attempts-0 : (rest : List (ℕ × Bool)) → firstNo ((6, attemptsAllowed 0) ∷ rest) ≡ 6
+  pub attempts-17 : (rest : List (ℕ × Bool)) → firstNo ((6, attemptsAllowed 17) ∷ rest) ≡ 6
   -- coefficients up to 124; a coefficient 125 at any place
-  pub coefficient-124 : (p : Params) (key : List ℕ) (rest : ℕ) → ((i : ℕ) → getD (vkVector p key) i 0 ≤ 124) → ask 4 (publicKeyGood p key) rest ≡ rest
-  pub coefficient-125 : (p : Params) (key : List ℕ) (i rest : ℕ) → getD (vkVector p key) i 0 ≡ 125 → ask 4 (publicKeyGood p key) rest ≡ 4
+  pub coefficient-124 : (p : Params) (key : List ℕ) (rest : List (ℕ × Bool)) → ((i : ℕ) → getD (vkVector p key) i 0 ≤ 124)
+      → firstNo ((4, publicKeyGood p key) ∷ rest) ≡ firstNo rest
+  pub coefficient-125 : (p : Params) (key : List ℕ) (i : ℕ) (rest : List (ℕ × Bool)) → getD (vkVector p key) i 0 ≡ 125
+      → firstNo ((4, publicKeyGood p key) ∷ rest) ≡ 4
   -- words up to q - 1; a word q at any place; of an expanded key, and of a signing key's full share
-  pub word-below : (words : List ℕ) (rest : ℕ) → ((i : ℕ) → getD words i 0 ≤ q - 1) → ask 5 (shareWordsGood words) rest ≡ rest
-  pub word-q : (words : List ℕ) (i rest : ℕ) → getD words i 0 ≡ q → ask 5 (shareWordsGood words) rest ≡ 5
-  pub full-below : (p : Params) (key : List ℕ) (rest : ℕ) → ((i : ℕ) → getD (fullShare p (drop (p .«vk_bytes») key)) i 0 ≤ q - 1) → ask 5 (fullShareGood p key) rest ≡ rest
-  pub full-q : (p : Params) (key : List ℕ) (i rest : ℕ) → getD (fullShare p (drop (p .«vk_bytes») key)) i 0 ≡ q → ask 5 (fullShareGood p key) rest ≡ 5
+  pub word-below : (words : List ℕ) (rest : List (ℕ × Bool)) → ((i : ℕ) → getD words i 0 ≤ q - 1) → firstNo ((5, shareWordsGood words) ∷ rest) ≡ firstNo rest
+  pub word-q : (words : List ℕ) (i : ℕ) (rest : List (ℕ × Bool)) → getD words i 0 ≡ q → firstNo ((5, shareWordsGood words) ∷ rest) ≡ 5
+  pub full-below : (p : Params) (key : List ℕ) (rest : List (ℕ × Bool)) → ((i : ℕ) → getD (fullShare p (drop (p .«vk_bytes») key)) i 0 ≤ q - 1)
+      → firstNo ((5, fullShareGood p key) ∷ rest) ≡ firstNo rest
+  pub full-q : (p : Params) (key : List ℕ) (i : ℕ) (rest : List (ℕ × Bool)) → getD (fullShare p (drop (p .«vk_bytes») key)) i 0 ≡ q
+      → firstNo ((5, fullShareGood p key) ∷ rest) ≡ 5

@@ -1,19 +1,20 @@
 -- Plain signing: Algorithm 2 of paper 000 on sums. One secret instead of d shares, the totals of the noise instead of its shares, no masking.
 -- From line 9 on it is the text of signing itself (`concluded`). Of the record of the parameter table it looks at nothing that depends on the
 -- share count.
-use mathlib.Core.List.{List, []}
-use mathlib.Core.Option.{Option, some, none}
+use mathlib.Core.Bool.{Bool}
+use mathlib.Core.List.{List, [], _∷_}
 use Prim.Native.Nat.{ℕ, zero, suc}
 use Rattle.hash.specs.declared.params.Params.{Params}
 use Rattle.ring.specs.Words.{addW}
 use Rattle.ring.specs.Transform.{intt, mul}
 use Rattle.sharing.specs.Blocks.{block, build, sumOf, total}
-use Rattle.signature.specs.Checks.{ask, publicKeySized, publicKeyGood, attemptsAllowed, messageSized}
+use Rattle.signature.specs.Checks.{publicKeySized, publicKeyGood, attemptsAllowed, messageSized}
 use Rattle.signature.specs.Keys.{vkSeed}
 use Rattle.signature.specs.Masked.{Noise}
-use Rattle.signature.specs.Matrix.{matrix}
+use Rattle.signature.specs.Matrix.{matrix, filled}
+use Rattle.signature.specs.Outcome.{Outcome, answer, refusedOr, firstNo, heldOr}
 use Rattle.signature.specs.Recover.{productRow}
-use Rattle.signature.specs.Sign.{Public, Attempted, Answer, answer, concluded, ended}
+use Rattle.signature.specs.Sign.{Public, Attempted, concluded, ended}
 use Rattle.signature.specs.SignCalls.{publicFor}
 
 -- the noise totals of an attempt (01): r, l polynomials, and what is added to A r, k polynomials
@@ -44,22 +45,21 @@ unfoldable pub plainAttempt : Params → Public → List ℕ → Totals → Atte
 plainAttempt p P s e = concluded p P (plainCommitment p (P .matrix) e) (plainResponse p s e)
 
 -- `left` attempts from number a + 1, with the same secret s each time; e a are the totals of attempt number a + 1
-unfoldable pub plainFrom : Params → Public → (ℕ → Totals) → ℕ → ℕ → List ℕ → Answer
+unfoldable pub plainFrom : Params → Public → (ℕ → Totals) → ℕ → ℕ → List ℕ → Outcome
 plainFrom p P e zero a s = answer 12 a []
 plainFrom p P e (suc left) a s = ended a (plainAttempt p P s (e a)) (plainFrom p P e left (suc a) s)
 
 -- ---- the call, of a record that was looked up (check 1): checks 3 and 4 of the public key, 6, 9, 10. No check looks at a share
 
-unfoldable pub plainNo : Params → List ℕ → ℕ → List ℕ → ℕ
-plainNo p vk n msg = ask 3 (publicKeySized p vk) (ask 4 (publicKeyGood p vk) (ask 6 (attemptsAllowed n) (ask 9 (messageSized msg) 0)))
+abbrev pub plainChecks : Params → List ℕ → ℕ → List ℕ → List (ℕ × Bool)
+plainChecks p vk n msg =
+    (3, publicKeySized p vk)
+    ∷ (4, publicKeyGood p vk)
+    ∷ (6, attemptsAllowed n)
+    ∷ (9, messageSized msg)
+    ∷ (10, filled (matrix p (vkSeed p vk)))
+    ∷ []
 
-abbrev pub plainMade : Params → List ℕ → ℕ → List ℕ → List ℕ → (ℕ → Totals) → Option (List ℕ) → Answer
-plainMade p vk n msg s e none = answer 10 0 []
-plainMade p vk n msg s e (some A) = plainFrom p (publicFor p vk msg A) e n 0 s
-
-abbrev pub plainGo : ℕ → Params → List ℕ → ℕ → List ℕ → List ℕ → (ℕ → Totals) → Answer
-plainGo zero p vk n msg s e = plainMade p vk n msg s e (matrix p (vkSeed p vk))
-plainGo (suc m) p vk n msg s e = answer (suc m) 0 []
-
-unfoldable pub signPlain : Params → List ℕ → ℕ → List ℕ → List ℕ → (ℕ → Totals) → Answer
-signPlain p vk n msg s e = plainGo (plainNo p vk n msg) p vk n msg s e
+unfoldable pub signPlain : Params → List ℕ → ℕ → List ℕ → List ℕ → (ℕ → Totals) → Outcome
+signPlain p vk n msg s e =
+    refusedOr (firstNo (plainChecks p vk n msg)) (plainFrom p (publicFor p vk msg (heldOr (matrix p (vkSeed p vk)) [])) e n 0 s)

@@ -1,6 +1,6 @@
 -- A unit (01): one signing call with an expanded key, from seeds or with explicit noise. Its secret, its noise totals, and what demand 3 supposes.
 use mathlib.Core.Path.{_≡_}
-use mathlib.Core.Bool.{Bool, true}
+use mathlib.Core.Bool.{true}
 use mathlib.Core.List.{List}
 use Prim.Native.Nat.{ℕ, _+_, _-_, _*_, _/_, _%_, _<_}
 use lib.Dec.{ltb}
@@ -14,63 +14,48 @@ use Rattle.ring.specs.Words.{q, Words}
 use Rattle.sharing.specs.Blocks.{block, sumN}
 use Rattle.sharing.specs.Noise.{sampleU, noiseHeader}
 use Rattle.signature.specs.Checks.{signBuffersSized}
-use Rattle.signature.specs.Sign.{Answer, Coins}
-use Rattle.signature.specs.SignCalls.{Key, Signing, coinsGood, signOf, signCall}
+use Rattle.signature.specs.ExpandedKey.{ExpandedKey, secretAt}
+use Rattle.signature.specs.Outcome.{Outcome}
+use Rattle.signature.specs.Sign.{Coins}
+use Rattle.signature.specs.SignCalls.{Key, coinsGood, signOf, signCall}
 
 pub record UnitCall : Type 0 where
   pub edition : Edition
   pub set : ℕ
   pub shares : ℕ
-  -- the expanded key (01: opened key): the public key's bytes, and the words of all shares, polynomial by polynomial, its shares behind each other
-  pub vk : List ℕ
-  pub words : List ℕ
+  pub key : ExpandedKey
   pub message : List ℕ
   -- the allowed attempts (01: tries)
   pub attempts : ℕ
   -- is the noise explicit (01: bench form), or from seeds; the noise and the mask seeds of all attempts (01: tapes)
-  pub explicit : Bool
-  pub noise : List ℕ
-  pub masks : List ℕ
+  pub coins : Coins
   -- what the lent buffers held before
   pub result : List ℕ
   pub work : List ℕ
 
-abbrev pub keyOf : UnitCall → Key
-keyOf u = Key.expanded (u .vk) (u .words)
-
-abbrev pub coinsOf : UnitCall → Coins
-coinsOf u = record { explicit = u .explicit; noise = u .noise; masks = u .masks }
-
 -- what the call answers; and with it what it leaves in its buffers
-unfoldable pub signUnit : UnitCall → Answer
-signUnit u = signOf (u .edition) (u .set) (u .shares) (keyOf u) (u .attempts) (u .message) (coinsOf u) (u .result) (u .work)
+unfoldable pub signUnit : UnitCall → Outcome
+signUnit u = signOf (u .edition) (u .set) (u .shares) (Key.expanded (u .key)) (u .attempts) (u .message) (u .coins) (u .result) (u .work)
 
-unfoldable pub callUnit : UnitCall → Signing
-callUnit u = signCall (u .edition) (u .set) (u .shares) (keyOf u) (u .attempts) (u .message) (coinsOf u) (u .result) (u .work)
+unfoldable pub callUnit : UnitCall → Outcome
+callUnit u = signCall (u .edition) (u .set) (u .shares) (Key.expanded (u .key)) (u .attempts) (u .message) (u .coins) (u .result) (u .work)
 
 -- the record of the unit's set and share count, if the set is one of the three
 abbrev pub recordOf : UnitCall → Selected
 recordOf u = lookupOf (u .set) (u .shares) (u .edition)
 
--- ---- sums, as 01 says them
-
--- the word of share j of polynomial i at coefficient x; the secret there: the sum of the share words modulo q
-unfoldable pub wordAt : UnitCall → ℕ → ℕ → ℕ → ℕ
-wordAt u i j x = getD (u .words) (i * (u .shares * 512) + (j * 512 + x)) 0
-
-unfoldable pub secretAt : UnitCall → ℕ → ℕ → ℕ
-secretAt u i x = sumN (u .shares) (λ (j : ℕ). wordAt u i j x) % q
+-- ---- the noise's sums, as 01 says them; the key's are `secretAt` (signature)
 
 -- the noise at coefficient x of share j, repetition t, polynomial i of l + k, in attempt a + 1: a lent word, or a sample of u_w bits from a seed
 -- of kappa bits. Words and seeds stand by attempt, polynomial, repetition, share; the index in a header begins anew behind the first l.
 unfoldable pub lentAt : Params → UnitCall → ℕ → ℕ → ℕ → ℕ → ℕ
-lentAt p u a i j x = getD (u .noise) (((a * (p .l + p .k) + i) * u .shares + j) * 512 + x) 0
+lentAt p u a i j x = getD (u .coins .noise) (((a * (p .l + p .k) + i) * u .shares + j) * 512 + x) 0
 
 unfoldable pub sampledAt : Params → UnitCall → ℕ → ℕ → ℕ → ℕ → ℕ → ℕ
 sampledAt p u a i t j x =
     getD
     (sampleU (noiseHeader t (pick (ltb i (p .l)) i (i - p .l)) j)
-    (block (p .kappa / 8) (((a * (p .l + p .k) + i) * p .rep + t) * u .shares + j) (u .noise))
+    (block (p .kappa / 8) (((a * (p .l + p .k) + i) * p .rep + t) * u .shares + j) (u .coins .noise))
     (p .uw))
     x
     0
@@ -78,7 +63,7 @@ sampledAt p u a i t j x =
 -- the noise total there: the sum of the samples over repetitions and shares, or of the lent words over the shares, modulo q
 unfoldable pub noiseTotalAt : Params → UnitCall → ℕ → ℕ → ℕ → ℕ
 noiseTotalAt p u a i x =
-    pick (u .explicit)
+    pick (u .coins .explicit)
     (sumN (u .shares) (λ (j : ℕ). lentAt p u a i j x) % q)
     (sumN (p .rep) (λ (t : ℕ). sumN (u .shares) (λ (j : ℕ). sampledAt p u a i t j x)) % q)
 
@@ -86,8 +71,8 @@ noiseTotalAt p u a i x =
 
 -- an expanded key of the call's own set and share count, every share word below q; noise, mask seeds and buffers that checks 7 and 8 pass
 pub record Fits (p : Params) (u : UnitCall) : Type 0 where
-  pub share-words : Words (p .l * (p .shares * 512)) (u .words)
-  pub coins : coinsGood p (u .attempts) (coinsOf u) ≡ true
+  pub share-words : Words (p .l * (p .shares * 512)) (u .key .words)
+  pub coins : coinsGood p (u .attempts) (u .coins) ≡ true
   pub buffers : signBuffersSized p (u .result) (u .work) ≡ true
 
 -- the share count is 1, 2, 4, 8, 16 or 32; of an unknown set nothing more is asked
@@ -99,13 +84,13 @@ pub record Sound (u : UnitCall) : Type 0 where
 pub record Alike (u v : UnitCall) : Type 0 where
   pub editions : u .edition ≡ v .edition
   pub sets : u .set ≡ v .set
-  pub keys : u .vk ≡ v .vk
+  pub keys : u .key .vk ≡ v .key .vk
   pub messages : u .message ≡ v .message
   pub attempts : u .attempts ≡ v .attempts
 
 -- the shares add to the same secret: at all 512 coefficients of the l polynomials
 pub record SameSecret (u v : UnitCall) : Type 0 where
-  pub equal : (p : Params) → recordOf u ≡ Selected.Found p → (i x : ℕ) → i < p .l → x < 512 → secretAt u i x ≡ secretAt v i x
+  pub equal : (p : Params) → recordOf u ≡ Selected.Found p → (i x : ℕ) → i < p .l → x < 512 → secretAt (u .shares) (u .key) i x ≡ secretAt (v .shares) (v .key) i x
 
 -- the noise adds to equal totals: in every allowed attempt, at all 512 coefficients of each of the l + k polynomials
 pub record EqualTotals (u v : UnitCall) : Type 0 where

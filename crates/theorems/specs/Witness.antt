@@ -2,18 +2,20 @@
 -- bench form, by which, as 01 says, equal totals can be laid out for two share counts.
 use mathlib.Core.Path.{_≡_}
 use mathlib.Core.Bool.{Bool, true}
-use mathlib.Core.List.{List, []}
+use mathlib.Core.List.{List}
 use Prim.Native.Nat.{ℕ, _+_, _*_, _%_, _<_}
 use lib.Dec.{eqb}
 use Rattle.hash.specs.Lists.{zeros, table, pick}
-use Rattle.hash.specs.Params.{paramsOf, lookupOf}
+use Rattle.hash.specs.Params.{lookupOf}
 use Rattle.hash.specs.declared.params.Edition.{Edition}
 use Rattle.hash.specs.declared.params.Params.{Params}
 use Rattle.hash.specs.declared.params.Selected.{Selected}
 use Rattle.ring.specs.Words.{q}
 use Rattle.sharing.specs.Blocks.{build}
 use Rattle.signature.specs.Checks.{workWords}
-use Rattle.theorems.specs.Unit.{UnitCall, recordOf, secretAt, noiseTotalAt}
+use Rattle.signature.specs.ExpandedKey.{secretAt}
+use Rattle.signature.specs.Outcome.{foundIn}
+use Rattle.theorems.specs.Unit.{UnitCall, recordOf, noiseTotalAt}
 
 -- what units of all share counts can have alike: what Alike names, the secret and the noise totals
 pub record Wanted : Type 0 where
@@ -30,10 +32,10 @@ pub record Wanted : Type 0 where
 pub record Has (w : Wanted) (u : UnitCall) : Type 0 where
   pub edition : u .edition ≡ w .edition
   pub set : u .set ≡ w .set
-  pub vk : u .vk ≡ w .vk
+  pub vk : u .key .vk ≡ w .vk
   pub message : u .message ≡ w .message
   pub attempts : u .attempts ≡ w .attempts
-  pub secret : (p : Params) → recordOf u ≡ Selected.Found p → (i x : ℕ) → i < p .l → x < 512 → secretAt u i x ≡ w .secret i x % q
+  pub secret : (p : Params) → recordOf u ≡ Selected.Found p → (i x : ℕ) → i < p .l → x < 512 → secretAt (u .shares) (u .key) i x ≡ w .secret i x % q
   pub totals : (p : Params) → recordOf u ≡ Selected.Found p
       → (a i x : ℕ) → a < w .attempts → i < p .l + p .k → x < 512 → noiseTotalAt p u a i x ≡ w .totals a i x % q
 
@@ -51,26 +53,22 @@ laidFor p d w =
       edition = w .edition;
       set = w .set;
       shares = d;
-      vk = w .vk;
-      words = build (p .l) (λ (i : ℕ). inFirst d (w .secret i));
+      key = record { vk = w .vk; words = build (p .l) (λ (i : ℕ). inFirst d (w .secret i)) };
       message = w .message;
       attempts = w .attempts;
-      explicit = true;
-      noise = build (w .attempts) (λ (a : ℕ). build (p .l + p .k) (λ (i : ℕ). inFirst d (w .totals a i)));
-      masks = zeros (w .attempts * 32);
+      coins =
+          record {
+            explicit = true;
+            noise = build (w .attempts) (λ (a : ℕ). build (p .l + p .k) (λ (i : ℕ). inFirst d (w .totals a i)));
+            masks = zeros (w .attempts * 32);
+          };
       result = zeros (p .«sig_bytes»);
       work = zeros (workWords p);
     }
 
--- the record that was found; where there is none nothing is asked, and all zeros will do
-abbrev pub recordIn : Edition → Selected → Params
-recordIn e (Selected.Found p) = p
-recordIn e Selected.NoSet = paramsOf [] e
-recordIn e Selected.NoShares = paramsOf [] e
-
--- the unit of d shares, by the record of the wanted set and d
+-- the unit of d shares, by the record of the wanted set and d; of an unknown set nothing is asked
 unfoldable pub laid : ℕ → Wanted → UnitCall
-laid d w = laidFor (recordIn (w .edition) (lookupOf (w .set) d (w .edition))) d w
+laid d w = laidFor (foundIn (lookupOf (w .set) d (w .edition))) d w
 
 -- what a unit has
 unfoldable pub hadBy : UnitCall → Wanted
@@ -78,9 +76,9 @@ hadBy u =
     record {
       edition = u .edition;
       set = u .set;
-      vk = u .vk;
+      vk = u .key .vk;
       message = u .message;
       attempts = u .attempts;
-      secret = secretAt u;
-      totals = noiseTotalAt (recordIn (u .edition) (recordOf u)) u;
+      secret = secretAt (u .shares) (u .key);
+      totals = noiseTotalAt (foundIn (recordOf u)) u;
     }

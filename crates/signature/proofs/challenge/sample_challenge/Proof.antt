@@ -1,8 +1,9 @@
-use mathlib.Core.Path.{ap, _∙_}
+use mathlib.Core.Path.{sym, ap, _∙_}
 use mathlib.Core.List.{List}
 use native.Mathlib.Omega.{arith}
 use lib.IntN.{ℤ}
-use Rattle.signature.proofs.ChalResult.{no-set, no-shares, omega-low, no-room, sampled-none, sampled-some, sampled-length}
+use Rattle.signature.proofs.ChalResult.{no-set, omega-low, no-room, sampled-none, sampled-some, sampled-length}
+use Rattle.signature.proofs.Verified.{never-shares}
 use borrow.Author.Needs.{needs}
 use Rattle.signature.proofs.challenge.sample_challenge.Statement.{statement}
 use Rattle.signature.proofs.challenge.sample_challenge.Tie as tie
@@ -40,7 +41,7 @@ returns-3 : tie.Need-returns-3
 returns-3 c = no-set _ _ _ _ (c .before .before .lookup .ensures) (c .enum-told .given .1)
 
 returns-4 : tie.Need-returns-4
-returns-4 c = no-shares _ _ _ _ (c .before .before .lookup .ensures) (c .enum-told2 .given .1)
+returns-4 c = absurd (never-shares _ _ (sym (c .before .before .lookup .ensures) ∙ c .enum-told2 .given .1))
 
 returns-5 : tie.Need-returns-5
 returns-5 c =

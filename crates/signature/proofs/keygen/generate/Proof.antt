@@ -1,6 +1,6 @@
 use mathlib.Core.Path.{ap, _∙_}
 use borrow.Author.Tests.{not-true, not-false}
-use Rattle.signature.specs.KeyCalls.{outcome}
+use Rattle.signature.specs.Outcome.{outcome}
 use Rattle.signature.proofs.KeyDone.{keygen-none, keygen-some}
 use borrow.Author.Needs.{needs}
 use Rattle.signature.proofs.keygen.generate.Statement.{statement}

@@ -1,7 +1,7 @@
 use mathlib.Core.Path.{sym, _∙_}
 use Rattle.signature.proofs.Asked.{listed}
-use Rattle.signature.proofs.KeyDone.{keygen-on, key-long}
-use Rattle.signature.proofs.KeyEnds.{no-lengths, passed, keygen-no-set, keygen-no-shares, keygen-refused}
+use Rattle.signature.proofs.KeyDone.{key-long}
+use Rattle.signature.proofs.KeyEnds.{passed, keygen-no-set, keygen-no-shares, keygen-refused, keygen-on}
 use Rattle.signature.proofs.KeyRanges.{ranged}
 use Rattle.signature.proofs.Listing.{found-small}
 use borrow.Author.Needs.{needs}
@@ -27,18 +27,18 @@ enum-known-p c = search needs
 
 keygen-no-requires : tie.Need-keygen-no-requires
 keygen-no-requires c κs =
-    let m = c .before in
+    let m = c .before .before .before in
     let a = m .before .before .before .before .before .before .before .args in
     ranged (a .set) (a .shares) (a .edition) (m .p .given .0 .0) (sym (m .before .before .lookup .ensures) ∙ m .p .given .1)
 
 generate-requires : tie.Need-generate-requires
 generate-requires c κs =
     let k = c .before .before .before in
-    let m = c .before .before .before .before .before in
+    let m = c .before .before .before .before .before .before .before in
     let a = m .before .before .before .before .before .before .before .args in
     let p = m .p .given .0 .0 in
     let f = sym (m .before .before .lookup .ensures) ∙ m .p .given .1 in
-    let h = passed p (a .seeds .now) (a .mask-seed .now) (a .key-out .now) (a .work .now) (no-lengths p (a .seeds .now) (a .mask-seed .now) (a .key-out .now) (a .work .now) ∙ sym (k .keygen-no .ensures) ∙ c .before .before .if1 .taken) in
+    let h = passed p (a .seeds .now) (a .mask-seed .now) (a .key-out .now) (a .work .now) (sym (k .keygen-no .ensures) ∙ c .before .before .if1 .taken) in
     ((found-small (a .set) (a .shares) (a .edition) p f, h .work-long, h .seeds-long), h .out-long ∙ key-long p (listed (a .set) (a .shares) (a .edition) p f))
 
 same-length : tie.Need-same-length
@@ -51,13 +51,12 @@ returns : tie.Need-returns
 returns c =
     let g = c .before .before .before .before in
     let k = g .before .before .before .before in
-    let m = k .before .before in
+    let m = k .before .before .before .before in
     let a = m .before .before .before .before .before .before .before .args in
     let p = m .p .given .0 .0 in
-    let n = no-lengths p (a .seeds .now) (a .mask-seed .now) (a .key-out .now) (a .work .now) in
     g .generate .ensures
     ∙ keygen-on (a .edition) (a .set) (a .shares) (a .seeds .now) (a .mask-seed .now) (a .key-out .now) (a .work .now) p
-    (sym (m .before .before .lookup .ensures) ∙ m .p .given .1) (n ∙ sym (k .keygen-no .ensures) ∙ g .before .before .before .if1 .taken)
+    (sym (m .before .before .lookup .ensures) ∙ m .p .given .1) (sym (k .keygen-no .ensures) ∙ g .before .before .before .if1 .taken)
 
 returns-2 : tie.Need-returns-2
 returns-2 c =
@@ -73,15 +72,20 @@ returns-3 c =
     keygen-no-shares (a .edition) (a .set) (a .shares) (a .seeds .now) (a .mask-seed .now) (a .key-out .now) (a .work .now)
     (sym (k .lookup .ensures) ∙ c .enum-told2 .given .1)
 
+same-length-3 : tie.Need-same-length-3
+same-length-3 c = search needs
+
+same-length-4 : tie.Need-same-length-4
+same-length-4 c = search needs
+
 returns-4 : tie.Need-returns-4
 returns-4 c =
     let k = c .before in
-    let m = k .before .before in
+    let m = k .before .before .before .before in
     let a = m .before .before .before .before .before .before .before .args in
     let p = m .p .given .0 .0 in
-    let n = no-lengths p (a .seeds .now) (a .mask-seed .now) (a .key-out .now) (a .work .now) in
     keygen-refused (a .edition) (a .set) (a .shares) (a .seeds .now) (a .mask-seed .now) (a .key-out .now) (a .work .now) p
-    (sym (m .before .before .lookup .ensures) ∙ m .p .given .1) (k .keygen-no .result) (k .keygen-no .ensures ∙ sym n) (c .if1 .left)
+    (sym (m .before .before .lookup .ensures) ∙ m .p .given .1) (k .keygen-no .result) (k .keygen-no .ensures) (c .if1 .left)
 
 pub keygen-spec : {M : Type 1} → statement M
 keygen-spec =
@@ -98,4 +102,6 @@ keygen-spec =
     returns
     returns-2
     returns-3
+    same-length-3
+    same-length-4
     returns-4)

@@ -1,6 +1,6 @@
 use mathlib.Core.Path.{ap, _∙_}
 use Rattle.signature.specs.Attempt.{keyFrom, coinsOf}
-use Rattle.signature.specs.SignCalls.{signing}
+use Rattle.signature.specs.Outcome.{signing}
 use Rattle.signature.proofs.SignEnds.{found-on, found-refused, found-cleared}
 use borrow.Author.Needs.{needs}
 use Rattle.signature.proofs.sign.sign_found.Statement.{statement}

@@ -7,8 +7,8 @@ use borrow.Author.Tests.{not-true, not-false}
 use Rattle.ring.specs.Uniform.{heldOf}
 use Rattle.ring.specs.Words.{Below}
 use Rattle.signature.specs.Attempt.{keyFrom, coinsOf, keyIn}
-use Rattle.signature.specs.Keys.{vkVector}
-use Rattle.signature.specs.SignCalls.{sharesOf, signing}
+use Rattle.signature.specs.Keys.{vkVector, sharesOf}
+use Rattle.signature.specs.Outcome.{signing}
 use Rattle.ring.proofs.Filled.{filled-some}
 use Rattle.signature.proofs.SignChecks.{signable}
 use Rattle.signature.proofs.SignEnds.{public-front, public-in, public-long, public-good, end-unfilled, end-made}

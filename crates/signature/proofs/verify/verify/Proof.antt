@@ -1,5 +1,5 @@
 use mathlib.Core.Path.{sym, _∙_}
-use Rattle.signature.proofs.Verified.{tabled, verify-no-set, verify-no-shares, verify-found}
+use Rattle.signature.proofs.Verified.{tabled, verify-no-set, never-shares, verify-found}
 use borrow.Author.Needs.{needs}
 use Rattle.signature.proofs.verify.verify.Statement.{statement}
 use Rattle.signature.proofs.verify.verify.Tie as tie
@@ -27,7 +27,7 @@ returns : tie.Need-returns
 returns c = let a = c .before .before .before .before .before .before .args in verify-no-set (a .edition) (a .set) (a .public-key .now) (a .message .now) (a .signature .now) (sym (c .before .before .lookup .ensures) ∙ c .enum-told .given .1)
 
 returns-2 : tie.Need-returns-2
-returns-2 c = let a = c .before .before .before .before .before .before .args in verify-no-shares (a .edition) (a .set) (a .public-key .now) (a .message .now) (a .signature .now) (sym (c .before .before .lookup .ensures) ∙ c .enum-told2 .given .1)
+returns-2 c = let a = c .before .before .before .before .before .before .args in absurd (never-shares (a .edition) (a .set) (sym (c .before .before .lookup .ensures) ∙ c .enum-told2 .given .1))
 
 returns-3 : tie.Need-returns-3
 returns-3 c = let a = c .before .before .before .before .before .before .before .before .args in c .verify-with .ensures ∙ verify-found (a .edition) (a .set) (a .public-key .now) (a .message .now) (a .signature .now) (c .before .before .p .given .0 .0) (sym (c .before .before .before .before .lookup .ensures) ∙ c .before .before .p .given .1)

@@ -1,27 +1,24 @@
-use mathlib.Core.Path.{_≡_, refl, sym, ap, subst, _∙_}
+use mathlib.Core.Path.{_≡_, sym, ap, _∙_}
 use mathlib.Core.Bool.{Bool, true, false}
 use mathlib.Core.List.{List}
-use mathlib.Core.Option.{some, none}
-use Prim.Native.Nat.{ℕ, _+_, _-_, _*_, _/_, _^_, _≤_, _<_}
+use mathlib.Core.Option.{some}
+use Prim.Native.Nat.{ℕ, _-_, _*_, _/_, _^_, _≤_, _<_}
 use native.Mathlib.Omega.{arith}
 use lib.IntN.{ℤ, pos}
 use lib.ListN.{length, take, drop, replicate, length-drop}
 use lib.Seq.{length-take-le}
 use borrow.Author.Tests.{not-true, not-false}
 use borrow.Rule.Slice.PartMut.{midOf, putMid, mid-len}
-use Rattle.hash.specs.Lists.{Bytes}
-use Rattle.signature.specs.Answers.{fieldsOf, parsed, boundsOf}
+use Rattle.hash.specs.Lists.{pick}
+use Rattle.signature.specs.Answers.{fieldsOf, parsed}
 use Rattle.signature.specs.Bits.{fields}
 use Rattle.signature.specs.Bounds.{checkBounds}
-use Rattle.signature.specs.Checks.{ask, properForm}
+use Rattle.signature.specs.Checks.{firstNo}
 use Rattle.ring.specs.Words.{q}
-use Rattle.signature.specs.Form.{read}
-use Rattle.signature.specs.Keys.{vkSeed}
-use Rattle.signature.specs.Matrix.{matrix}
-use Rattle.signature.specs.Verify.{verifyMatrix, verifyFields}
+use Rattle.signature.specs.Verify.{hashChecks, fieldChecks, formChecks}
 use Rattle.signature.proofs.Canonical.{parsed-small}
 use Rattle.signature.proofs.Fronts.{front-in, front-is}
-use Rattle.signature.proofs.Proper.{bytes-of, status-14, status-read, sizes-read, read-yes, read-no, bounds-is, bounds-small, small-part, bounded-part, matrix-parts, bounds-parts}
+use Rattle.signature.proofs.Proper.{bytes-of, status-14, status-read, sizes-read, read-yes, read-no, bounds-is, bounds-small, small-part, bounded-part, hash-same, bounds-parts}
 use Rattle.signature.proofs.Strings.{length-fields, fields-bits, bits-drop}
 use borrow.Author.Needs.{needs}
 use Rattle.signature.proofs.verify.verify_fields.Statement.{statement}
@@ -86,8 +83,8 @@ got c =
     let s = sizes-read p (b .vk .now) (b .msg .now) (b .sig .now) (bytes-of (b .sig .now) (λ (j : ℕ). c .before .before .before .before .before .before .before .before .before .shared-slice-known3 .given j .fits)) (a .pre .3) (fits a) (c .before .before .before .read .last .1 .1 .0) (c .before .before .before .read .last .1 .1 .1 .0) e in
     (e, s .0, s .1)
 
-read-status : (c : tie.Else1) → _≡_ {A = ℕ} (ask 14 (properForm (c .before .before .before .before .before .before .before .before .before .before .before .before .args .p) (c .before .before .before .before .before .before .before .before .before .before .before .before .args .sig .now)) (verifyFields (c .before .before .before .before .before .before .before .before .before .before .before .before .args .p) (c .before .before .before .before .before .before .before .before .before .before .before .before .args .vk .now) (c .before .before .before .before .before .before .before .before .before .before .before .before .args .msg .now) (read (c .before .before .before .before .before .before .before .before .before .before .before .before .args .p) (c .before .before .before .before .before .before .before .before .before .before .before .before .args .sig .now))))
-    (verifyFields (c .before .before .before .before .before .before .before .before .before .before .before .before .args .p) (c .before .before .before .before .before .before .before .before .before .before .before .before .args .vk .now) (c .before .before .before .before .before .before .before .before .before .before .before .before .args .msg .now) (some (fieldsOf (take (c .before .before .before .before .before .before .before .before .before .before .before .before .args .p .kappa / 4) (c .before .before .before .before .before .before .before .before .before .before .before .before .args .sig .now)) (c .before .before .before .read .last .1 .1 .0) (c .before .before .before .read .last .1 .1 .1 .0))))
+read-status : (c : tie.Else1) → _≡_ {A = ℕ} (firstNo (formChecks (c .before .before .before .before .before .before .before .before .before .before .before .before .args .p) (c .before .before .before .before .before .before .before .before .before .before .before .before .args .vk .now) (c .before .before .before .before .before .before .before .before .before .before .before .before .args .msg .now) (c .before .before .before .before .before .before .before .before .before .before .before .before .args .sig .now)))
+    (firstNo (fieldChecks (c .before .before .before .before .before .before .before .before .before .before .before .before .args .p) (c .before .before .before .before .before .before .before .before .before .before .before .before .args .vk .now) (c .before .before .before .before .before .before .before .before .before .before .before .before .args .msg .now) (fieldsOf (take (c .before .before .before .before .before .before .before .before .before .before .before .before .args .p .kappa / 4) (c .before .before .before .before .before .before .before .before .before .before .before .before .args .sig .now)) (c .before .before .before .read .last .1 .1 .0) (c .before .before .before .read .last .1 .1 .1 .0))))
 read-status c =
     let a = c .before .before .before .before .before .before .before .before .before .before .before .before in
     let b = a .args in
@@ -145,7 +142,7 @@ returns-2 c = let a = c .before .before .before .before .before .before .before 
     let g = got (c .before .before .before .before .before .before) in
     let e : checkBounds p (fieldsOf (take (p .kappa / 4) (b .sig .now)) (c .before .before .before .before .before .before .before .before .before .read .last .1 .1 .0) (c .before .before .before .before .before .before .before .before .before .read .last .1 .1 .1 .0)) ≡ false =
     sym (bounds-is p (take (p .kappa / 4) (b .sig .now)) (c .before .before .before .before .before .before .before .before .before .read .last .1 .1 .0) (c .before .before .before .before .before .before .before .before .before .read .last .1 .1 .1 .0)) ∙ sym (bounds-parts (p .«hint_limit») (p .binf) (p .b22) (hint-is (c .before .before .before .before .before .before)) (z-is (c .before .before .before .before .before .before))) ∙ sym (c .before .check-bounds .ensures) ∙ not-true _ (c .if2 .taken) in
-    sym (read-status (c .before .before .before .before .before .before) ∙ ap (λ (t : Bool). ask 15 t (verifyMatrix p (b .vk .now) (b .msg .now) (fieldsOf (take (p .kappa / 4) (b .sig .now)) (c .before .before .before .before .before .before .before .before .before .read .last .1 .1 .0) (c .before .before .before .before .before .before .before .before .before .read .last .1 .1 .1 .0)) (matrix p (vkSeed p (b .vk .now))))) e)
+    sym (read-status (c .before .before .before .before .before .before) ∙ ap (λ (t : Bool). pick t (firstNo (hashChecks p (b .vk .now) (b .msg .now) (fieldsOf (take (p .kappa / 4) (b .sig .now)) (c .before .before .before .before .before .before .before .before .before .read .last .1 .1 .0) (c .before .before .before .before .before .before .before .before .before .read .last .1 .1 .1 .0)))) 15) e)
 
 sub-verify-hash : tie.Need-sub-verify-hash
 sub-verify-hash c = search needs
@@ -196,12 +193,11 @@ returns-3 c = let a = c .before .before .before .before .before .before .before 
     let o : p .kappa / 4 - 0 ≡ p .kappa / 4 = omega arith in
     let H = c .before .before .before .before .before .before .before .before .before .before .before .before .before .before .before .read .last .1 .1 .0 in
     let Z = c .before .before .before .before .before .before .before .before .before .before .before .before .before .before .before .read .last .1 .1 .1 .0 in
-    let M = matrix p (vkSeed p (b .vk .now)) in
     let f = fieldsOf (take (p .kappa / 4) (b .sig .now)) H Z in
     let e : checkBounds p f ≡ true =
     sym (bounds-is p (take (p .kappa / 4) (b .sig .now)) H Z) ∙ sym (bounds-parts (p .«hint_limit») (p .binf) (p .b22) (hint-is (c .before .before .before .before .before .before .before .before .before .before .before .before)) (z-is (c .before .before .before .before .before .before .before .before .before .before .before .before))) ∙ sym (c .before .before .before .before .before .before .before .check-bounds .ensures) ∙ not-false _ (c .before .before .before .before .before .before .if2 .left) in
-    c .verify-hash .ensures ∙ matrix-parts p (b .vk .now) (b .msg .now) M (ap (λ (n : ℕ). take n (b .sig .now)) o) (hint-is (c .before .before .before .before .before .before .before .before .before .before .before .before)) (z-is (c .before .before .before .before .before .before .before .before .before .before .before .before))
-    ∙ sym (read-status (c .before .before .before .before .before .before .before .before .before .before .before .before) ∙ ap (λ (t : Bool). ask 15 t (verifyMatrix p (b .vk .now) (b .msg .now) f M)) e)
+    c .verify-hash .ensures ∙ hash-same p (b .vk .now) (b .msg .now) (ap (λ (n : ℕ). take n (b .sig .now)) o) (hint-is (c .before .before .before .before .before .before .before .before .before .before .before .before)) (z-is (c .before .before .before .before .before .before .before .before .before .before .before .before))
+    ∙ sym (read-status (c .before .before .before .before .before .before .before .before .before .before .before .before) ∙ ap (λ (t : Bool). pick t (firstNo (hashChecks p (b .vk .now) (b .msg .now) f)) 15) e)
 
 pub verify-fields-spec : {M : Type 1} → statement M
 verify-fields-spec =

@@ -17,7 +17,8 @@ use Rattle.signature.specs.Checks.{sameBytes}
 use Rattle.signature.specs.Keys.{vkSeed, vkVector}
 use Rattle.signature.specs.Matrix.{matrix}
 use Rattle.signature.specs.Recover.{boundTo}
-use Rattle.signature.specs.Verify.{recomputed, verifyMatrix}
+use Rattle.signature.specs.Outcome.{firstNo}
+use Rattle.signature.specs.Verify.{recomputed, hashChecks}
 use Rattle.signature.proofs.Adjusted.{adjusted-long}
 use Rattle.signature.proofs.Fronts.{front-in, front-is, digest-in, digest-is, bound-in, bound-is}
 use Rattle.signature.proofs.Verdict.{verdict-matrix, verdict-challenge, verdict-hash, hash-parts}
@@ -66,12 +67,12 @@ recompute-requires c κs = let a = c .before .before .before .before .before .be
 
 returns : tie.Need-returns
 returns c = let a = c .before .before .before .before .before .before .before .before .before .before .args in
-    sym (verdict-matrix (a .p) (a .vk .now) (a .msg .now) (fieldsOf (a .hash .now) (a .hint .now) (a .z .now)) (matrix (a .p) (vkSeed (a .p) (a .vk .now))) (sym (c .before .before .recompute .ensures .0) ∙ not-true _ (c .if1 .taken)))
+    sym (verdict-matrix (a .p) (a .vk .now) (a .msg .now) (fieldsOf (a .hash .now) (a .hint .now) (a .z .now)) (sym (c .before .before .recompute .ensures .0) ∙ not-true _ (c .if1 .taken)))
 
 returns-2 : tie.Need-returns-2
 unfolding chalPoly
 returns-2 c = let a = c .before .before .before .before .before .before .before .before .before .before .before .before .args in
-    sym (verdict-challenge (a .p) (a .vk .now) (a .msg .now) (fieldsOf (a .hash .now) (a .hint .now) (a .z .now)) (matrix (a .p) (vkSeed (a .p) (a .vk .now))) (sym (c .before .before .before .before .recompute .ensures .0) ∙ not-false _ (c .before .before .if1 .left))
+    sym (verdict-challenge (a .p) (a .vk .now) (a .msg .now) (fieldsOf (a .hash .now) (a .hint .now) (a .z .now)) (sym (c .before .before .before .before .recompute .ensures .0) ∙ not-false _ (c .before .before .if1 .left))
     (ap (λ r. r .ok) (sym (c .before .before .before .before .before .before .before .chal-poly .ensures)) ∙ not-true _ (c .if2 .taken)))
 
 sub-bind : tie.Need-sub-bind
@@ -131,7 +132,7 @@ part-same-bytes-end c = let a = c .before .before .before .before .before .befor
 same-bytes-requires : tie.Need-same-bytes-requires
 same-bytes-requires c κs = search needs
 
-verdict : (c : tie.After-same-bytes) → verifyMatrix (c .before .before .before .before .before .before .before .before .before .before .before .before .before .before .before .before .before .before .before .before .before .before .before .before .before .args .p) (c .before .before .before .before .before .before .before .before .before .before .before .before .before .before .before .before .before .before .before .before .before .before .before .before .before .args .vk .now) (c .before .before .before .before .before .before .before .before .before .before .before .before .before .before .before .before .before .before .before .before .before .before .before .before .before .args .msg .now) (fieldsOf (c .before .before .before .before .before .before .before .before .before .before .before .before .before .before .before .before .before .before .before .before .before .before .before .before .before .args .hash .now) (c .before .before .before .before .before .before .before .before .before .before .before .before .before .before .before .before .before .before .before .before .before .before .before .before .before .args .hint .now) (c .before .before .before .before .before .before .before .before .before .before .before .before .before .before .before .before .before .before .before .before .before .before .before .before .before .args .z .now)) (matrix (c .before .before .before .before .before .before .before .before .before .before .before .before .before .before .before .before .before .before .before .before .before .before .before .before .before .args .p) (vkSeed (c .before .before .before .before .before .before .before .before .before .before .before .before .before .before .before .before .before .before .before .before .before .before .before .before .before .args .p) (c .before .before .before .before .before .before .before .before .before .before .before .before .before .before .before .before .before .before .before .before .before .before .before .before .before .args .vk .now))) ≡ pick (c .same-bytes .result) 0 16
+verdict : (c : tie.After-same-bytes) → firstNo (hashChecks (c .before .before .before .before .before .before .before .before .before .before .before .before .before .before .before .before .before .before .before .before .before .before .before .before .before .args .p) (c .before .before .before .before .before .before .before .before .before .before .before .before .before .before .before .before .before .before .before .before .before .before .before .before .before .args .vk .now) (c .before .before .before .before .before .before .before .before .before .before .before .before .before .before .before .before .before .before .before .before .before .before .before .before .before .args .msg .now) (fieldsOf (c .before .before .before .before .before .before .before .before .before .before .before .before .before .before .before .before .before .before .before .before .before .before .before .before .before .args .hash .now) (c .before .before .before .before .before .before .before .before .before .before .before .before .before .before .before .before .before .before .before .before .before .before .before .before .before .args .hint .now) (c .before .before .before .before .before .before .before .before .before .before .before .before .before .before .before .before .before .before .before .before .before .before .before .before .before .args .z .now))) ≡ pick (c .same-bytes .result) 0 16
 unfolding recomputed chalPoly
 verdict c =
     let a = c .before .before .before .before .before .before .before .before .before .before .before .before .before .before .before .before .before .before .before .before .before .before .before .before .before in
@@ -147,7 +148,7 @@ verdict c =
     let u = bound-is n (replicate 64 0) (c .before .before .before .before .before .before .before .before .before .before .before .bind .last .1 .1 .0) (b .vk .now) (b .msg .now) (a .pre .0 .0 .hash-low) (c .before .before .before .before .before .before .before .before .before .before .before .bind .ensures) in
     let d = digest-is n (replicate 64 0) (c .before .before .before .before .chal-hash .last .1 .1 .1 .1 .0) _ (a .pre .0 .0 .hash-low) (c .before .before .before .before .chal-hash .ensures) ∙ hash-parts p w u in
     let e : c .before .before .before .before .before .before .before .before .before .before .before .before .before .before .before .before .before .before .before .before .chal-poly .result ≡ chalHeld (chalPoly p (b .hash .now)) = c .before .before .before .before .before .before .before .before .before .before .before .before .before .before .before .before .before .before .before .before .chal-poly .ensures in
-    verdict-hash p (b .vk .now) (b .msg .now) f M A (c .same-bytes .result) (L .0) (ap (λ r. r .ok) (sym e) ∙ not-false _ (c .before .before .before .before .before .before .before .before .before .before .before .before .before .if2 .left))
+    verdict-hash p (b .vk .now) (b .msg .now) f A (c .same-bytes .result) (L .0) (ap (λ r. r .ok) (sym e) ∙ not-false _ (c .before .before .before .before .before .before .before .before .before .before .before .before .before .if2 .left))
     (c .same-bytes .ensures ∙ ap (sameBytes (b .hash .now)) (d ∙ ap (λ r. recomputed p A (vkVector p (b .vk .now)) (boundTo n (b .vk .now) (b .msg .now)) f (r .poly)) e))
 
 returns-3 : tie.Need-returns-3

@@ -4,19 +4,17 @@ use native.Mathlib.Omega.{arith}
 use lib.ListN.{length}
 use borrow.Author.Tests.{not-true, not-false}
 use Rattle.signature.specs.Keys.{vkVector}
-use Rattle.signature.specs.SignSteps.{keyNo}
 use Rattle.signature.proofs.Asked.{sizes}
 use Rattle.ring.proofs.Checks.{no-here, yes-here}
 use Rattle.signature.proofs.Expanded.{words-few}
 use borrow.Author.Needs.{needs}
-use Rattle.signature.proofs.signcheck.expanded_no.Statement.{statement}
-use Rattle.signature.proofs.signcheck.expanded_no.Tie as tie
+use Rattle.signature.proofs.keycheck.expanded_no.Statement.{statement}
+use Rattle.signature.proofs.keycheck.expanded_no.Tie as tie
 
 mul-n-2 : tie.Need-mul-n-2
 mul-n-2 c = omega (arith, words-few (c .before .before .before .before .args .p) (c .before .before .before .before .pre))
 
 returns : tie.Need-returns
-unfolding keyNo
 returns c = no-here 3 _ (sym (c .before .sized .ensures) ∙ not-true _ (c .if1 .taken))
 
 public-key-good-requires : tie.Need-public-key-good-requires
@@ -27,17 +25,17 @@ public-key-good-requires c κs =
     (omega (arith, s .0, a .pre .vk), a .pre .rows-low)
 
 returns-2 : tie.Need-returns-2
-unfolding keyNo vkVector
+unfolding vkVector
 returns-2 c = yes-here 3 (sym (c .before .before .before .before .sized .ensures) ∙ not-false _ (c .before .before .before .if1 .left)) (no-here 4 _ (sym (c .before .public-key-good .ensures) ∙ not-true _ (c .if2 .taken)))
 
 returns-3 : tie.Need-returns-3
-unfolding keyNo vkVector
+unfolding vkVector
 returns-3 c =
     yes-here 3 (sym (c .before .before .before .before .before .before .sized .ensures) ∙ not-false _ (c .before .before .before .before .before .if1 .left))
     (yes-here 4 (sym (c .before .before .before .public-key-good .ensures) ∙ not-false _ (c .before .before .if2 .left)) (no-here 5 _ (sym (c .before .all-below .ensures) ∙ not-true _ (c .if3 .taken))))
 
 returns-4 : tie.Need-returns-4
-unfolding keyNo vkVector
+unfolding vkVector
 returns-4 c =
     yes-here 3 (sym (c .before .before .before .before .before .before .sized .ensures) ∙ not-false _ (c .before .before .before .before .before .if1 .left))
     (yes-here 4 (sym (c .before .before .before .public-key-good .ensures) ∙ not-false _ (c .before .before .if2 .left)) (yes-here 5 (sym (c .before .all-below .ensures) ∙ not-false _ (c .if3 .left)) refl))

@@ -4,23 +4,21 @@ use Prim.Native.Nat.{ℕ}
 use borrow.Author.Tests.{not-true, not-false, eq-eqb, ne-eqb}
 use Rattle.ring.specs.Words.{q, allBelow}
 use Rattle.signature.specs.Keys.{vkVector, fullShare}
-use Rattle.signature.specs.SignSteps.{keyNo}
 use Rattle.ring.proofs.Checks.{no-here, yes-here}
 use Rattle.signature.proofs.Sizes.{part-all}
 use borrow.Author.Needs.{needs}
-use Rattle.signature.proofs.signcheck.packed_no.Statement.{statement}
-use Rattle.signature.proofs.signcheck.packed_no.Tie as tie
+use Rattle.signature.proofs.keycheck.packed_no.Statement.{statement}
+use Rattle.signature.proofs.keycheck.packed_no.Tie as tie
 
 returns : tie.Need-returns
-unfolding keyNo
 returns c = no-here 3 _ (ne-eqb _ _ (c .if1 .taken))
 
 returns-2 : tie.Need-returns-2
-unfolding keyNo vkVector
+unfolding vkVector
 returns-2 c = yes-here 3 (eq-eqb _ _ (c .before .before .before .if1 .left)) (no-here 4 _ (sym (c .before .public-key-good .ensures) ∙ not-true _ (c .if2 .taken)))
 
 returns-3 : tie.Need-returns-3
-unfolding keyNo vkVector
+unfolding vkVector
 returns-3 c =
     let a = c .before .before .before .before .before .before .before .before .before .args in
     yes-here 3 (eq-eqb _ _ (c .before .before .before .before .before .before .if1 .left))
@@ -28,7 +26,7 @@ returns-3 c =
     (no-here 5 _ (sym (c .before .full-share-good .ensures ∙ ap (λ (l : List ℕ). allBelow q (fullShare (a .p) l)) (part-all (a .p .«vk_bytes») (a .key .now))) ∙ not-true _ (c .if3 .taken))))
 
 returns-4 : tie.Need-returns-4
-unfolding keyNo vkVector
+unfolding vkVector
 returns-4 c =
     let a = c .before .before .before .before .before .before .before .before .before .args in
     yes-here 3 (eq-eqb _ _ (c .before .before .before .before .before .before .if1 .left))

@@ -1,6 +1,6 @@
 use borrow.Author.Tests.{eq-eqb, ne-eqb}
-use Rattle.signature.proofs.keys.sized.Statement.{statement}
-use Rattle.signature.proofs.keys.sized.Tie as tie
+use Rattle.signature.proofs.keycheck.sized.Statement.{statement}
+use Rattle.signature.proofs.keycheck.sized.Tie as tie
 
 returns : tie.Need-returns
 returns c = simp (ne-eqb _ _ (c .if1 .taken))

@@ -6,8 +6,8 @@ use Rattle.ring.specs.Words.{allBelow}
 use Rattle.signature.specs.Bits.{repack}
 use Rattle.signature.proofs.Fronts.{unpacked-in, unpacked-is}
 use borrow.Author.Needs.{needs}
-use Rattle.signature.proofs.keys.public_key_good.Statement.{statement}
-use Rattle.signature.proofs.keys.public_key_good.Tie as tie
+use Rattle.signature.proofs.keycheck.public_key_good.Statement.{statement}
+use Rattle.signature.proofs.keycheck.public_key_good.Tie as tie
 
 part-all-below-end : tie.Need-part-all-below-end
 part-all-below-end c =

@@ -1,7 +1,7 @@
 use Rattle.signature.proofs.Expanded.{full-made}
 use borrow.Author.Needs.{needs}
-use Rattle.signature.proofs.keys.full_share.Statement.{statement}
-use Rattle.signature.proofs.keys.full_share.Tie as tie
+use Rattle.signature.proofs.keycheck.full_share.Statement.{statement}
+use Rattle.signature.proofs.keycheck.full_share.Tie as tie
 
 returns : tie.Need-returns
 returns c =

@@ -7,8 +7,8 @@ use Rattle.ring.specs.Words.{q, allBelow}
 use Rattle.signature.proofs.Fronts.{front-in, front-is}
 use Rattle.signature.proofs.Expanded.{full-length}
 use borrow.Author.Needs.{needs}
-use Rattle.signature.proofs.keys.full_share_good.Statement.{statement}
-use Rattle.signature.proofs.keys.full_share_good.Tie as tie
+use Rattle.signature.proofs.keycheck.full_share_good.Statement.{statement}
+use Rattle.signature.proofs.keycheck.full_share_good.Tie as tie
 
 part-all-below-end : tie.Need-part-all-below-end
 part-all-below-end c =
