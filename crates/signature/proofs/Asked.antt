@@ -21,27 +21,12 @@ use Rattle.signature.specs.Matrix.{filled}
 use Rattle.signature.specs.Keys.{packed, expanded, fullShare, expandOf, expandedOf, refreshOf, refreshedOf}
 use Rattle.signature.specs.Checks.{firstNo, both, signingKeySized, expandedKeySized, publicKeyGood, fullShareGood, shareWordsGood, maskSeedSized, keyChecks}
 use Rattle.signature.specs.ExpandedKey.{ExpandedKey}
-use Rattle.signature.specs.Expanding.{Listed}
 use Rattle.signature.specs.KeyCalls.{keyLeaves, expandCall, refreshCall}
 use Rattle.signature.specs.Outcome.{Outcome, outcome}
+use Rattle.signature.specs.Table.{Tabled}
 
 pub sizes : (x v y n : ℕ) → both (eqb x v) (eqb y n) ≡ true → (x ≡ v) × (y ≡ n)
 sizes x v y n e = let b = both-true (eqb x v) (eqb y n) e in (eqb-true x v (b .0), eqb-true y n (b .1))
-
-pub listed : (set d : ℕ) (e : Edition) (p : Params) → lookupOf set d e ≡ Selected.Found p → Listed p
-listed set d e p h =
-    let r = found set d e p h in
-    let c = count-low d (r .count) in
-    record {
-      vk = r .rule .vk;
-      sk = r .rule .sk;
-      rows-low = r .rule .rows-low;
-      columns-low = r .rule .columns-low;
-      shares-pos = omega (arith, r .shares-are, c .0);
-      shares-low = omega (arith, r .shares-are, c .1);
-      count = subst ShareCount (sym (r .shares-are)) (r .count);
-      seed-low = omega (arith, r .rule .kappa-low);
-    }
 
 -- ---- refreshing
 

@@ -26,8 +26,8 @@ use Rattle.signature.specs.Masked.{Noise}
 use Rattle.signature.specs.Matrix.{filled}
 use Rattle.signature.specs.Recover.{muOf}
 use Rattle.signature.specs.Outcome.{Outcome, answer}
-use Rattle.signature.specs.Sign.{Public, Attempted, made, over, stuck, Coins, signedFields, finished, attempted, signFrom}
-use Rattle.signature.specs.SignSteps.{signMade, publicBy, Spent, EndedAs, EndedAt, kept}
+use Rattle.signature.specs.Sign.{publicBy, Public, Attempted, made, over, stuck, Coins, signedFields, finished, attempted, signFrom}
+use Rattle.signature.specs.SignSteps.{signMade, Spent, EndedAs, EndedAt, answerIn}
 use Rattle.signature.specs.declared.challenge.Challenged.{Challenged}
 use Rattle.signature.specs.declared.sign.AttemptEnd.{AttemptEnd}
 use Rattle.signature.proofs.Attempts.{left-stuck, left-idle, left-key, left-on, sign-pass, sign-stuck, sign-next, sign-none}
@@ -91,8 +91,8 @@ module _ (p : Params) (P : Public) (N : Noise) (g : MaskGen) (s hash ys : List �
 
 module _ (p : Params) (P : Public) (T : Coins) (n a : ℕ) (s₀ s out : List ℕ) (i : signFrom p P T n 0 s₀ ≡ signFrom p P T (n - a) a s) where
   -- check 12
-  pub all-over : (xs : List ℕ) → xs ≡ out → n - a ≡ 0 → answer 12 a xs ≡ kept (signFrom p P T n 0 s₀) out
-  all-over xs o z = ap (answer 12 a) o ∙ ap (λ (X : Outcome). kept X out) (sym (i ∙ sign-none p P T (n - a) a s z))
+  pub all-over : (xs : List ℕ) → xs ≡ out → n - a ≡ 0 → answer 12 a xs ≡ answerIn (signFrom p P T n 0 s₀) out
+  all-over xs o z = ap (answer 12 a) o ∙ ap (λ (X : Outcome). answerIn X out) (sym (i ∙ sign-none p P T (n - a) a s z))
 
   -- attempt number a + 1 told r, and left ys and work
   module _ (l : a < n) (r : AttemptEnd) (xs ys work : List ℕ) (o : xs ≡ out) (w : EndedAt p P T a s r xs ys work) where
@@ -102,15 +102,15 @@ module _ (p : Params) (P : Public) (T : Coins) (n a : ℕ) (s₀ s out : List �
     more : n - a ≡ suc (n - (a + 1))
     more = omega (arith, l)
 
-    pub all-pass : r ≡ AttemptEnd.Made → answer 0 (a + 1) ys ≡ kept (signFrom p P T n 0 s₀) out
-    all-pass t = ap (λ (X : Outcome). kept X out) (sym (i ∙ sign-pass p P T (n - a) (n - (a + 1)) a s more ys (ended t .told)))
+    pub all-pass : r ≡ AttemptEnd.Made → answer 0 (a + 1) ys ≡ answerIn (signFrom p P T n 0 s₀) out
+    all-pass t = ap (λ (X : Outcome). answerIn X out) (sym (i ∙ sign-pass p P T (n - a) (n - (a + 1)) a s more ys (ended t .told)))
 
     -- check 11
-    pub all-stuck : r ≡ AttemptEnd.Stuck → answer 11 (a + 1) ys ≡ kept (signFrom p P T n 0 s₀) out
+    pub all-stuck : r ≡ AttemptEnd.Stuck → answer 11 (a + 1) ys ≡ answerIn (signFrom p P T n 0 s₀) out
     all-stuck t =
         let v = ended t .told in
         ap (answer 11 (a + 1)) (v .1 ∙ o)
-        ∙ ap (λ (X : Outcome). kept X out) (sym (i ∙ sign-stuck p P T (n - a) (n - (a + 1)) a s more (v .0)))
+        ∙ ap (λ (X : Outcome). answerIn X out) (sym (i ∙ sign-stuck p P T (n - a) (n - (a + 1)) a s more (v .0)))
 
     pub all-next : r ≡ AttemptEnd.Over → (ys ≡ out) × (signFrom p P T n 0 s₀ ≡ signFrom p P T (n - (a + 1)) (a + 1) (keyIn p work))
     all-next t =
@@ -124,13 +124,13 @@ told-as {x} {y} {a} {b} ys e f h = ap (λ (n : ℕ). answer n a ys) e ∙ ap (λ
 -- ---- check 10 of the matrix m, and the attempts with it
 
 module _ (p : Params) (vk msg : List ℕ) (T : Coins) (n : ℕ) (s out : List ℕ) (m : Option (List ℕ)) where
-  pub matrix-none : filled m ≡ false → answer 10 0 out ≡ kept (signMade p vk msg T n m (some s)) out
-  matrix-none e = ap (λ (o : Option (List ℕ)). kept (signMade p vk msg T n o (some s)) out) (sym (not-filled m e))
+  pub matrix-none : filled m ≡ false → answer 10 0 out ≡ answerIn (signMade p vk msg T n m (some s)) out
+  matrix-none e = ap (λ (o : Option (List ℕ)). answerIn (signMade p vk msg T n o (some s)) out) (sym (not-filled m e))
 
   pub matrix-made : (B mu : List ℕ) (X : Outcome) → filled m ≡ true → ((A : List ℕ) → m ≡ some A → B ≡ A) → mu ≡ muOf p vk msg
-      → X ≡ kept (signFrom p (publicBy p vk mu B) T n 0 s) out → X ≡ kept (signMade p vk msg T n m (some s)) out
+      → X ≡ answerIn (signFrom p (publicBy p vk mu B) T n 0 s) out → X ≡ answerIn (signMade p vk msg T n m (some s)) out
   matrix-made B mu X f is e h =
       let t = filled-some m f in
-      h ∙ ap (λ (A : List ℕ). kept (signFrom p (publicBy p vk mu A) T n 0 s) out) (is (heldOf m .poly) t)
-      ∙ ap (λ (y : List ℕ). kept (signFrom p (publicBy p vk y (heldOf m .poly)) T n 0 s) out) e
-      ∙ ap (λ (o : Option (List ℕ)). kept (signMade p vk msg T n o (some s)) out) (sym t)
+      h ∙ ap (λ (A : List ℕ). answerIn (signFrom p (publicBy p vk mu A) T n 0 s) out) (is (heldOf m .poly) t)
+      ∙ ap (λ (y : List ℕ). answerIn (signFrom p (publicBy p vk y (heldOf m .poly)) T n 0 s) out) e
+      ∙ ap (λ (o : Option (List ℕ)). answerIn (signMade p vk msg T n o (some s)) out) (sym t)

@@ -16,7 +16,7 @@ use lib.Seq.{take-at, drop-at, length-take-le}
 use borrow.Author.Tests.{le-leb, lt-leb, leb-true}
 use Rattle.hash.specs.Lists.{pick, Bytes}
 use Rattle.hash.specs.declared.params.Params.{Params}
-use Rattle.signature.specs.Bits.{bitsOf, valOf, fields, chop}
+use Rattle.signature.specs.Bits.{bitsOf, valOf, bitString, chop}
 use Rattle.signature.specs.Code.{negOf, signs, codeOf, code, codes, codesBits, readCodes}
 use Rattle.signature.specs.Form.{Fields, hashBytes, formBits, bitCount, write, read}
 use Rattle.signature.specs.Answers.{fieldsOf, allZero, parsed}
@@ -28,7 +28,7 @@ use Rattle.signature.proofs.Whole.{trips, canons}
 use Rattle.signature.proofs.Filled.{zeros-are, are-zeros, bits-length}
 use Rattle.signature.proofs.Parsed.{parsed-both, parsed-some}
 
--- ---- the bits of the fields are 0 and 1
+-- ---- the bits of the bitString are 0 and 1
 
 bits-replicate : (n b : ℕ) → b < 2 → Bits (replicate n b)
 bits-replicate zero b h i = lit< tt
@@ -56,7 +56,7 @@ codes-are w (z ∷ zs) i = bits-join (code w z) (codes w zs) (code-are w z) (cod
 form-are : (f : Fields) → Bits (formBits f)
 unfolding formBits
 form-are f =
-    bits-join (fields 8 (f .hash)) (codes 0 (f .hint) ++ codes 40 (f .response)) (fields-bits 8 (f .hash))
+    bits-join (bitString 8 (f .hash)) (codes 0 (f .hint) ++ codes 40 (f .response)) (fields-bits 8 (f .hash))
     (bits-join (codes 0 (f .hint)) (codes 40 (f .response)) (codes-are 0 (f .hint)) (codes-are 40 (f .response)))
 
 -- ---- numbers at the front of a bit string
@@ -67,20 +67,20 @@ take-chop w zero n l h = refl
 take-chop w (suc k) zero l h = let x : ⊥ = omega arith in absurd x
 take-chop w (suc k) (suc n) l h = ap (λ (m : List ℕ). valOf (take w l) ∷ m) (take-chop w k n (drop w l) (le-of-suc-le-suc h))
 
-chop-front : (w : ℕ) (xs r : List ℕ) → ((i : ℕ) → getD xs i 0 < 2 ^ w) → chop w (length xs) (fields w xs ++ r) ≡ xs
-unfolding chop fields
+chop-front : (w : ℕ) (xs r : List ℕ) → ((i : ℕ) → getD xs i 0 < 2 ^ w) → chop w (length xs) (bitString w xs ++ r) ≡ xs
+unfolding chop bitString
 chop-front w [] r h = refl
 chop-front w (x ∷ xs) r h =
-    let e = append-assoc (bitsOf w x) (fields w xs) r in
+    let e = append-assoc (bitsOf w x) (bitString w xs) r in
     ap (λ (l : List ℕ). valOf (take w l) ∷ chop w (length xs) (drop w l)) e
-    ∙ ap (λ (n : ℕ). n ∷ chop w (length xs) (drop w (bitsOf w x ++ (fields w xs ++ r))))
-    (ap valOf (take-at (bitsOf w x) (fields w xs ++ r) w (length-bits w x)) ∙ val-bits w x ∙ mod-eq-of-lt (h 0))
-    ∙ ap (λ (l : List ℕ). x ∷ chop w (length xs) l) (drop-at (bitsOf w x) (fields w xs ++ r) w (length-bits w x))
+    ∙ ap (λ (n : ℕ). n ∷ chop w (length xs) (drop w (bitsOf w x ++ (bitString w xs ++ r))))
+    (ap valOf (take-at (bitsOf w x) (bitString w xs ++ r) w (length-bits w x)) ∙ val-bits w x ∙ mod-eq-of-lt (h 0))
+    ∙ ap (λ (l : List ℕ). x ∷ chop w (length xs) l) (drop-at (bitsOf w x) (bitString w xs ++ r) w (length-bits w x))
     ∙ ap (λ (l : List ℕ). x ∷ l) (chop-front w xs r (λ i. h (suc i)))
 
 -- ---- the writer
 
--- the fields and n bytes: the bits with their fill
+-- the bitString and n bytes: the bits with their fill
 abbrev withFill : Fields → ℕ → List ℕ
 withFill f n = formBits f ++ replicate (8 * n - bitCount f) 0
 
@@ -118,20 +118,20 @@ module _ (p : Params) (f : Fields) (b : List ℕ) where
   write-bytes e = rw ((write-some e) .1) (lt-bytes (chop 8 (p .«sig_bytes») (withFill f (p .«sig_bytes»))) (chop-lt 8 (p .«sig_bytes») (withFill f (p .«sig_bytes»)) withFill-are))
 
   -- the bits of what is written
-  pub write-bits : write p f ≡ some b → fields 8 b ≡ withFill f (p .«sig_bytes»)
+  pub write-bits : write p f ≡ some b → bitString 8 b ≡ withFill f (p .«sig_bytes»)
   write-bits e =
       let n = p .«sig_bytes» in
       let z : ℕ = 0 in
       let l : length (withFill f n) ≡ n * 8 =
       length-append (formBits f) (replicate (8 * n - bitCount f) z)
       ∙ omega (arith, bits-length (f .hash) (f .hint) (f .response), length-replicate (8 * n - bitCount f) z, (write-some e) .0) in
-      ap (fields 8) ((write-some e) .1) ∙ fields-chop 8 n (withFill f n) withFill-are l
+      ap (bitString 8) ((write-some e) .1) ∙ fields-chop 8 n (withFill f n) withFill-are l
 
 -- ---- the reader, by what the two lists give
 
 module _ (p : Params) (b : List ℕ) where
   abbrev behind : List ℕ
-  behind = drop (8 * hashBytes p) (fields 8 b)
+  behind = drop (8 * hashBytes p) (bitString 8 b)
 
   read-no-hint : readCodes 0 (p .k * 512) behind ≡ none → read p b ≡ none
   unfolding read
@@ -148,7 +148,7 @@ module _ (p : Params) (b : List ℕ) where
 
 -- ---- what is written is read back
 
--- fields of the sizes of a set
+-- bitString of the sizes of a set
 pub record Sized (p : Params) (f : Fields) : Type 0 where
   pub hash-long : length (f .hash) ≡ hashBytes p
   pub hash-bytes : Bytes (f .hash)
@@ -160,19 +160,19 @@ unfolding formBits bitCount
 write-read p f b s e =
     let n = p .«sig_bytes» in
     let H = hashBytes p in
-    let F = fields 8 (f .hash) in
+    let F = bitString 8 (f .hash) in
     let C = codes 0 (f .hint) in
     let D = codes 40 (f .response) in
     let Z : List ℕ = replicate (8 * n - bitCount f) 0 in
     let r : withFill f n ≡ F ++ (C ++ (D ++ Z)) = append-assoc F (C ++ D) Z ∙ ap (λ (l : List ℕ). F ++ l) (append-assoc C D Z) in
     let o = write-some p f b e in
     let lf : length F ≡ 8 * H = length-fields 8 (f .hash) ∙ omega (arith, s .hash-long) in
-    let t : drop (8 * H) (fields 8 b) ≡ C ++ (D ++ Z) =
+    let t : drop (8 * H) (bitString 8 b) ≡ C ++ (D ++ Z) =
     ap (drop (8 * H)) (write-bits p f b e ∙ r) ∙ drop-at F (C ++ (D ++ Z)) (8 * H) lf in
-    let a : readCodes 0 (p .k * 512) (drop (8 * H) (fields 8 b)) ≡ some (f .hint, length C) =
+    let a : readCodes 0 (p .k * 512) (drop (8 * H) (bitString 8 b)) ≡ some (f .hint, length C) =
     ap (readCodes 0 (p .k * 512)) t ∙ ap (λ (m : ℕ). readCodes 0 m (C ++ (D ++ Z))) (sym (s .hint-long)) ∙ trips 0 (f .hint) (D ++ Z) in
-    let u : drop (length C) (drop (8 * H) (fields 8 b)) ≡ D ++ Z = ap (drop (length C)) t ∙ drop-at C (D ++ Z) (length C) refl in
-    let d : readCodes 40 (p .l * 512) (drop (length C) (drop (8 * H) (fields 8 b))) ≡ some (f .response, length D) =
+    let u : drop (length C) (drop (8 * H) (bitString 8 b)) ≡ D ++ Z = ap (drop (length C)) t ∙ drop-at C (D ++ Z) (length C) refl in
+    let d : readCodes 40 (p .l * 512) (drop (length C) (drop (8 * H) (bitString 8 b))) ≡ some (f .response, length D) =
     ap (readCodes 40 (p .l * 512)) u ∙ ap (λ (m : ℕ). readCodes 40 m (D ++ Z)) (sym (s .response-long)) ∙ trips 40 (f .response) Z in
     let c : take H b ≡ f .hash =
     ap (take H) (o .1) ∙ take-chop 8 H n (withFill f n) (omega (arith, o .0, s .hash-long)) ∙ ap (λ (m : ℕ). chop 8 m (withFill f n)) (sym (s .hash-long))
@@ -186,14 +186,14 @@ pub record Found (p : Params) (b : List ℕ) (f : Fields) : Type 0 where
   pub i : ℕ
   pub j : ℕ
   pub hash-is : take (hashBytes p) b ≡ f .hash
-  pub hint-is : readCodes 0 (p .k * 512) (drop (8 * hashBytes p) (fields 8 b)) ≡ some (f .hint, i)
-  pub response-is : readCodes 40 (p .l * 512) (drop i (drop (8 * hashBytes p) (fields 8 b))) ≡ some (f .response, j)
+  pub hint-is : readCodes 0 (p .k * 512) (drop (8 * hashBytes p) (bitString 8 b)) ≡ some (f .hint, i)
+  pub response-is : readCodes 40 (p .l * 512) (drop i (drop (8 * hashBytes p) (bitString 8 b))) ≡ some (f .response, j)
 
 pub read-found : (p : Params) (b : List ℕ) (f : Fields) → read p b ≡ some f → Found p b f
-read-found p b f e = go (readCodes 0 (p .k * 512) (drop (8 * hashBytes p) (fields 8 b))) refl
+read-found p b f e = go (readCodes 0 (p .k * 512) (drop (8 * hashBytes p) (bitString 8 b))) refl
   where
-    go₂ : (h : List ℤ × ℕ) → readCodes 0 (p .k * 512) (drop (8 * hashBytes p) (fields 8 b)) ≡ some h → (o : Option (List ℤ × ℕ))
-        → readCodes 40 (p .l * 512) (drop (h .1) (drop (8 * hashBytes p) (fields 8 b))) ≡ o → Found p b f
+    go₂ : (h : List ℤ × ℕ) → readCodes 0 (p .k * 512) (drop (8 * hashBytes p) (bitString 8 b)) ≡ some h → (o : Option (List ℤ × ℕ))
+        → readCodes 40 (p .l * 512) (drop (h .1) (drop (8 * hashBytes p) (bitString 8 b))) ≡ o → Found p b f
     go₂ h g none k = let n = read-no-response p b (h .0) (h .1) g k in let x : _≡_ {A = ℕ} 0 1 = cc in absurd (omega arith)
     go₂ h g (some z) k =
         let r = read-fields p b (h .0) (h .1) g (z .0) (z .1) k in
@@ -206,38 +206,38 @@ read-found p b f e = go (readCodes 0 (p .k * 512) (drop (8 * hashBytes p) (field
           response-is = k ∙ ap (λ (x : Fields). some (x .response, z .1)) q;
         }
 
-    go : (o : Option (List ℤ × ℕ)) → readCodes 0 (p .k * 512) (drop (8 * hashBytes p) (fields 8 b)) ≡ o → Found p b f
+    go : (o : Option (List ℤ × ℕ)) → readCodes 0 (p .k * 512) (drop (8 * hashBytes p) (bitString 8 b)) ≡ o → Found p b f
     go none g = let n = read-no-hint p b g in let x : _≡_ {A = ℕ} 0 1 = cc in absurd (omega arith)
-    go (some h) g = go₂ h g (readCodes 40 (p .l * 512) (drop (h .1) (drop (8 * hashBytes p) (fields 8 b)))) refl
+    go (some h) g = go₂ h g (readCodes 40 (p .l * 512) (drop (h .1) (drop (8 * hashBytes p) (bitString 8 b)))) refl
 
 module _ (p : Params) (b : List ℕ) (f : Fields) (size : hashBytes p ≤ length b) (r : Found p b f) where
   abbrev fill : List ℕ
-  fill = drop (r .j) (drop (r .i) (drop (8 * hashBytes p) (fields 8 b)))
+  fill = drop (r .j) (drop (r .i) (drop (8 * hashBytes p) (bitString 8 b)))
 
-  -- the bits of b are those of the fields, and the fill
-  laid : fields 8 b ≡ formBits f ++ fill
+  -- the bits of b are those of the bitString, and the fill
+  laid : bitString 8 b ≡ formBits f ++ fill
   unfolding formBits
   laid =
       let H = hashBytes p in
-      let F = fields 8 b in
+      let F = bitString 8 b in
       let t = drop (8 * H) F in
       let u = drop (r .i) t in
       let all = fields-bits 8 b in
-      let lf : length (fields 8 (take H b)) ≡ 8 * H = length-fields 8 (take H b) ∙ omega (arith, length-take-le H b size) in
-      let s : F ≡ fields 8 (take H b) ++ fields 8 (drop H b) = ap (fields 8) (sym (take-append-drop H b)) ∙ fields-append 8 (take H b) (drop H b) in
-      let a : take (8 * H) F ≡ fields 8 (f .hash) =
-      ap (take (8 * H)) s ∙ take-at (fields 8 (take H b)) (fields 8 (drop H b)) (8 * H) lf ∙ ap (fields 8) (r .hash-is) in
+      let lf : length (bitString 8 (take H b)) ≡ 8 * H = length-fields 8 (take H b) ∙ omega (arith, length-take-le H b size) in
+      let s : F ≡ bitString 8 (take H b) ++ bitString 8 (drop H b) = ap (bitString 8) (sym (take-append-drop H b)) ∙ fields-append 8 (take H b) (drop H b) in
+      let a : take (8 * H) F ≡ bitString 8 (f .hash) =
+      ap (take (8 * H)) s ∙ take-at (bitString 8 (take H b)) (bitString 8 (drop H b)) (8 * H) lf ∙ ap (bitString 8) (r .hash-is) in
       let c = (canons 0 (p .k * 512) t (f .hint) (r .i) (bits-drop (8 * H) F all) (r .hint-is)) .0 in
       let d = (canons 40 (p .l * 512) u (f .response) (r .j) (bits-drop (r .i) t (bits-drop (8 * H) F all)) (r .response-is)) .0 in
       let C = codes 0 (f .hint) in
       let D = codes 40 (f .response) in
-      sym (append-assoc (fields 8 (f .hash)) (C ++ D) fill
-      ∙ ap (λ (l : List ℕ). fields 8 (f .hash) ++ l) (append-assoc C D fill
+      sym (append-assoc (bitString 8 (f .hash)) (C ++ D) fill
+      ∙ ap (λ (l : List ℕ). bitString 8 (f .hash) ++ l) (append-assoc C D fill
       ∙ ap (λ (l : List ℕ). C ++ l) (ap (λ (l : List ℕ). l ++ fill) (sym d) ∙ take-append-drop (r .j) u)
       ∙ ap (λ (l : List ℕ). l ++ u) (sym c) ∙ take-append-drop (r .i) t)
       ∙ ap (λ (l : List ℕ). l ++ t) (sym a) ∙ take-append-drop (8 * H) F)
 
-  pub fill-is : drop (bitCount f) (fields 8 b) ≡ fill
+  pub fill-is : drop (bitCount f) (bitString 8 b) ≡ fill
   fill-is = ap (drop (bitCount f)) laid ∙ drop-at (formBits f) fill (bitCount f) (bits-length (f .hash) (f .hint) (f .response))
 
   counted : bitCount f + length fill ≡ 8 * length b
@@ -245,9 +245,9 @@ module _ (p : Params) (b : List ℕ) (f : Fields) (size : hashBytes p ≤ length
       let l = length-fields 8 b in
       omega (arith, ap length laid, length-append (formBits f) fill, bits-length (f .hash) (f .hint) (f .response))
 
-  -- check 14: b is the very string that the writer makes of the fields read, exactly if every bit behind them is 0
+  -- check 14: b is the very string that the writer makes of the bitString read, exactly if every bit behind them is 0
   module _ (long : length b ≡ p .«sig_bytes») where
-    pub zero-canonical : Bytes b → allZero (drop (bitCount f) (fields 8 b)) ≡ true → write p f ≡ some b
+    pub zero-canonical : Bytes b → allZero (drop (bitCount f) (bitString 8 b)) ≡ true → write p f ≡ some b
     zero-canonical byte z =
         let n = p .«sig_bytes» in
         let l : length fill ≡ 8 * n - bitCount f = omega (arith, counted) in
@@ -255,16 +255,16 @@ module _ (p : Params) (b : List ℕ) (f : Fields) (size : hashBytes p ≤ length
         are-zeros fill (ap allZero (sym fill-is) ∙ z) ∙ ap (λ (k : ℕ). replicate k 0) l in
         write-fits p f (omega (arith, counted))
         ∙ ap (λ (x : List ℕ). some (chop 8 n x)) (sym (laid ∙ ap (λ (x : List ℕ). formBits f ++ x) e))
-        ∙ ap (λ (k : ℕ). some (chop 8 k (fields 8 b))) (sym long) ∙ ap some (chop-fields 8 b (bytes-lt b byte))
+        ∙ ap (λ (k : ℕ). some (chop 8 k (bitString 8 b))) (sym long) ∙ ap some (chop-fields 8 b (bytes-lt b byte))
 
-    pub canonical-zero : write p f ≡ some b → allZero (drop (bitCount f) (fields 8 b)) ≡ true
+    pub canonical-zero : write p f ≡ some b → allZero (drop (bitCount f) (bitString 8 b)) ≡ true
     canonical-zero e =
         ap (λ (x : List ℕ). allZero (drop (bitCount f) x)) (write-bits p f b e)
         ∙ ap allZero (drop-at (formBits f) (replicate (8 * p .«sig_bytes» - bitCount f) 0) (bitCount f) (bits-length (f .hash) (f .hint) (f .response)))
         ∙ zeros-are (8 * p .«sig_bytes» - bitCount f)
 
 pub read-canonical : (p : Params) (b : List ℕ) (f : Fields) → Bytes b → length b ≡ p .«sig_bytes» → hashBytes p ≤ length b → read p b ≡ some f
-    → (allZero (drop (bitCount f) (fields 8 b)) ≡ true → write p f ≡ some b) × (write p f ≡ some b → allZero (drop (bitCount f) (fields 8 b)) ≡ true)
+    → (allZero (drop (bitCount f) (bitString 8 b)) ≡ true → write p f ≡ some b) × (write p f ≡ some b → allZero (drop (bitCount f) (bitString 8 b)) ≡ true)
 read-canonical p b f byte long size e = let r = read-found p b f e in (zero-canonical p b f size r long byte, canonical-zero p b f size r long)
 
 -- what is read has the set's sizes
@@ -276,8 +276,8 @@ bytes-take (suc n) (x ∷ xs) b = (b .0, bytes-take n xs (b .1))
 pub read-sized : (p : Params) (b : List ℕ) (f : Fields) → Bytes b → hashBytes p ≤ length b → read p b ≡ some f → Sized p f
 read-sized p b f byte size e =
     let r = read-found p b f e in
-    let t = drop (8 * hashBytes p) (fields 8 b) in
-    let all = bits-drop (8 * hashBytes p) (fields 8 b) (fields-bits 8 b) in
+    let t = drop (8 * hashBytes p) (bitString 8 b) in
+    let all = bits-drop (8 * hashBytes p) (bitString 8 b) (fields-bits 8 b) in
     record {
       hash-long = ap length (sym (r .hash-is)) ∙ length-take-le (hashBytes p) b size;
       hash-bytes = subst Bytes (r .hash-is) (bytes-take (hashBytes p) b byte);
@@ -288,22 +288,22 @@ read-sized p b f byte size e =
 -- ---- the code's test
 
 module _ (p : Params) (b : List ℕ) (byte : Bytes b) (long : length b ≡ p .«sig_bytes») (size : hashBytes p ≤ length b) where
-  -- the code accepts: the fields are those that the definition reads, and b is what is written of them
-  pub read-accepted : (h z : List ℤ) → parsed (p .k * 512) (p .l * 512) (drop (8 * hashBytes p) (fields 8 b)) ≡ some (h, z)
+  -- the code accepts: the bitString are those that the definition reads, and b is what is written of them
+  pub read-accepted : (h z : List ℤ) → parsed (p .k * 512) (p .l * 512) (drop (8 * hashBytes p) (bitString 8 b)) ≡ some (h, z)
       → (read p b ≡ some (fieldsOf (take (hashBytes p) b) h z)) × (write p (fieldsOf (take (hashBytes p) b) h z) ≡ some b)
   read-accepted h z e =
       let f = fieldsOf (take (hashBytes p) b) h z in
-      let q = parsed-some (p .k * 512) (p .l * 512) (drop (8 * hashBytes p) (fields 8 b)) h z e in
+      let q = parsed-some (p .k * 512) (p .l * 512) (drop (8 * hashBytes p) (bitString 8 b)) h z e in
       let s = read-fields p b h (q .i) (q .hint-is) z (q .j) (q .response-is) in
       let r : Found p b f = record { i = q .i; j = q .j; hash-is = refl; hint-is = q .hint-is; response-is = q .response-is } in
       (s, zero-canonical p b f size r long byte (ap allZero (fill-is p b f size r) ∙ q .fill-zero))
 
-  -- and it refuses where there are no such fields
-  pub read-refused : (f : Fields) → parsed (p .k * 512) (p .l * 512) (drop (8 * hashBytes p) (fields 8 b)) ≡ none → read p b ≡ some f → write p f ≡ some b → ⊥
+  -- and it refuses where there are no such bitString
+  pub read-refused : (f : Fields) → parsed (p .k * 512) (p .l * 512) (drop (8 * hashBytes p) (bitString 8 b)) ≡ none → read p b ≡ some f → write p f ≡ some b → ⊥
   read-refused f e g k =
       let r = read-found p b f g in
       let z = ap allZero (sym (fill-is p b f size r)) ∙ canonical-zero p b f size r long k in
-      let y = parsed-both (p .k * 512) (p .l * 512) (drop (8 * hashBytes p) (fields 8 b)) (f .hint) (r .i) (r .hint-is) (f .response) (r .j) (r .response-is) z in
+      let y = parsed-both (p .k * 512) (p .l * 512) (drop (8 * hashBytes p) (bitString 8 b)) (f .hint) (r .i) (r .hint-is) (f .response) (r .j) (r .response-is) z in
       let x : _≡_ {A = ℕ} 0 1 = cc in omega arith
 
 -- ---- numbers that were read are small

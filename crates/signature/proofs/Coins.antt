@@ -23,10 +23,10 @@ use Rattle.sharing.proofs.NoisePlaces.{noise-bytes}
 use Rattle.sharing.proofs.Regions.{length-span}
 use Rattle.signature.specs.Attempt.{coinsOf, Within, Committed}
 use Rattle.signature.specs.Checks.{both}
-use Rattle.signature.specs.Keygen.{Small}
 use Rattle.signature.specs.Masked.{Noise, seeded, explicit}
 use Rattle.signature.specs.Sign.{Coins, noiseAt, maskAt}
 use Rattle.signature.specs.SignCalls.{coinsGood}
+use Rattle.signature.specs.Table.{Tabled}
 use Rattle.signature.proofs.Sizes.{coins-low}
 
 -- a part of n words from a n on
@@ -37,7 +37,7 @@ part-long n a xs h = let e : a * n + n - a * n ≡ n = omega arith in rw e (leng
 pub fits-mid : (x : ℕ) → x ≤ 4294967296 → Fits w64 x
 fits-mid x h = record { fits = omega arith }
 
-module _ (p : Params) (h : Small p) (a : ℕ) (few : a ≤ 16) where
+module _ (p : Params) (h : Tabled p) (a : ℕ) (few : a ≤ 16) where
   pub words-size : ((p .l + p .k) * p .shares * 512 ≤ 524288) × (a * ((p .l + p .k) * p .shares * 512) ≤ 8388608)
   words-size =
       let x : (p .l + p .k) * p .shares * 512 ≤ 524288 = let y = coins-low p h .0 in omega arith in

@@ -26,16 +26,17 @@ use Rattle.signature.proofs.Entries.{All, all-some}
 use Rattle.signature.proofs.Packing.{length-repack}
 use Rattle.signature.proofs.Sizes.{part-all}
 use Rattle.signature.specs.Keys.{seedBytes, fullShare, seededShare, shareAt, decompressed, expandOf, expandedOf}
-use Rattle.signature.specs.Expanding.{Listed, partBytes, expandedAt, expandedShares}
+use Rattle.signature.specs.Expanding.{partBytes, expandedAt, expandedShares}
 use Rattle.signature.specs.KeyCalls.{keyLeaves}
 use Rattle.signature.specs.Outcome.{outcome, firstNo, heldOr}
+use Rattle.signature.specs.Table.{Tabled}
 
 -- ---- the seeds of a key, and the words of an expanded one
 
 pub seed-in : (p : Params) (i : ℕ) → i < p .shares → i * seedBytes p ≤ (p .shares - 1) * seedBytes p
 seed-in p i l = let h : i ≤ p .shares - 1 = omega arith in mul-le-mul-right (seedBytes p) h
 
-module _ (p : Params) (h : Listed p) where
+module _ (p : Params) (h : Tabled p) where
   pub words-few : p .l * (p .shares * 512) ≤ 114688
   words-few = let a : p .shares * 512 ≤ 16384 = omega (arith, h .shares-low) in omega (arith, mul-le-mul (h .columns-low) a)
 
@@ -125,7 +126,7 @@ module _ (p : Params) (part : List ℕ) where
 
 -- ---- the key
 
-module _ (p : Params) (h : Listed p) (key : List ℕ) (n : length key ≡ p .«sk_bytes») where
+module _ (p : Params) (h : Tabled p) (key : List ℕ) (n : length key ≡ p .«sk_bytes») where
   pub vk-in : p .«vk_bytes» ≤ length key
   vk-in = omega (arith, h .sk)
 

@@ -9,7 +9,7 @@ use native.Mathlib.Numerals.{add-one}
 use lib.IntN.{ℤ}
 use lib.ListN.{length, getD, set, take, drop, replicate, length-append, length-replicate, replicate-append-replicate, drop-of-length-le}
 use lib.Seq.{sets, sets-eq, drop-cons, take-all, take-suc, take-suc-set}
-use Rattle.signature.specs.Bits.{bitsOf, fields, chop}
+use Rattle.signature.specs.Bits.{bitsOf, bitString, chop}
 use Rattle.signature.specs.Code.{codes, codesBits}
 use Rattle.signature.specs.Form.{formBits, bitCount}
 use Rattle.signature.specs.Answers.{fieldsOf, allZero}
@@ -29,12 +29,12 @@ unfolding bitsOf
 zero-bits zero = refl
 zero-bits (suc w) = ap (λ (l : List ℕ). 0 ∷ l) (zero-bits w)
 
-zero-fields : (w n : ℕ) → fields w (replicate n 0) ≡ replicate (n * w) 0
-unfolding fields
+zero-fields : (w n : ℕ) → bitString w (replicate n 0) ≡ replicate (n * w) 0
+unfolding bitString
 zero-fields w zero = let e : 0 * w ≡ 0 = omega arith in ap (λ (k : ℕ). replicate k 0) (sym e)
 zero-fields w (suc n) =
     let e : w + n * w ≡ suc n * w = omega (arith, suc-mul n w) in
-    ap (λ (l : List ℕ). l ++ fields w (replicate n 0)) (zero-bits w) ∙ ap (λ (l : List ℕ). replicate w 0 ++ l) (zero-fields w n)
+    ap (λ (l : List ℕ). l ++ bitString w (replicate n 0)) (zero-bits w) ∙ ap (λ (l : List ℕ). replicate w 0 ++ l) (zero-fields w n)
     ∙ replicate-append-replicate w (n * w) 0 ∙ ap (λ (k : ℕ). replicate k 0) e
 
 sets-zeros : (n : ℕ) (vs : List ℕ) → length vs ≤ n → sets (replicate n 0) 0 vs ≡ vs ++ replicate (n - length vs) 0
@@ -100,30 +100,30 @@ fill-more h out i l k e =
 pub bits-length : (c : List ℕ) (h z : List ℤ) → length (formBits (fieldsOf c h z)) ≡ bitCount (fieldsOf c h z)
 unfolding formBits bitCount
 bits-length c h z =
-    length-append (fields 8 c) (codes 0 h ++ codes 40 z)
+    length-append (bitString 8 c) (codes 0 h ++ codes 40 z)
     ∙ omega (arith, length-fields 8 c, length-append (codes 0 h) (codes 40 z), codes-length 0 h, codes-length 40 z)
 
 module _ (c : List ℕ) (h z : List ℤ) (out₀ out₁ out : List ℕ) (n : ℕ) where
   pub written : length out ≡ n → ((i : ℕ) → getD out i 0 < 2 ^ 8) → bitCount (fieldsOf c h z) ≤ 8 * n → out₀ ≡ c ++ replicate (n - length c) 0
-      → fields 8 out₁ ≡ sets (fields 8 out₀) (8 * length c) (codes 0 h) → fields 8 out ≡ sets (fields 8 out₁) (8 * length c + length (codes 0 h)) (codes 40 z)
+      → bitString 8 out₁ ≡ sets (bitString 8 out₀) (8 * length c) (codes 0 h) → bitString 8 out ≡ sets (bitString 8 out₁) (8 * length c + length (codes 0 h)) (codes 40 z)
       → out ≡ chop 8 n (formBits (fieldsOf c h z) ++ replicate (8 * n - bitCount (fieldsOf c h z)) 0)
   unfolding formBits bitCount
   written len byte room e₀ e₁ e₂ =
       let vs = codes 0 h ++ codes 40 z in
       let k = n - length c in
       let lv : length vs ≡ codesBits 0 h + codesBits 40 z = length-append (codes 0 h) (codes 40 z) ∙ omega (arith, codes-length 0 h, codes-length 40 z) in
-      let lc : length (fields 8 c) ≡ 8 * length c = length-fields 8 c ∙ omega arith in
+      let lc : length (bitString 8 c) ≡ 8 * length c = length-fields 8 c ∙ omega arith in
       let d : k * 8 - length vs ≡ 8 * n - (8 * length c + (codesBits 0 h + codesBits 40 z)) = omega arith in
-      let f₀ : fields 8 out₀ ≡ fields 8 c ++ replicate (k * 8) 0 =
-      ap (fields 8) e₀ ∙ fields-append 8 c (replicate k 0) ∙ ap (λ (l : List ℕ). fields 8 c ++ l) (zero-fields 8 k) in
-      let f : fields 8 out ≡ sets (fields 8 out₀) (8 * length c) vs =
-      e₂ ∙ ap (λ (l : List ℕ). sets l (8 * length c + length (codes 0 h)) (codes 40 z)) e₁ ∙ sym (sets-append (fields 8 out₀) (8 * length c) (codes 0 h) (codes 40 z)) in
-      let g : sets (fields 8 c ++ replicate (k * 8) 0) (8 * length c) vs ≡ fields 8 c ++ (vs ++ replicate (k * 8 - length vs) 0) =
-      ap (λ (m : ℕ). sets (fields 8 c ++ replicate (k * 8) 0) m vs) (sym (add-zero (8 * length c))) ∙ sets-right (fields 8 c) (replicate (k * 8) 0) (8 * length c) 0 vs lc
-      ∙ ap (λ (l : List ℕ). fields 8 c ++ l) (sets-zeros (k * 8) vs (omega arith)) in
-      sym (chop-fields 8 out byte) ∙ ap (λ (m : ℕ). chop 8 m (fields 8 out)) len
-      ∙ ap (chop 8 n) (f ∙ ap (λ (l : List ℕ). sets l (8 * length c) vs) f₀ ∙ g ∙ sym (append-assoc (fields 8 c) vs (replicate (k * 8 - length vs) 0))
-      ∙ ap (λ (m : ℕ). (fields 8 c ++ vs) ++ replicate m 0) d)
+      let f₀ : bitString 8 out₀ ≡ bitString 8 c ++ replicate (k * 8) 0 =
+      ap (bitString 8) e₀ ∙ fields-append 8 c (replicate k 0) ∙ ap (λ (l : List ℕ). bitString 8 c ++ l) (zero-fields 8 k) in
+      let f : bitString 8 out ≡ sets (bitString 8 out₀) (8 * length c) vs =
+      e₂ ∙ ap (λ (l : List ℕ). sets l (8 * length c + length (codes 0 h)) (codes 40 z)) e₁ ∙ sym (sets-append (bitString 8 out₀) (8 * length c) (codes 0 h) (codes 40 z)) in
+      let g : sets (bitString 8 c ++ replicate (k * 8) 0) (8 * length c) vs ≡ bitString 8 c ++ (vs ++ replicate (k * 8 - length vs) 0) =
+      ap (λ (m : ℕ). sets (bitString 8 c ++ replicate (k * 8) 0) m vs) (sym (add-zero (8 * length c))) ∙ sets-right (bitString 8 c) (replicate (k * 8) 0) (8 * length c) 0 vs lc
+      ∙ ap (λ (l : List ℕ). bitString 8 c ++ l) (sets-zeros (k * 8) vs (omega arith)) in
+      sym (chop-fields 8 out byte) ∙ ap (λ (m : ℕ). chop 8 m (bitString 8 out)) len
+      ∙ ap (chop 8 n) (f ∙ ap (λ (l : List ℕ). sets l (8 * length c) vs) f₀ ∙ g ∙ sym (append-assoc (bitString 8 c) vs (replicate (k * 8 - length vs) 0))
+      ∙ ap (λ (m : ℕ). (bitString 8 c ++ vs) ++ replicate m 0) d)
 
 pub form-room : (c : List ℕ) (h z : List ℤ) (n : ℕ) → bitCount (fieldsOf c h z) ≤ 8 * n → 8 * length c + (length (codes 0 h) + length (codes 40 z)) ≤ n * 8
 unfolding bitCount

@@ -16,11 +16,11 @@ use Rattle.signature.specs.Bits.{repack}
 use Rattle.sharing.specs.Masks.{maskStart}
 use Rattle.signature.specs.Checks.{firstNo, both, workWords}
 use Rattle.signature.specs.Keys.{keygenBytes, vkSeed, noisePart, sharePart, keygenOf, publicKey}
-use Rattle.signature.specs.Keygen.{atT, Small, Generated, keyOf}
+use Rattle.signature.specs.Keygen.{atT, Generated, keyOf}
 use Rattle.signature.specs.KeyCalls.{keygenLeaves}
 use Rattle.signature.specs.Outcome.{outcome}
-use Rattle.signature.specs.Expanding.{Listed}
 use Rattle.signature.specs.Matrix.{matrix, filled}
+use Rattle.signature.specs.Table.{Tabled}
 use Rattle.ring.proofs.Checks.{both-true}
 use Rattle.ring.proofs.Filled.{filled-some, not-filled}
 use Rattle.signature.proofs.KeyMade.{fullOf, vectorOf, no-matrix, no-share, both-there}
@@ -58,11 +58,11 @@ module _ (p : Params) (seeds mask : List ℕ) where
         e ∙ rw (s .vector, s .full) (sym (key-bytes p (vkSeed p seeds) (vectorOf p seeds mask A) (sharePart p seeds) x)) in
         rw (both-there p seeds mask A x hA hx, key, l)
 
-pub key-long : (p : Params) → Listed p → p .«sk_bytes» ≡ p .kappa / 8 + p .k * 448 + ((p .shares - 1) * (p .kappa / 8) + p .l * 3136)
+pub key-long : (p : Params) → Tabled p → p .«sk_bytes» ≡ p .kappa / 8 + p .k * 448 + ((p .shares - 1) * (p .kappa / 8) + p .l * 3136)
 key-long p h = omega (arith, h .vk, h .sk)
 
 -- the key's four parts, as slices of the seeds and of the work buffer
-module _ (p : Params) (h : Small p) (seeds work : List ℕ) (w : length work ≡ workWords p) (s : length seeds ≡ keygenBytes p) where
+module _ (p : Params) (h : Tabled p) (seeds work : List ℕ) (w : length work ≡ workWords p) (s : length seeds ≡ keygenBytes p) where
   abbrev a : ℕ
   a = atT (p .l) (p .shares)
 

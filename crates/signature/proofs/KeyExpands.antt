@@ -23,8 +23,8 @@ use Rattle.signature.specs.KeyCalls.{expandCall, refreshChecks, refreshC
 use Rattle.signature.specs.ExpandedKey.{ExpandedKey, secretAt, Holds}
 use Rattle.signature.specs.Matrix.{filled}
 use Rattle.signature.specs.Outcome.{Outcome, outcome}
-use Rattle.signature.proofs.Asked.{listed, refreshable, refresh-done, expandBehind, expand-done}
-use Rattle.signature.proofs.KeyRanges.{ranged}
+use Rattle.signature.proofs.Listing.{tabled}
+use Rattle.signature.proofs.Asked.{refreshable, refresh-done, expandBehind, expand-done}
 use Rattle.signature.proofs.KeyMade.{made, expand-made, vector-words}
 use Rattle.signature.proofs.Secrets.{holds-as}
 use Rattle.signature.proofs.KeySecret.{Expansion, expansion}
@@ -48,13 +48,13 @@ module _ (e : Edition) (set d : ℕ) (p : Params) (h : lookupOf set d e ≡ Sele
   pub made-passes : (bytes words : List ℕ) → expandedKeySized p bytes words ≡ true → firstNo (expandBehind p key bytes words) ≡ 0
   made-passes bytes words s =
       let m = made p seeds mask key k in
-      let r = expand-made p (found set d e p h .rule) (ranged set d e p h .shares-pos) seeds mask key l m in
+      let r = expand-made p (found set d e p h .rule) (tabled set d e p h .shares-pos) seeds mask key l m in
       yes _ _ _ _ (eq-eqb _ _ (r .long))
       (ap (allBelow 125) (r .vector) ∙ below-yes 125 _ (vector-words p (noisePart p seeds) (maskStart mask) (m .A) .low))
       (ap (allBelow q) (r .full) ∙ below-yes q (m .x) (r .words .low)) s
 
   pub made-expansion : Expansion p seeds mask key
-  made-expansion = expansion p seeds mask key (found set d e p h .rule) (ranged set d e p h .shares-pos) l k
+  made-expansion = expansion p seeds mask key (found set d e p h .rule) (tabled set d e p h .shares-pos) l k
 
   pub made-expands : (bytes words : List ℕ) → expandedKeySized p bytes words ≡ true
       → Leaves p (take (p .«vk_bytes») key) (secretAt (p .shares) (generatedOf p seeds mask key)) (expandCall e set d key bytes words)
@@ -70,7 +70,7 @@ pub refresh-keeps : (set d : ℕ) (p : Params) → lookupOf set d Edition.Printe
 refresh-keeps set d p h K mask bytes words n =
     let r = refreshable p K mask bytes words n in
     let w : Words (p .l * (p .shares * 512)) (K .words) = record { long = r .shares-long; low = r .shares-low } in
-    let power = count-power (p .shares) (listed set d Edition.Printed p h .count) in
+    let power = count-power (p .shares) (tabled set d Edition.Printed p h .count) in
     let J : ExpandedKey = record { vk = K .vk; words = refreshed masks (p .shares) (maskStart mask) (p .l) (K .words) } in
     subst (Leaves p (K .vk) (secretAt (p .shares) K)) (refresh-done set d K mask bytes words p (sym h) 0 (sym n) refl (J .vk) (J .words) refl refl)
     (record {

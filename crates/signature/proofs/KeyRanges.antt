@@ -10,23 +10,10 @@ use Rattle.hash.specs.Params.{lookupOf}
 use Rattle.hash.proofs.Rows.{found, count-low}
 use Rattle.sharing.proofs.NoisePlaces.{noise-bytes}
 use Rattle.signature.specs.Keys.{keygenBytes}
-use Rattle.signature.specs.KeySizes.{Ranges}
-
-pub ranged : (set d : ℕ) (e : Edition) (p : Params) → lookupOf set d e ≡ Selected.Found p → Ranges p
-ranged set d e p h =
-    let r = found set d e p h in
-    let c = count-low d (r .count) in
-    record {
-      shares-pos = omega (arith, r .shares-are, c .0);
-      shares-low = omega (arith, r .shares-are, c .1);
-      rows-low = r .rule .rows-low;
-      columns-low = r .rule .columns-low;
-      rep-low = r .rule .rep-low;
-      kappa-low = r .rule .kappa-low;
-    }
+use Rattle.signature.specs.Table.{Tabled}
 
 -- the sizes, from the left, as the machine makes them
-module _ (p : Params) (r : Ranges p) where
+module _ (p : Params) (r : Tabled p) where
   seed-le : p .kappa / 8 ≤ 32
   seed-le = omega (arith, r .kappa-low)
 

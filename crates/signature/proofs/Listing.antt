@@ -1,4 +1,4 @@
--- Every row of the parameter table is `Small`.
+-- Every record of the parameter table has what `Tabled` says.
 use mathlib.Core.Path.{_≡_, sym, subst}
 use Prim.Native.Nat.{ℕ}
 use native.Mathlib.Omega.{arith}
@@ -6,27 +6,35 @@ use Rattle.hash.specs.Params.{ShareCount, lookupOf}
 use Rattle.hash.specs.declared.params.Edition.{Edition}
 use Rattle.hash.specs.declared.params.Params.{Params}
 use Rattle.hash.specs.declared.params.Selected.{Selected}
-use Rattle.hash.proofs.Rows.{Row, found, count-low}
-use Rattle.signature.specs.Keygen.{Small}
+use Rattle.hash.proofs.Rows.{found, count-low}
+use Rattle.signature.specs.Table.{Tabled}
 
-pub row-small : (set d : ℕ) (e : Edition) (p : Params) → Row set d e p → Small p
-row-small set d e p r =
+pub tabled : (set d : ℕ) (e : Edition) (p : Params) → lookupOf set d e ≡ Selected.Found p → Tabled p
+tabled set d e p h =
+    let r = found set d e p h in
+    let t = r .rule in
     let c = count-low d (r .count) in
+    let b = t .hint in
     record {
+      vk = t .vk;
+      sk = t .sk;
+      hash-fits = t .hash-fits;
+      sig-low = t .sig-low;
       count = subst ShareCount (sym (r .shares-are)) (r .count);
       shares-pos = omega (arith, r .shares-are, c .0);
       shares-low = omega (arith, r .shares-are, c .1);
-      rows-low = r .rule .rows-low;
-      columns-low = r .rule .columns-low;
-      columns-rows = r .rule .columns-rows;
-      omega-low = r .rule .weight-low;
-      rep-low = r .rule .rep-low;
-      ut-pos = r .rule .ut-pos;
-      ut-low = r .rule .ut-low;
-      uw-pos = r .rule .uw-pos;
-      uw-low = r .rule .uw-low;
-      kappa-low = r .rule .kappa-low;
+      rows-low = t .rows-low;
+      columns-low = t .columns-low;
+      columns-rows = t .columns-rows;
+      omega-low = t .weight-low;
+      kappa-low = t .kappa-low;
+      seed-low = omega (arith, t .kappa-low);
+      hash-low = omega (arith, t .kappa-low);
+      rep-low = t .rep-low;
+      ut-pos = t .ut-pos;
+      ut-low = t .ut-low;
+      uw-pos = t .uw-pos;
+      uw-low = t .uw-low;
+      hint-low = t .hint-low;
+      binf-low = omega (arith, b, t .hint-low);
     }
-
-pub found-small : (set d : ℕ) (e : Edition) (p : Params) → lookupOf set d e ≡ Selected.Found p → Small p
-found-small set d e p h = row-small set d e p (found set d e p h)

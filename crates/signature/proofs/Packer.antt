@@ -11,7 +11,7 @@ use lib.Seq.{sets, take-all, length-take-le}
 use Rattle.hash.specs.Endian.{byteOf}
 use Rattle.hash.specs.Lists.{pasted}
 use Rattle.sharing.proofs.Lists.{inside}
-use Rattle.signature.specs.Bits.{bitsOf, fields, repack}
+use Rattle.signature.specs.Bits.{bitsOf, bitString, repack}
 use Rattle.signature.proofs.Strings.{length-bits, length-fields, bits-append, bits-cat, bits-low, sets-append}
 use Rattle.signature.proofs.Packing.{fields-more, packed}
 use Rattle.signature.proofs.Words.{stored}
@@ -21,8 +21,8 @@ pub record Packed (w : ℕ) (xs l out : List ℕ) (i j acc have : ℕ) : Type 0 
   pub done : List ℕ
   pub long : length done ≡ j * 8
   pub low : acc < 2 ^ have
-  pub stored-is : fields 8 out ≡ sets (fields 8 l) 0 done
-  pub all-is : done ++ bitsOf have acc ≡ fields w (take i xs)
+  pub stored-is : bitString 8 out ≡ sets (bitString 8 l) 0 done
+  pub all-is : done ++ bitsOf have acc ≡ bitString w (take i xs)
 
 -- a number on top of the bits held
 on-top : (acc have t x : ℕ) → acc < 2 ^ have → bitsOf (have + t) (acc + x % 2 ^ t * 2 ^ have) ≡ bitsOf have acc ++ bitsOf t x
@@ -42,7 +42,7 @@ top-fits acc y have t x h k e = omega (arith, top-exact y have t x k e, top-lt a
 
 module _ (w : ℕ) (xs l : List ℕ) where
   pub pack-start : Packed w xs l l 0 0 0 0
-  unfolding fields bitsOf
+  unfolding bitString bitsOf
   pack-start = record { done = []; long = omega arith; low = omega arith; stored-is = refl; all-is = refl }
 
   module _ (out : List ℕ) (i j acc have : ℕ) (s : Packed w xs l out i j acc have) where
@@ -57,7 +57,7 @@ module _ (w : ℕ) (xs l : List ℕ) where
     pub last-place : (n : ℕ) → i ≤ length xs → length xs ≤ i → length xs * w ≡ n * 8 → j * 8 + have ≡ n * 8
     last-place n h g e = let d : i ≡ length xs = omega arith in place h ∙ ap (λ (m : ℕ). m * w) d ∙ e
 
-    more : i < length xs → s .done ++ (bitsOf have acc ++ bitsOf w (getD xs i 0)) ≡ fields w (take (i + 1) xs)
+    more : i < length xs → s .done ++ (bitsOf have acc ++ bitsOf w (getD xs i 0)) ≡ bitString w (take (i + 1) xs)
     more h =
         sym (append-assoc (s .done) (bitsOf have acc) (bitsOf w (getD xs i 0))) ∙ ap (λ (m : List ℕ). m ++ bitsOf w (getD xs i 0)) (s .all-is)
         ∙ sym (fields-more w xs i h)
@@ -109,8 +109,8 @@ module _ (w : ℕ) (xs l : List ℕ) where
               long = length-append d b ∙ omega (arith, s .long, length-bits 64 word);
               low = shr-lt (w - t) t v;
               stored-is =
-                  ap (fields 8) e ∙ stored out j word r ∙ ap (λ (m : List ℕ). sets m (j * 8) b) (s .stored-is)
-                  ∙ sym (sets-append (fields 8 l) 0 d b ∙ ap (λ (n : ℕ). sets (sets (fields 8 l) 0 d) n b) e₀);
+                  ap (bitString 8) e ∙ stored out j word r ∙ ap (λ (m : List ℕ). sets m (j * 8) b) (s .stored-is)
+                  ∙ sym (sets-append (bitString 8 l) 0 d b ∙ ap (λ (n : ℕ). sets (sets (bitString 8 l) 0 d) n b) e₀);
               all-is =
                   append-assoc d b (bitsOf (w - t) (x / 2 ^ t))
                   ∙ ap (λ (m : List ℕ). d ++ m) (ap (λ (m : List ℕ). m ++ bitsOf (w - t) (x / 2 ^ t)) word-is
@@ -120,12 +120,12 @@ module _ (w : ℕ) (xs l : List ℕ) where
 
     -- the last bytes
     pub finish : (out′ : List ℕ) → length xs ≤ i → length out′ ≡ length l → length xs * w ≡ length l * 8 → ((k : ℕ) → getD out′ k 0 < 2 ^ 8)
-        → fields 8 out′ ≡ sets (fields 8 out) (j * 8) (bitsOf have acc) → out′ ≡ repack w 8 (length l) xs
+        → bitString 8 out′ ≡ sets (bitString 8 out) (j * 8) (bitsOf have acc) → out′ ≡ repack w 8 (length l) xs
     finish out′ h k n byte e =
         let d = s .done in
         let e₀ : 0 + length d ≡ j * 8 = omega (arith, s .long) in
-        let a : fields 8 out′ ≡ sets (fields 8 l) 0 (fields w xs) =
+        let a : bitString 8 out′ ≡ sets (bitString 8 l) 0 (bitString w xs) =
         e ∙ ap (λ (m : List ℕ). sets m (j * 8) (bitsOf have acc)) (s .stored-is)
-        ∙ sym (ap (λ (m : List ℕ). sets (fields 8 l) 0 m) (ap (fields w) (sym (take-all i xs h)) ∙ sym (s .all-is))
-        ∙ sets-append (fields 8 l) 0 d (bitsOf have acc) ∙ ap (λ (m : ℕ). sets (sets (fields 8 l) 0 d) m (bitsOf have acc)) e₀) in
+        ∙ sym (ap (λ (m : List ℕ). sets (bitString 8 l) 0 m) (ap (bitString w) (sym (take-all i xs h)) ∙ sym (s .all-is))
+        ∙ sets-append (bitString 8 l) 0 d (bitsOf have acc) ∙ ap (λ (m : ℕ). sets (sets (bitString 8 l) 0 d) m (bitsOf have acc)) e₀) in
         packed w xs out′ l byte k (omega arith) a ∙ ap (λ (m : ℕ). repack w 8 m xs) k

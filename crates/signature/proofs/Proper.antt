@@ -12,17 +12,18 @@ use lib.ListN.{length, getD, take, drop}
 use Rattle.hash.specs.Lists.{pick, Bytes}
 use Rattle.hash.specs.declared.params.Params.{Params}
 use Rattle.signature.specs.Answers.{fieldsOf, parsed, ReadOf, boundsOf}
-use Rattle.signature.specs.Bits.{fields}
+use Rattle.signature.specs.Bits.{bitString}
 use Rattle.signature.specs.Bounds.{within, squares, checkBounds}
 use Rattle.signature.specs.Checks.{firstNo, writtenAs, properFields, properForm}
 use Rattle.signature.specs.Form.{Fields, hashBytes, write, read}
-use Rattle.signature.specs.Verify.{hashChecks, fieldChecks, fieldsIn, formChecks}
+use Rattle.signature.specs.Verify.{hashChecks, fieldsIn}
+use Rattle.signature.specs.VerifySteps.{fieldChecks, formChecks}
 use Rattle.signature.proofs.Canonical.{read-accepted, read-refused, read-sized}
 use Rattle.signature.proofs.Parsed.{read-true, read-false}
 use Rattle.ring.proofs.Checks.{absurd-bool}
 use Rattle.signature.proofs.SameBytes.{same-refl, same-eq}
 
--- what the writer makes of the fields read
+-- what the writer makes of the bitString read
 pub record Written (p : Params) (b : List ℕ) : Type 0 where
   pub f : Fields
   pub read-is : read p b ≡ some f
@@ -59,7 +60,7 @@ bytes-of (x ∷ b) h = (h 0, bytes-of b (λ (j : ℕ). h (suc j)))
 
 module _ (p : Params) (vk msg b : List ℕ) (byte : Bytes b) (long : length b ≡ p .«sig_bytes») (size : hashBytes p ≤ length b) where
   abbrev bits : List ℕ
-  bits = drop (8 * hashBytes p) (fields 8 b)
+  bits = drop (8 * hashBytes p) (bitString 8 b)
 
   pub status-14 : parsed (p .k * 512) (p .l * 512) bits ≡ none → firstNo (formChecks p vk msg b) ≡ 14
   status-14 e = ap (λ (t : Bool). pick t (firstNo (fieldChecks p vk msg (fieldsIn (read p b)))) 14) (proper-none p b (λ (f : Fields). λ (r : read p b ≡ some f) (w : write p f ≡ some b). read-refused p b byte long size f e r w))
@@ -71,7 +72,7 @@ module _ (p : Params) (vk msg b : List ℕ) (byte : Bytes b) (long : length b �
       ap (λ (t : Bool). pick t (firstNo (fieldChecks p vk msg (fieldsIn (read p b)))) 14) (proper-some p b (fieldsOf (take (hashBytes p) b) h z) (a .0) (a .1))
       ∙ ap (λ (o : Option Fields). firstNo (fieldChecks p vk msg (fieldsIn o))) (a .0)
 
-  -- the fields have the set's sizes
+  -- the bitString have the set's sizes
   pub sizes-read : (h z : List ℤ) → parsed (p .k * 512) (p .l * 512) bits ≡ some (h, z) → (length h ≡ p .k * 512) × (length z ≡ p .l * 512)
   sizes-read h z e =
       let s = read-sized p b (fieldsOf (take (hashBytes p) b) h z) byte size (read-accepted p b byte long size h z e .0) in

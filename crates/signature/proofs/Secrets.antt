@@ -7,7 +7,7 @@ use lib.ListN.{getD}
 use Rattle.hash.specs.declared.params.Params.{Params}
 use Rattle.ring.specs.Words.{q, Words}
 use Rattle.ring.proofs.Sums.{same-residues}
-use Rattle.sharing.specs.Blocks.{block, build, total, totals}
+use Rattle.sharing.specs.Blocks.{block, total, totals}
 use Rattle.sharing.proofs.Built.{totals-are}
 use Rattle.sharing.proofs.Decode.{total-words, total-at, sumN-ext, block-totals}
 use Rattle.sharing.proofs.Lists.{block-words, block-at, build-ext}

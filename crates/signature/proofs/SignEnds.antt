@@ -22,11 +22,11 @@ use Rattle.signature.specs.Bits.{repack}
 use Rattle.signature.specs.Checks.{both, keySized, keyGood, keyChecks}
 use Rattle.signature.specs.Keys.{seedBytes, vkSeed, vkVector, publicOf, sharesOf}
 use Rattle.signature.specs.Matrix.{matrix, filled}
-use Rattle.signature.specs.Expanding.{Listed}
 use Rattle.signature.specs.Sign.{Public, Attempted, made, over, stuck, Coins, ended, refreshedKey, attempted, noiseAt, maskAt, signFrom}
 use Rattle.signature.specs.Outcome.{Outcome, signing, answer, refusedOr, wiped, firstNo, heldOr}
 use Rattle.signature.specs.SignCalls.{Key, callChecks, publicFor, attemptsOf, signBy, leftBy, signCall, signOf}
-use Rattle.signature.specs.SignSteps.{signNo, signMade, kept}
+use Rattle.signature.specs.SignSteps.{signNo, signMade, answerIn}
+use Rattle.signature.specs.Table.{Tabled}
 use Rattle.signature.proofs.Asked.{sizes}
 use Rattle.ring.proofs.Checks.{both-yes, right-no, no-before, yes-before}
 use Rattle.ring.proofs.Filled.{not-filled}
@@ -42,7 +42,7 @@ part-front a b xs h =
     ∙ ap (take b) (drop-at (take a xs) (take b (drop a xs)) a (length-take-le a xs h))
     ∙ take-take b b (drop a xs) (le-refl b)
 
-module _ (p : Params) (h : Listed p) (key words : List ℕ) where
+module _ (p : Params) (h : Tabled p) (key words : List ℕ) where
   pub public-front : (x : Bool) → keySized p (keyFrom x key words) ≡ true → take (p .«vk_bytes» - 0) key ≡ publicOf p (keyFrom x key words)
   public-front x s = (let e : p .«vk_bytes» - 0 ≡ p .«vk_bytes» = omega arith in ap (λ (n : ℕ). take n key) e) ∙ go x s
     where
@@ -122,19 +122,19 @@ module _ (p : Params) (key : Key) (msg : List ℕ) (T : Coins) (n : ℕ) (out wo
   cleared-late : (A : Outcome) → early A ≡ false → zeros (length w) ≡ wiped (A .status) work
   cleared-late A e = ap (λ (k : ℕ). zeros k) long ∙ ap (λ (b : Bool). pick b work (zeros (length work))) (sym e)
 
-  kept-left : (A : Outcome) → early A ≡ false → (st at : ℕ) (ys : List ℕ) → answer st at ys ≡ kept A out → signing st at ys (zeros (length w)) ≡ leftBy A out work
+  kept-left : (A : Outcome) → early A ≡ false → (st at : ℕ) (ys : List ℕ) → answer st at ys ≡ answerIn A out → signing st at ys (zeros (length w)) ≡ leftBy A out work
   kept-left A e st at ys h =
       ap (λ (B : Outcome). signing (B .status) (B .reported) (B .bytes) (zeros (length w))) h
-      ∙ ap (signing (kept A out .status) (kept A out .reported) (kept A out .bytes)) (cleared-late A e)
+      ∙ ap (signing (answerIn A out .status) (answerIn A out .reported) (answerIn A out .bytes)) (cleared-late A e)
 
   -- the shares X were loaded, and the attempts made with the public key vk
   pub end-made : (vk X : List ℕ) → vk ≡ front → sharesOf p key ≡ some X → (st at : ℕ) (ys : List ℕ)
-      → answer st at ys ≡ kept (signMade p vk msg T n (matrix p (vkSeed p vk)) (some X)) out
+      → answer st at ys ≡ answerIn (signMade p vk msg T n (matrix p (vkSeed p vk)) (some X)) out
       → signing st at ys (zeros (length w)) ≡ leftBy (signMade p front msg T n (matrix p (vkSeed p front)) (sharesOf p key)) out work
   end-made vk X ev es st at ys h =
       let e = ap (λ (v : List ℕ). signMade p v msg T n (matrix p (vkSeed p v)) (some X)) ev ∙ ap (signMade p front msg T n (matrix p (vkSeed p front))) (sym es) in
       kept-left (signMade p front msg T n (matrix p (vkSeed p front)) (sharesOf p key)) (made-late p front msg T n (matrix p (vkSeed p front)) (sharesOf p key)) st at ys
-      (h ∙ ap (λ (A : Outcome). kept A out) e)
+      (h ∙ ap (λ (A : Outcome). answerIn A out) e)
 
 -- ---- the call
 

@@ -15,8 +15,9 @@ use Rattle.ring.proofs.Sums.{words-zeros}
 use Rattle.sharing.specs.Noise.{noiseBytes}
 use Rattle.sharing.proofs.NoisePlaces.{noise-bytes}
 use Rattle.signature.specs.Checks.{workWords}
-use Rattle.signature.specs.Keygen.{atS, atT, atX, Small}
+use Rattle.signature.specs.Keygen.{atS, atT, atX}
 use Rattle.signature.specs.Keys.{keygenBytes, noisePart, sharePart}
+use Rattle.signature.specs.Table.{Tabled}
 
 pub cleared : (xs ys : List ℕ) → ys ≡ zeros (length xs) → Words (length xs) ys
 cleared xs ys e = subst (Words (length xs)) (sym e) (words-zeros (length xs))
@@ -31,7 +32,7 @@ same-le e = omega arith
 pub part-all : (b : ℕ) (xs : List ℕ) → take (length xs - b) (drop b xs) ≡ drop b xs
 part-all b xs = let e : length (drop b xs) ≡ length xs - b = length-drop b xs in take-all (length xs - b) (drop b xs) (omega arith)
 
-module _ (p : Params) (h : Small p) where
+module _ (p : Params) (h : Tabled p) where
   seed-low : p .kappa / 8 ≤ 32
   seed-low = let k = h .kappa-low in omega arith
 
@@ -99,7 +100,7 @@ module _ (p : Params) (h : Small p) where
     share-long = length-drop (p .kappa / 8 + noiseBytes p) xs ∙ (omega (arith, e))
 
 -- the local array that holds the matrix: 63 polynomials
-pub matrix-fits : (p : Params) → Small p → {n : ℕ} → n ≡ 32256 → p .k * (p .l * 512) ≤ n
+pub matrix-fits : (p : Params) → Tabled p → {n : ℕ} → n ≡ 32256 → p .k * (p .l * 512) ≤ n
 matrix-fits p h {n} e =
     let a : p .k * p .l ≤ 9 * 7 = mul-le-mul (h .rows-low) (h .columns-low) in
     omega (arith, a, e)

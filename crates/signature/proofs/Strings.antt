@@ -11,7 +11,7 @@ use lib.Seq.{getD-append-add, set-append-left, sets, sets-eq, set-getD, getD-dro
 use lib.Pow.{shr-shr, split, high, pow-pos}
 use lib.Bits.{bitXor, differ, xor-step, xor-zero-r}
 use Rattle.ring.proofs.Pairs.{set-append-right}
-use Rattle.signature.specs.Bits.{bitsOf, valOf, fields}
+use Rattle.signature.specs.Bits.{bitsOf, valOf, bitString}
 
 pub length-bits : (w x : ℕ) → length (bitsOf w x) ≡ w
 unfolding bitsOf
@@ -58,36 +58,36 @@ flip (suc w) x (suc k) h =
 
 -- ---- the bits of numbers of w bits each
 
-pub length-fields : (w : ℕ) (xs : List ℕ) → length (fields w xs) ≡ length xs * w
-unfolding fields
+pub length-fields : (w : ℕ) (xs : List ℕ) → length (bitString w xs) ≡ length xs * w
+unfolding bitString
 length-fields w [] = omega arith
-length-fields w (x ∷ xs) = length-append (bitsOf w x) (fields w xs) ∙ omega (arith, length-bits w x, length-fields w xs, suc-mul (length xs) w)
+length-fields w (x ∷ xs) = length-append (bitsOf w x) (bitString w xs) ∙ omega (arith, length-bits w x, length-fields w xs, suc-mul (length xs) w)
 
 -- bit k of number i
 module _ (w k : ℕ) (h : k < w) where
   place : (x n : ℕ) → suc n * w + k ≡ length (bitsOf w x) + (n * w + k)
   place x n = omega (arith, length-bits w x, suc-mul n w)
 
-  pub get : (xs : List ℕ) (i : ℕ) → i < length xs → getD (fields w xs) (i * w + k) 0 ≡ getD xs i 0 / 2 ^ k % 2
-  unfolding fields
+  pub get : (xs : List ℕ) (i : ℕ) → i < length xs → getD (bitString w xs) (i * w + k) 0 ≡ getD xs i 0 / 2 ^ k % 2
+  unfolding bitString
   get [] i l = absurd (not-suc-le-zero l)
   get (x ∷ xs) zero l =
-      ap (λ (n : ℕ). getD (bitsOf w x ++ fields w xs) n 0) (ap (λ (n : ℕ). n + k) (zero-mul w) ∙ zero-add k)
-      ∙ List·getD-append (bitsOf w x) (fields w xs) 0 k (omega (arith, length-bits w x)) ∙ getD-bits w x k h
+      ap (λ (n : ℕ). getD (bitsOf w x ++ bitString w xs) n 0) (ap (λ (n : ℕ). n + k) (zero-mul w) ∙ zero-add k)
+      ∙ List·getD-append (bitsOf w x) (bitString w xs) 0 k (omega (arith, length-bits w x)) ∙ getD-bits w x k h
   get (x ∷ xs) (suc i) l =
-      ap (λ (n : ℕ). getD (bitsOf w x ++ fields w xs) n 0) (place x i) ∙ getD-append-add (bitsOf w x) (fields w xs) (i * w + k) 0
+      ap (λ (n : ℕ). getD (bitsOf w x ++ bitString w xs) n 0) (place x i) ∙ getD-append-add (bitsOf w x) (bitString w xs) (i * w + k) 0
       ∙ get xs i (le-of-suc-le-suc l)
 
-  pub put : (xs : List ℕ) (i v b : ℕ) → i < length xs → bitsOf w v ≡ set (bitsOf w (getD xs i 0)) k b → fields w (set xs i v) ≡ set (fields w xs) (i * w + k) b
-  unfolding fields
+  pub put : (xs : List ℕ) (i v b : ℕ) → i < length xs → bitsOf w v ≡ set (bitsOf w (getD xs i 0)) k b → bitString w (set xs i v) ≡ set (bitString w xs) (i * w + k) b
+  unfolding bitString
   put [] i v b l e = absurd (not-suc-le-zero l)
   put (x ∷ xs) zero v b l e =
-      ap (λ (m : List ℕ). m ++ fields w xs) e ∙ sym (set-append-left (bitsOf w x) (fields w xs) k b (omega (arith, length-bits w x)))
-      ∙ ap (λ (n : ℕ). set (bitsOf w x ++ fields w xs) n b) (sym (ap (λ (n : ℕ). n + k) (zero-mul w) ∙ zero-add k))
+      ap (λ (m : List ℕ). m ++ bitString w xs) e ∙ sym (set-append-left (bitsOf w x) (bitString w xs) k b (omega (arith, length-bits w x)))
+      ∙ ap (λ (n : ℕ). set (bitsOf w x ++ bitString w xs) n b) (sym (ap (λ (n : ℕ). n + k) (zero-mul w) ∙ zero-add k))
   put (x ∷ xs) (suc i) v b l e =
       ap (λ (m : List ℕ). bitsOf w x ++ m) (put xs i v b (le-of-suc-le-suc l) e)
-      ∙ sym (set-append-right (bitsOf w x) (fields w xs) (i * w + k) b)
-      ∙ ap (λ (n : ℕ). set (bitsOf w x ++ fields w xs) n b) (sym (place x i))
+      ∙ sym (set-append-right (bitsOf w x) (bitString w xs) (i * w + k) b)
+      ∙ ap (λ (n : ℕ). set (bitsOf w x ++ bitString w xs) n b) (sym (place x i))
 
 -- ---- bit `at` of a byte string
 
@@ -95,21 +95,21 @@ module _ (bs : List ℕ) (at : ℕ) (l : at < length bs * 8) where
   at-is : at / 8 * 8 + at % 8 ≡ at
   at-is = omega arith
 
-  pub bit-at : getD bs (at / 8) 0 / 2 ^ (at % 8) % 2 ≡ getD (fields 8 bs) at 0
-  bit-at = sym (get 8 (at % 8) (omega arith) bs (at / 8) (omega arith)) ∙ ap (λ (n : ℕ). getD (fields 8 bs) n 0) at-is
+  pub bit-at : getD bs (at / 8) 0 / 2 ^ (at % 8) % 2 ≡ getD (bitString 8 bs) at 0
+  bit-at = sym (get 8 (at % 8) (omega arith) bs (at / 8) (omega arith)) ∙ ap (λ (n : ℕ). getD (bitString 8 bs) n 0) at-is
 
   module _ (b : ℕ) where
-    pub flipped : b < 2 → (getD bs (at / 8) 0 / 2 ^ (at % 8) % 2 ≡ b → ⊥) → fields 8 (set bs (at / 8) (bitXor (getD bs (at / 8) 0) (2 ^ (at % 8)))) ≡ set (fields 8 bs) at b
+    pub flipped : b < 2 → (getD bs (at / 8) 0 / 2 ^ (at % 8) % 2 ≡ b → ⊥) → bitString 8 (set bs (at / 8) (bitXor (getD bs (at / 8) 0) (2 ^ (at % 8)))) ≡ set (bitString 8 bs) at b
     flipped h n =
         let x = getD bs (at / 8) 0 in
         let k = at % 8 in
         let d = getD-bits 8 x k (omega arith) in
         let e : 1 - getD (bitsOf 8 x) k 0 ≡ b = omega arith in
         put 8 k (omega arith) bs (at / 8) _ b (omega arith) (flip 8 x k (omega arith) ∙ ap (set (bitsOf 8 x) k) e)
-        ∙ ap (λ (m : ℕ). set (fields 8 bs) m b) at-is
+        ∙ ap (λ (m : ℕ). set (bitString 8 bs) m b) at-is
 
-    pub left : getD bs (at / 8) 0 / 2 ^ (at % 8) % 2 ≡ b → fields 8 bs ≡ set (fields 8 bs) at b
-    left e = sym (set-getD (fields 8 bs) at 0) ∙ ap (set (fields 8 bs) at) (sym bit-at ∙ e)
+    pub left : getD bs (at / 8) 0 / 2 ^ (at % 8) % 2 ≡ b → bitString 8 bs ≡ set (bitString 8 bs) at b
+    left e = sym (set-getD (bitString 8 bs) at 0) ∙ ap (set (bitString 8 bs) at) (sym bit-at ∙ e)
 
 -- ---- one more
 
@@ -158,10 +158,10 @@ are-bits zero x i = lit< tt
 are-bits (suc w) x zero = mod-lt x (lit< tt)
 are-bits (suc w) x (suc i) = are-bits w (x / 2) i
 
-pub fields-bits : (w : ℕ) (xs : List ℕ) → Bits (fields w xs)
-unfolding fields
+pub fields-bits : (w : ℕ) (xs : List ℕ) → Bits (bitString w xs)
+unfolding bitString
 fields-bits w [] i = lit< tt
-fields-bits w (x ∷ xs) i = bits-join (bitsOf w x) (fields w xs) (are-bits w x) (fields-bits w xs) i
+fields-bits w (x ∷ xs) i = bits-join (bitsOf w x) (bitString w xs) (are-bits w x) (fields-bits w xs) i
 
 -- ---- bits and the number that they stand for
 

@@ -18,23 +18,6 @@ use Rattle.signature.specs.Outcome.{firstNo, foundIn}
 use Rattle.signature.specs.Table.{Tabled}
 use Rattle.signature.specs.Verify.{verifyChecks, verifyCall}
 
-pub tabled : (set d : ℕ) (e : Edition) (p : Params) → lookupOf set d e ≡ Selected.Found p → Tabled p
-tabled set d e p h =
-    let r = found set d e p h .rule in
-    let b = r .hint in
-    record {
-      vk = r .vk;
-      rows-low = r .rows-low;
-      columns-low = r .columns-low;
-      seed-low = omega (arith, r .kappa-low);
-      hash-low = omega (arith, r .kappa-low);
-      hash-fits = r .hash-fits;
-      sig-low = r .sig-low;
-      weight-low = r .weight-low;
-      hint-low = r .hint-low;
-      binf-low = omega (arith, b, r .hint-low);
-    }
-
 -- the look-up of the set, check 1: with one share there is a record or no set
 pub never-shares : (e : Edition) (set : ℕ) → lookupOf set 1 e ≡ Selected.NoShares → ⊥
 never-shares e set h =

@@ -12,7 +12,7 @@ use Rattle.hash.specs.Endian.{le, byteOf}
 use Rattle.hash.specs.Lists.{table, pasted}
 use Rattle.hash.proofs.Table.{table-none, table-next}
 use Rattle.hash.proofs.Word.{le-none, le-next}
-use Rattle.signature.specs.Bits.{bitsOf, valOf, fields}
+use Rattle.signature.specs.Bits.{bitsOf, valOf, bitString}
 use Rattle.signature.proofs.Strings.{length-bits, length-fields, Bits, bits-take, bits-drop, fields-bits, bits-low, bits-val, val-lt, bits-append, bits-cat, sets-right, sets-left, sets-mid}
 use Rattle.signature.proofs.Packing.{val-bits, fields-append}
 
@@ -24,25 +24,25 @@ val-append (x ∷ xs) ys =
 
 -- number i of a string of numbers
 module _ (w : ℕ) (xs : List ℕ) (i : ℕ) (h : i < length xs) where
-  front : length (fields w (take i xs)) ≡ i * w
+  front : length (bitString w (take i xs)) ≡ i * w
   front = length-fields w (take i xs) ∙ ap (λ (n : ℕ). n * w) (length-take-le i xs (omega arith))
 
-  pub fields-split : fields w xs ≡ fields w (take i xs) ++ (bitsOf w (getD xs i 0) ++ fields w (drop (suc i) xs))
-  unfolding fields
-  fields-split = ap (fields w) (split-at xs i 0 h) ∙ fields-append w (take i xs) (getD xs i 0 ∷ drop (suc i) xs)
+  pub fields-split : bitString w xs ≡ bitString w (take i xs) ++ (bitsOf w (getD xs i 0) ++ bitString w (drop (suc i) xs))
+  unfolding bitString
+  fields-split = ap (bitString w) (split-at xs i 0 h) ∙ fields-append w (take i xs) (getD xs i 0 ∷ drop (suc i) xs)
 
-  pub field-at : take w (drop (i * w) (fields w xs)) ≡ bitsOf w (getD xs i 0)
+  pub field-at : take w (drop (i * w) (bitString w xs)) ≡ bitsOf w (getD xs i 0)
   field-at =
-      ap (λ (l : List ℕ). take w (drop (i * w) l)) fields-split ∙ ap (take w) (drop-at (fields w (take i xs)) _ (i * w) front)
+      ap (λ (l : List ℕ). take w (drop (i * w) l)) fields-split ∙ ap (take w) (drop-at (bitString w (take i xs)) _ (i * w) front)
       ∙ take-at (bitsOf w (getD xs i 0)) _ w (length-bits w (getD xs i 0))
 
 -- the number of n bytes is the number of their bits
 pub le-val : (xs : List ℕ) (a n : ℕ) → a + n ≤ length xs → ((i : ℕ) → getD xs i 0 < 2 ^ 8)
-    → le (λ j. getD xs (a + j) 0) n ≡ valOf (take (n * 8) (drop (a * 8) (fields 8 xs)))
+    → le (λ j. getD xs (a + j) 0) n ≡ valOf (take (n * 8) (drop (a * 8) (bitString 8 xs)))
 unfolding valOf
 le-val xs a zero h b = le-none (λ j. getD xs (a + j) 0)
 le-val xs a (suc n) h b =
-    let F = fields 8 xs in
+    let F = bitString 8 xs in
     let D = drop (a * 8) F in
     let e : suc n * 8 ≡ n * 8 + 8 = omega arith in
     let d : a * 8 + n * 8 ≡ (a + n) * 8 = omega arith in
@@ -72,11 +72,11 @@ module _ (l : List ℕ) (all : Bits l) (k : ℕ) (h : k ≤ length l) where
   pub val-take : valOf l % 2 ^ k ≡ valOf (take k l)
   val-take = ap (λ (n : ℕ). n % 2 ^ k) two ∙ low (valOf (drop k l)) k small
 
-pub get-is : (bs : List ℕ) (at w x : ℕ) → at + w ≤ length bs * 8 → w ≤ 56 → x ≡ valOf (take 64 (drop (at / 8 * 8) (fields 8 bs)))
-    → x / 2 ^ (at % 8) % 2 ^ w ≡ valOf (take w (drop at (fields 8 bs)))
+pub get-is : (bs : List ℕ) (at w x : ℕ) → at + w ≤ length bs * 8 → w ≤ 56 → x ≡ valOf (take 64 (drop (at / 8 * 8) (bitString 8 bs)))
+    → x / 2 ^ (at % 8) % 2 ^ w ≡ valOf (take w (drop at (bitString 8 bs)))
 get-is bs at w x h n e =
     let k = at % 8 in
-    let F = fields 8 bs in
+    let F = bitString 8 bs in
     let D = drop (at / 8 * 8) F in
     let T = take 64 D in
     let d : length D ≡ length bs * 8 - at / 8 * 8 = length-drop (at / 8 * 8) F ∙ ap (λ (m : ℕ). m - at / 8 * 8) (length-fields 8 bs) in
@@ -92,13 +92,13 @@ get-is bs at w x h n e =
 
 -- eight bytes, and what is left near the end
 module _ (xs : List ℕ) (i : ℕ) (b : (j : ℕ) → getD xs j 0 < 2 ^ 8) where
-  pub word-whole : i + 8 ≤ length xs → le (λ j. getD xs (i + j) 0) 8 ≡ valOf (take 64 (drop (i * 8) (fields 8 xs)))
+  pub word-whole : i + 8 ≤ length xs → le (λ j. getD xs (i + j) 0) 8 ≡ valOf (take 64 (drop (i * 8) (bitString 8 xs)))
   word-whole h = le-val xs i 8 h b
 
-  pub word-rest : (n : ℕ) → n ≡ length xs - i → i ≤ length xs → n ≤ 8 → le (λ j. getD xs (i + j) 0) n ≡ valOf (take 64 (drop (i * 8) (fields 8 xs)))
+  pub word-rest : (n : ℕ) → n ≡ length xs - i → i ≤ length xs → n ≤ 8 → le (λ j. getD xs (i + j) 0) n ≡ valOf (take 64 (drop (i * 8) (bitString 8 xs)))
   word-rest n e h k =
-      let D = drop (i * 8) (fields 8 xs) in
-      let d : length D ≡ n * 8 = length-drop (i * 8) (fields 8 xs) ∙ omega (arith, length-fields 8 xs) in
+      let D = drop (i * 8) (bitString 8 xs) in
+      let d : length D ≡ n * 8 = length-drop (i * 8) (bitString 8 xs) ∙ omega (arith, length-fields 8 xs) in
       le-val xs i n (omega arith) b ∙ ap valOf (take-all (n * 8) D (omega arith) ∙ sym (take-all 64 D (omega arith)))
 
 -- ---- a word with another field
@@ -166,31 +166,31 @@ module _ (x v k w : ℕ) (f : x < 2 ^ 64) (h : k + w < 64) where
 
 -- ---- a word stored
 
-table-bits : (x n : ℕ) → fields 8 (table (byteOf x) n) ≡ bitsOf (n * 8) x
-unfolding fields bitsOf
-table-bits x zero = ap (fields 8) (table-none (byteOf x))
+table-bits : (x n : ℕ) → bitString 8 (table (byteOf x) n) ≡ bitsOf (n * 8) x
+unfolding bitString bitsOf
+table-bits x zero = ap (bitString 8) (table-none (byteOf x))
 table-bits x (suc n) =
     let e : n * 8 + 8 ≡ suc n * 8 = omega arith in
     let d : n * 8 ≡ 8 * n = omega arith in
-    ap (fields 8) (table-next (byteOf x) n) ∙ fields-append 8 (table (byteOf x) n) (byteOf x n ∷ [])
+    ap (bitString 8) (table-next (byteOf x) n) ∙ fields-append 8 (table (byteOf x) n) (byteOf x n ∷ [])
     ∙ ap (λ (l : List ℕ). l ++ (bitsOf 8 (byteOf x n) ++ [])) (table-bits x n)
     ∙ ap (λ (l : List ℕ). bitsOf (n * 8) x ++ l) (append-nil (bitsOf 8 (byteOf x n)) ∙ bits-low 8 (x / 2 ^ (8 * n)) ∙ ap (λ (m : ℕ). bitsOf 8 (x / 2 ^ m)) (sym d))
     ∙ sym (bits-append (n * 8) 8 x) ∙ ap (λ (m : ℕ). bitsOf m x) e
 
-pub stored : (l : List ℕ) (i x : ℕ) → i + 8 ≤ length l → fields 8 (pasted (byteOf x) l i 8) ≡ sets (fields 8 l) (i * 8) (bitsOf 64 x)
+pub stored : (l : List ℕ) (i x : ℕ) → i + 8 ≤ length l → bitString 8 (pasted (byteOf x) l i 8) ≡ sets (bitString 8 l) (i * 8) (bitsOf 64 x)
 stored l i x h =
     let a = take i l in
     let m = take 8 (drop i l) in
     let z = drop (i + 8) l in
     let t = table (byteOf x) 8 in
     let s : l ≡ a ++ (m ++ z) = sym (ap (λ (r : List ℕ). a ++ r) (ap (λ (r : List ℕ). m ++ r) (sym (drop-drop 8 i l)) ∙ take-append-drop 8 (drop i l)) ∙ take-append-drop i l) in
-    let p : length (fields 8 a) ≡ i * 8 = length-fields 8 a ∙ ap (λ (n : ℕ). n * 8) (length-take-le i l (omega arith)) in
-    let q : length (fields 8 m) ≡ length (bitsOf 64 x) =
+    let p : length (bitString 8 a) ≡ i * 8 = length-fields 8 a ∙ ap (λ (n : ℕ). n * 8) (length-take-le i l (omega arith)) in
+    let q : length (bitString 8 m) ≡ length (bitsOf 64 x) =
     length-fields 8 m ∙ ap (λ (n : ℕ). n * 8) (length-take-le 8 (drop i l) (omega (arith, length-drop i l))) ∙ sym (length-bits 64 x) in
-    fields-append 8 a (t ++ z) ∙ ap (λ (r : List ℕ). fields 8 a ++ r) (fields-append 8 t z ∙ ap (λ (r : List ℕ). r ++ fields 8 z) (table-bits x 8))
-    ∙ sym (ap (λ (r : List ℕ). sets (fields 8 r) (i * 8) (bitsOf 64 x)) s
-    ∙ ap (λ (r : List ℕ). sets r (i * 8) (bitsOf 64 x)) (fields-append 8 a (m ++ z) ∙ ap (λ (r : List ℕ). fields 8 a ++ r) (fields-append 8 m z))
-    ∙ sets-mid (fields 8 a) (fields 8 m) (fields 8 z) (bitsOf 64 x) (i * 8) p q)
+    fields-append 8 a (t ++ z) ∙ ap (λ (r : List ℕ). bitString 8 a ++ r) (fields-append 8 t z ∙ ap (λ (r : List ℕ). r ++ bitString 8 z) (table-bits x 8))
+    ∙ sym (ap (λ (r : List ℕ). sets (bitString 8 r) (i * 8) (bitsOf 64 x)) s
+    ∙ ap (λ (r : List ℕ). sets r (i * 8) (bitsOf 64 x)) (fields-append 8 a (m ++ z) ∙ ap (λ (r : List ℕ). bitString 8 a ++ r) (fields-append 8 m z))
+    ∙ sets-mid (bitString 8 a) (bitString 8 m) (bitString 8 z) (bitsOf 64 x) (i * 8) p q)
 
 -- stores in a part that is itself stored
 sets-part : (F S vs : List ℕ) (a n k : ℕ) → a + n ≤ length F → k + length vs ≤ n → S ≡ sets (take n (drop a F)) k vs → sets F a S ≡ sets F (a + k) vs
@@ -207,16 +207,16 @@ sets-part F S vs a n k h g e =
 
 -- the word x at byte i, spliced and stored, is the field stored
 pub spliced-in : (l l′ : List ℕ) (at v w x r : ℕ) → at / 8 + 8 ≤ length l → w ≤ 56
-    → x ≡ valOf (take 64 (drop (at / 8 * 8) (fields 8 l))) → bitsOf 64 r ≡ sets (bitsOf 64 x) (at % 8) (bitsOf w v)
-    → l′ ≡ pasted (byteOf r) l (at / 8) 8 → fields 8 l′ ≡ sets (fields 8 l) at (bitsOf w v)
+    → x ≡ valOf (take 64 (drop (at / 8 * 8) (bitString 8 l))) → bitsOf 64 r ≡ sets (bitsOf 64 x) (at % 8) (bitsOf w v)
+    → l′ ≡ pasted (byteOf r) l (at / 8) 8 → bitString 8 l′ ≡ sets (bitString 8 l) at (bitsOf w v)
 spliced-in l l′ at v w x r h n e f g =
     let i = at / 8 in
-    let F = fields 8 l in
+    let F = bitString 8 l in
     let T = take 64 (drop (i * 8) F) in
     let lf = length-fields 8 l in
     let t : length T ≡ 64 = length-take-le 64 (drop (i * 8) F) (omega (arith, length-drop (i * 8) F)) in
     let b : bitsOf 64 x ≡ T = ap (bitsOf 64) e ∙ ap (λ (m : ℕ). bitsOf m (valOf T)) (sym t) ∙ bits-val T (bits-take 64 (drop (i * 8) F) (bits-drop (i * 8) F (fields-bits 8 l))) in
     let a : i * 8 + at % 8 ≡ at = omega arith in
-    ap (fields 8) g ∙ stored l i r h
+    ap (bitString 8) g ∙ stored l i r h
     ∙ sets-part F (bitsOf 64 r) (bitsOf w v) (i * 8) 64 (at % 8) (omega arith) (omega (arith, length-bits w v)) (f ∙ ap (λ (m : List ℕ). sets m (at % 8) (bitsOf w v)) b)
     ∙ ap (λ (m : ℕ). sets F m (bitsOf w v)) a

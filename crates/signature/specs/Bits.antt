@@ -12,10 +12,10 @@ unfoldable pub valOf : List ℕ → ℕ
 valOf [] = 0
 valOf (b ∷ bs) = b + 2 * valOf bs
 
--- the bit string of numbers of w bits each; that of a byte string is `fields 8`
-unfoldable pub fields : ℕ → List ℕ → List ℕ
-fields w [] = []
-fields w (x ∷ xs) = bitsOf w x ++ fields w xs
+-- the bit string of numbers of w bits each; that of a byte string is `bitString 8`
+unfoldable pub bitString : ℕ → List ℕ → List ℕ
+bitString w [] = []
+bitString w (x ∷ xs) = bitsOf w x ++ bitString w xs
 
 -- the first n numbers of w bits each in a bit string
 unfoldable pub chop : ℕ → ℕ → List ℕ → List ℕ
@@ -24,4 +24,4 @@ chop w (suc n) l = valOf (take w l) ∷ chop w n (drop w l)
 
 -- numbers of v bits each as n numbers of w bits each: packed into bytes with w = 8, unpacked from bytes with v = 8
 unfoldable pub repack : ℕ → ℕ → ℕ → List ℕ → List ℕ
-repack v w n xs = chop w n (fields v xs)
+repack v w n xs = chop w n (bitString v xs)

@@ -62,18 +62,22 @@ draws n = min 1088 (n / 2)
 unfoldable pub challenge : Edition → ℕ → List ℕ → Option (List ℤ)
 challenge e w s = pick (eqb (weight (run e s w (draws (length s)))) w) (some (run e s w (draws (length s)))) none
 
--- Algorithm 10: 1,088 draws are 2176 bytes, 16 blocks
-unfoldable pub chalPoly : Params → List ℕ → Option (List ℤ)
-chalPoly p hash = challenge (p .edition) (p .omega) (shake256 ((99 ∷ p .omega ∷ 0 ∷ 0 ∷ 0 ∷ 0 ∷ 0 ∷ 0 ∷ []) ++ hash) 2176)
+-- the header of eight bytes: a letter and a number
+abbrev pub headed : ℕ → ℕ → List ℕ
+headed a n = a ∷ n ∷ 0 ∷ 0 ∷ 0 ∷ 0 ∷ 0 ∷ 0 ∷ []
 
--- ---- Algorithm 9: w is the rounded commitment, one byte a coefficient
+-- Algorithm 10, of 'c' and omega: 1,088 draws are 2176 bytes, 16 blocks
+unfoldable pub chalPoly : Params → List ℕ → Option (List ℤ)
+chalPoly p hash = challenge (p .edition) (p .omega) (shake256 (headed 99 (p .omega) ++ hash) 2176)
+
+-- ---- Algorithm 9, of 'h' and k: w is the rounded commitment, one byte a coefficient
 
 abbrev pub ordered : Edition → List ℕ → List ℕ → List ℕ
 ordered Edition.Printed w mu = w ++ mu
 ordered Edition.Kat w mu = mu ++ w
 
 unfoldable pub chalHash : Params → List ℕ → List ℕ → List ℕ
-chalHash p w mu = shake256 ((104 ∷ p .k ∷ 0 ∷ 0 ∷ 0 ∷ 0 ∷ 0 ∷ 0 ∷ []) ++ ordered (p .edition) w mu) (p .kappa / 4)
+chalHash p w mu = shake256 (headed 104 (p .k) ++ ordered (p .edition) w mu) (p .kappa / 4)
 
 -- ---- the sampler over lent bytes: s is the look-up's answer, with any share count, on which nothing here depends; p is the record found in it
 
@@ -97,10 +101,6 @@ onesOf [] = 0
 onesOf (x ∷ m) = ones x + onesOf m
 
 -- ---- what the code holds
-
--- the header of eight bytes: a letter and a number
-abbrev pub headed : ℕ → ℕ → List ℕ
-headed a n = a ∷ n ∷ 0 ∷ 0 ∷ 0 ∷ 0 ∷ 0 ∷ 0 ∷ []
 
 -- the answer: a polynomial, or zero where there is none
 unfoldable pub chalHeld : Option (List ℤ) → Challenged

@@ -57,14 +57,18 @@ runOf (suc b ∷ l) = suc (runOf l)
 abbrev pub magOf : ℕ → List ℕ → ℕ
 magOf w t = valOf (take w t) + runOf (drop w t) * 2 ^ w
 
--- the number that the bits t begin with, and how many bits it takes; none where t is too short
+-- the number that the bits t begin with, and how many bits it takes; none where t is too short. Its absolute value is m, its stop bit is at
+-- k; the sign is behind it, where m is not 0
+abbrev readSign : ℕ → List ℕ → ℕ → Option (ℤ × ℕ)
+readSign m t k =
+    pick (eqb m 0) (some (pos 0, k + 1)) (pick (ltb (k + 1) (length t)) (some (signedOf m (getD t (k + 1) 0), k + 2)) none)
+
+-- .. with a run of n ones behind the w low bits
+abbrev readStop : ℕ → List ℕ → ℕ → Option (ℤ × ℕ)
+readStop w t n = pick (ltb (w + n) (length t)) (readSign (magOf w t) t (w + n)) none
+
 unfoldable pub readCode : ℕ → List ℕ → Option (ℤ × ℕ)
-readCode w t =
-    pick (ltb (w + runOf (drop w t)) (length t))
-    (pick (eqb (magOf w t) 0) (some (pos 0, w + runOf (drop w t) + 1))
-    (pick (ltb (w + runOf (drop w t) + 1) (length t))
-    (some (signedOf (magOf w t) (getD t (w + runOf (drop w t) + 1) 0), w + runOf (drop w t) + 2)) none))
-    none
+readCode w t = readStop w t (runOf (drop w t))
 
 -- one number more, behind those that were read
 abbrev pub oneMore : List ℤ × ℕ → Option (ℤ × ℕ) → Option (List ℤ × ℕ)

@@ -2,22 +2,10 @@
 use mathlib.Core.Path.{_≡_}
 use mathlib.Core.List.{List}
 use Prim.Native.Nat.{ℕ, _+_, _-_, _*_, _≤_}
-use Rattle.hash.specs.Params.{ShareCount}
 use Rattle.hash.specs.declared.params.Params.{Params}
 use Rattle.ring.specs.Uniform.{heldOf}
 use Rattle.sharing.specs.Blocks.{build}
 use Rattle.signature.specs.Keys.{seedBytes, shareAt}
-
--- what every record of the table has
-pub record Listed (p : Params) : Type 0 where
-  pub vk : p .«vk_bytes» ≡ seedBytes p + p .k * 448
-  pub sk : p .«sk_bytes» ≡ p .«vk_bytes» + (p .shares - 1) * seedBytes p + p .l * 3136
-  pub rows-low : p .k ≤ 9
-  pub columns-low : p .l ≤ 7
-  pub shares-pos : 1 ≤ p .shares
-  pub shares-low : p .shares ≤ 32
-  pub count : ShareCount (p .shares)
-  pub seed-low : seedBytes p ≤ 32
 
 -- the bytes behind the public key: d - 1 seeds and one share
 abbrev pub partBytes : Params → ℕ

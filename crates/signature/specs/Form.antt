@@ -7,7 +7,7 @@ use lib.IntN.{ℤ}
 use lib.ListN.{length, take, drop, replicate}
 use Rattle.hash.specs.Lists.{pick}
 use Rattle.hash.specs.declared.params.Params.{Params}
-use Rattle.signature.specs.Bits.{fields, chop}
+use Rattle.signature.specs.Bits.{bitString, chop}
 use Rattle.signature.specs.Code.{codes, codesBits, readCodes}
 
 -- what a signature holds: c_hash, h and z, the last two as signed whole numbers, not reduced
@@ -20,9 +20,9 @@ pub record Fields : Type 0 where
 abbrev pub hashBytes : Params → ℕ
 hashBytes p = p .kappa / 4
 
--- the bits of the fields, and their number counted without making them
+-- the bits of the bitString, and their number counted without making them
 unfoldable pub formBits : Fields → List ℕ
-formBits f = fields 8 (f .hash) ++ (codes 0 (f .hint) ++ codes 40 (f .response))
+formBits f = bitString 8 (f .hash) ++ (codes 0 (f .hint) ++ codes 40 (f .response))
 
 unfoldable pub bitCount : Fields → ℕ
 bitCount f = 8 * length (f .hash) + (codesBits 0 (f .hint) + codesBits 40 (f .response))
@@ -44,4 +44,4 @@ readHint p hash t none = none
 readHint p hash t (some h) = readResponse p hash (h .0) (readCodes 40 (p .l * 512) (drop (h .1) t))
 
 unfoldable pub read : Params → List ℕ → Option Fields
-read p b = readHint p (take (hashBytes p) b) (drop (8 * hashBytes p) (fields 8 b)) (readCodes 0 (p .k * 512) (drop (8 * hashBytes p) (fields 8 b)))
+read p b = readHint p (take (hashBytes p) b) (drop (8 * hashBytes p) (bitString 8 b)) (readCodes 0 (p .k * 512) (drop (8 * hashBytes p) (bitString 8 b)))

@@ -1,9 +1,8 @@
 -- The work buffer of key generation (01: memory), in words: zero encoding d * 512, row d * 512, room of two more sharings, room of eight
--- polynomials (4096), s, room for r, t, x. And what is known of a row of the parameter table.
+-- polynomials (4096), s, room for r, t, x.
 use mathlib.Core.Path.{_≡_}
 use mathlib.Core.List.{List, _++_}
 use Prim.Native.Nat.{ℕ, suc, _+_, _*_, _≤_}
-use Rattle.hash.specs.Params.{ShareCount}
 use Rattle.hash.specs.declared.params.Params.{Params}
 use Rattle.ring.specs.Round.{roundT}
 use Rattle.sharing.specs.Blocks.{block, totals}
@@ -24,21 +23,6 @@ atT l d = atS d + l * (d * 512) + l * (d * 512)
 
 abbrev pub atX : ℕ → ℕ → ℕ → ℕ
 atX k l d = atT l d + k * 512
-
-pub record Small (p : Params) : Type 0 where
-  pub count : ShareCount (p .shares)
-  pub shares-pos : 1 ≤ p .shares
-  pub shares-low : p .shares ≤ 32
-  pub rows-low : p .k ≤ 9
-  pub columns-low : p .l ≤ 7
-  pub columns-rows : p .l ≤ p .k
-  pub omega-low : p .omega ≤ 44
-  pub rep-low : p .rep ≤ 8
-  pub ut-pos : 1 ≤ p .ut
-  pub ut-low : p .ut ≤ 7
-  pub uw-pos : 1 ≤ p .uw
-  pub uw-low : p .uw ≤ 41
-  pub kappa-low : p .kappa ≤ 256
 
 -- lines 5 to 8, W being the shares of all rows of t with their noise: those of the last row, behind the zero encoding; t, rounded, at `to`
 pub record Rounded (p : Params) (to : ℕ) (W xs ys : List ℕ) : Type 0 where

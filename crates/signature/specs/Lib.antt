@@ -10,7 +10,6 @@ pub mod ExpandedKey
 pub mod Form
 pub mod KeyCalls
 pub mod Keygen
-pub mod KeySizes
 pub mod Keys
 pub mod Masked
 pub mod MaskedSteps
@@ -25,3 +24,4 @@ pub mod SignCalls
 pub mod SignSteps
 pub mod Table
 pub mod Verify
+pub mod VerifySteps

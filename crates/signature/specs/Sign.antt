@@ -16,6 +16,7 @@ use Rattle.sharing.specs.declared.masks.MaskGen.{MaskGen}
 use Rattle.signature.specs.Bounds.{checkBounds}
 use Rattle.signature.specs.Challenge.{chalHash, chalPoly}
 use Rattle.signature.specs.Form.{Fields, write}
+use Rattle.signature.specs.Keys.{vkVector}
 use Rattle.signature.specs.Masked.{Noise, Step, onward, refresh, seeded, explicit, maskedNoise, maskedImage}
 use Rattle.signature.specs.Outcome.{Outcome, answer}
 use Rattle.signature.specs.Recover.{recovered, hintOf, centredAll}
@@ -25,6 +26,9 @@ pub record Public : Type 0 where
   pub matrix : List ℕ
   pub vector : List ℕ
   pub mu : List ℕ
+
+abbrev pub publicBy : Params → List ℕ → List ℕ → List ℕ → Public
+publicBy p vk mu A = record { matrix = A; vector = vkVector p vk; mu = mu }
 
 -- the end of an attempt (01: try): a signature; over the bounds or too long; a challenge that did not fill
 pub data Attempted : Type 0 where

@@ -14,7 +14,7 @@ use Rattle.signature.specs.Keys.{vkSeed, vkVector, publicOf, sharesOf}
 use Rattle.signature.specs.Matrix.{matrix, filled}
 use Rattle.signature.specs.Outcome.{Outcome, signing, refusedOr, firstNo, both, heldOr, written, wiped, setKnown, sharesKnown, foundIn}
 use Rattle.signature.specs.Recover.{muOf}
-use Rattle.signature.specs.Sign.{Public, Coins, signFrom}
+use Rattle.signature.specs.Sign.{Public, publicBy, Coins, signFrom}
 
 -- check 7
 abbrev pub coinsGood : Params → ℕ → Coins → Bool
@@ -25,7 +25,7 @@ abbrev pub callChecks : Params → ℕ → List ℕ → Coins → List ℕ → L
 callChecks p n msg T out work =
     (6, attemptsAllowed n) ∷ (7, coinsGood p n T) ∷ (8, signBuffersSized p out work) ∷ (9, messageSized msg) ∷ []
 
--- 1 to 10, the last of the matrix and of the share seeds
+-- 1 to 10, the last of the matrix and of the share seeds; s is the look-up's answer and p the record found in it
 abbrev pub signChecks : Selected → Params → Key → ℕ → List ℕ → Coins → List ℕ → List ℕ → List (ℕ × Bool)
 signChecks s p key n msg T out work =
     (1, setKnown s)
@@ -35,14 +35,14 @@ signChecks s p key n msg T out work =
     ++ ((10, both (filled (matrix p (vkSeed p (publicOf p key)))) (filled (sharesOf p key))) ∷ [])
 
 abbrev pub publicFor : Params → List ℕ → List ℕ → List ℕ → Public
-publicFor p vk msg A = record { matrix = A; vector = vkVector p vk; mu = muOf p vk msg }
+publicFor p vk msg A = publicBy p vk (muOf p vk msg) A
 
 -- behind them the attempts: 11 within each, 12 where none passes
 abbrev pub attemptsOf : Params → Key → ℕ → List ℕ → Coins → Outcome
 attemptsOf p key n msg T =
     signFrom p (publicFor p (publicOf p key) msg (heldOr (matrix p (vkSeed p (publicOf p key))) [])) T n 0 (heldOr (sharesOf p key) [])
 
--- both
+-- the answer: a refusal, or what the attempts give
 abbrev pub signBy : Selected → Params → Key → ℕ → List ℕ → Coins → List ℕ → List ℕ → Outcome
 signBy s p key n msg T out work = refusedOr (firstNo (signChecks s p key n msg T out work)) (attemptsOf p key n msg T)
 

@@ -29,10 +29,6 @@ signMade p vk msg T n none s = answer 10 0 []
 signMade p vk msg T n (some A) none = answer 10 0 []
 signMade p vk msg T n (some A) (some s) = signFrom p (publicFor p vk msg A) T n 0 s
 
--- what all attempts have, by mu
-abbrev pub publicBy : Params → List ℕ → List ℕ → List ℕ → Public
-publicBy p vk mu A = record { matrix = A; vector = vkVector p vk; mu = mu }
-
 -- what shares the work buffer ys holds behind a response: s refreshed, the shares of z, and those of the last row of w
 pub record Spent (p : Params) (P : Public) (N : Noise) (g : MaskGen) (s ys : List ℕ) : Type 0 where
   pub key : keyIn p ys ≡ refreshedKey p N g (P .matrix) s .shares
@@ -62,5 +58,5 @@ abbrev pub EndedAt : Params → Public → Coins → ℕ → List ℕ → Attemp
 EndedAt p P T i s r xs ys work = EndedAs p P (noiseAt p T i) (maskAt T i) s r xs ys work
 
 -- an answer with what the signature's buffer, out before, holds afterwards
-abbrev pub kept : Outcome → List ℕ → Outcome
-kept A out = answer (A .status) (A .reported) (written (A .status) (A .bytes) out)
+abbrev pub answerIn : Outcome → List ℕ → Outcome
+answerIn A out = answer (A .status) (A .reported) (written (A .status) (A .bytes) out)

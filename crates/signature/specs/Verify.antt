@@ -28,22 +28,15 @@ abbrev pub recomputedFor : Params → List ℕ → List ℕ → Fields → List 
 recomputedFor p vk msg f =
     recomputed p (heldOr (matrix p (vkSeed p vk)) []) (vkVector p vk) (muOf p vk msg) f (heldOr (chalPoly p (f .hash)) [])
 
--- lines 4, 5 and 9
+-- lines 4, 5 and 9, of the fields
 abbrev pub hashChecks : Params → List ℕ → List ℕ → Fields → List (ℕ × Bool)
 hashChecks p vk msg f =
     (10, filled (matrix p (vkSeed p vk))) ∷ (11, filled (chalPoly p (f .hash))) ∷ (16, hashEqual f (recomputedFor p vk msg f)) ∷ []
 
--- the fields, where they can be read; else check 14 is a no, and they are not looked at
+-- the fields that are read; where none can be, check 14 is a no, and these are not looked at
 abbrev pub fieldsIn : Option Fields → Fields
 fieldsIn (some f) = f
 fieldsIn none = record { hash = []; hint = []; response = [] }
-
--- lines 1 and 2, and what follows
-abbrev pub fieldChecks : Params → List ℕ → List ℕ → Fields → List (ℕ × Bool)
-fieldChecks p vk msg f = (15, checkBounds p f) ∷ hashChecks p vk msg f
-
-abbrev pub formChecks : Params → List ℕ → List ℕ → List ℕ → List (ℕ × Bool)
-formChecks p vk msg sig = (14, properForm p sig) ∷ fieldChecks p vk msg (fieldsIn (read p sig))
 
 -- s is the look-up's answer, with any share count, on which no verdict depends; p is the record found in it
 abbrev pub verifyChecks : Selected → Params → List ℕ → List ℕ → List ℕ → List (ℕ × Bool)
@@ -53,7 +46,9 @@ verifyChecks s p vk msg sig =
     ∷ (4, publicKeyGood p vk)
     ∷ (9, messageSized msg)
     ∷ (13, signatureSized p sig)
-    ∷ formChecks p vk msg sig
+    ∷ (14, properForm p sig)
+    ∷ (15, checkBounds p (fieldsIn (read p sig)))
+    ∷ hashChecks p vk msg (fieldsIn (read p sig))
 
 unfoldable pub verifyCall : Edition → ℕ → List ℕ → List ℕ → List ℕ → ℕ
 verifyCall e set vk msg sig =

@@ -11,8 +11,8 @@ ghost use Rattle.sharing.specs.declared.masks.MaskGen.{MaskGen};
 ghost use Rattle.signature.specs.Attempt.{Committed, Answered};
 ghost use Rattle.signature.specs.Challenge.{headed, ordered, challenge, chalHeld};
 ghost use Rattle.signature.specs.Checks.{workWords};
-ghost use Rattle.signature.specs.Keygen.{Small};
 ghost use Rattle.signature.specs.Masked.{Noise};
+ghost use Rattle.signature.specs.Table.{Tabled};
 use crate::challenge::Challenged;
 use crate::challenge::chal_hash;
 use crate::challenge::chal_poly;
@@ -62,7 +62,7 @@ pub(crate) fn answer(
     hash: &mut [u8],
     g: MaskGen,
 ) -> Challenged
-    requires { ⌜ Small p × (length (now work) ≡ workWords p) × Below q (now work) × (length (now hash) ≡ p .kappa / 4) ⌝ }
+    requires { ⌜ Tabled p × (length (now work) ≡ workWords p) × Below q (now work) × (length (now hash) ≡ p .kappa / 4) ⌝ }
     ensures { λ r. ⌜ (length (now (work .exit)) ≡ length (now (work .entry))) × Below q (now (work .exit)) ⌝ }
     ensures { λ r. ⌜ ((N : Noise) (h : MaskGen) (A s : List ℕ) → Committed p N h A s g (now (work .entry)) → Answered p N h A (now (mu .entry)) s r (now (hash .exit)) (now (work .exit))) ⌝ }
 {

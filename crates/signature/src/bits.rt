@@ -3,7 +3,7 @@ ghost use mathlib.Core.Path.{_≡_};
 ghost use Prim.Native.Nat.{_+_, _*_, _%_, _^_, _<_, _≤_};
 ghost use lib.ListN.{length, getD, set, take, drop, replicate};
 ghost use lib.Seq.{sets};
-ghost use Rattle.signature.specs.Bits.{bitsOf, valOf, fields, repack};
+ghost use Rattle.signature.specs.Bits.{bitsOf, valOf, bitString, repack};
 use hash::num::wide;
 
 // The w lowest bits of x, as a number.
@@ -17,7 +17,7 @@ fn low(x: u64, w: usize) -> u64
 // Bit `at`.
 pub(crate) fn get_bit(buf: &[u8], at: usize) -> u64
     requires { ⌜ at < length (now buf) * 8 ⌝ }
-    ensures { λ r. ⌜ r ≡ getD (fields 8 (now (buf .entry))) at 0 ⌝ }
+    ensures { λ r. ⌜ r ≡ getD (bitString 8 (now (buf .entry))) at 0 ⌝ }
     ensures { λ r. ⌜ r < 2 ⌝ }
 {
     (wide(buf[at / 8]) >> (at % 8)) % 2
@@ -27,7 +27,7 @@ pub(crate) fn get_bit(buf: &[u8], at: usize) -> u64
 pub(crate) fn put_bit(buf: &mut [u8], at: usize, b: u64)
     requires { ⌜ at < length (now buf) * 8 ⌝ }
     requires { ⌜ b < 2 ⌝ }
-    ensures { λ _. ⌜ fields 8 (now (buf .exit)) ≡ set (fields 8 (now (buf .entry))) at b ⌝ }
+    ensures { λ _. ⌜ bitString 8 (now (buf .exit)) ≡ set (bitString 8 (now (buf .entry))) at b ⌝ }
 {
     let i = at / 8;
     let k = at % 8;
@@ -40,7 +40,7 @@ pub(crate) fn put_bit(buf: &mut [u8], at: usize, b: u64)
 // The number of the 64 bits from byte i on, of fewer near the end.
 fn word_at(buf: &[u8], i: usize) -> u64
     requires { ⌜ i ≤ length (now buf) ⌝ }
-    ensures { λ r. ⌜ r ≡ valOf (take 64 (drop (i * 8) (fields 8 (now (buf .entry))))) ⌝ }
+    ensures { λ r. ⌜ r ≡ valOf (take 64 (drop (i * 8) (bitString 8 (now (buf .entry))))) ⌝ }
 {
     let n = buf.len() - i;
     if n < 8 {
@@ -53,7 +53,7 @@ fn word_at(buf: &[u8], i: usize) -> u64
 pub(crate) fn get_bits(buf: &[u8], at: usize, w: usize) -> u64
     requires { ⌜ at + w ≤ length (now buf) * 8 ⌝ }
     requires { ⌜ w ≤ 56 ⌝ }
-    ensures { λ r. ⌜ r ≡ valOf (take w (drop at (fields 8 (now (buf .entry))))) ⌝ }
+    ensures { λ r. ⌜ r ≡ valOf (take w (drop at (bitString 8 (now (buf .entry))))) ⌝ }
     ensures { λ r. ⌜ r < 2 ^ w ⌝ }
 {
     low(word_at(buf, at / 8) >> (at % 8), w)
@@ -64,7 +64,7 @@ fn put_slow(buf: &mut [u8], at: usize, v: u64, w: usize)
     requires { ⌜ at + w ≤ length (now buf) * 8 ⌝ }
     requires { ⌜ length (now buf) < 2 ^ 32 ⌝ }
     requires { ⌜ w ≤ 64 ⌝ }
-    ensures { λ _. ⌜ fields 8 (now (buf .exit)) ≡ sets (fields 8 (now (buf .entry))) at (bitsOf w v) ⌝ }
+    ensures { λ _. ⌜ bitString 8 (now (buf .exit)) ≡ sets (bitString 8 (now (buf .entry))) at (bitsOf w v) ⌝ }
 {
     let mut k: usize = 0;
     while k < w {
@@ -87,7 +87,7 @@ pub(crate) fn put_bits(buf: &mut [u8], at: usize, v: u64, w: usize)
     requires { ⌜ at + w ≤ length (now buf) * 8 ⌝ }
     requires { ⌜ length (now buf) < 2 ^ 32 ⌝ }
     requires { ⌜ w ≤ 56 ⌝ }
-    ensures { λ _. ⌜ fields 8 (now (buf .exit)) ≡ sets (fields 8 (now (buf .entry))) at (bitsOf w v) ⌝ }
+    ensures { λ _. ⌜ bitString 8 (now (buf .exit)) ≡ sets (bitString 8 (now (buf .entry))) at (bitsOf w v) ⌝ }
 {
     let i = at / 8;
     if i + 8 <= buf.len() {
@@ -103,7 +103,7 @@ pub(crate) fn put_run(buf: &mut [u8], at: usize, b: u64, n: usize)
     requires { ⌜ at + n ≤ length (now buf) * 8 ⌝ }
     requires { ⌜ length (now buf) < 2 ^ 32 ⌝ }
     requires { ⌜ b < 2 ⌝ }
-    ensures { λ _. ⌜ fields 8 (now (buf .exit)) ≡ sets (fields 8 (now (buf .entry))) at (replicate n b) ⌝ }
+    ensures { λ _. ⌜ bitString 8 (now (buf .exit)) ≡ sets (bitString 8 (now (buf .entry))) at (replicate n b) ⌝ }
 {
     let mut k: usize = 0;
     while k < n {

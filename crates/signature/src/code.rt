@@ -4,7 +4,7 @@ ghost use Prim.Native.Nat.{ℕ, _+_, _*_, _^_, _<_, _≤_};
 ghost use lib.IntN.{pos, natAbs};
 ghost use lib.ListN.{length, getD, drop};
 ghost use lib.Seq.{sets};
-ghost use Rattle.signature.specs.Bits.{fields};
+ghost use Rattle.signature.specs.Bits.{bitString};
 ghost use Rattle.signature.specs.Code.{codeOf, code, codes, codeBits, codesBits, runOf, readCode, readCodes};
 ghost use Rattle.signature.specs.Answers.{gotOf, NextOf};
 use crate::bits;
@@ -60,7 +60,7 @@ fn put_mag(buf: &mut [u8], at: usize, m: u64, s: u64, w: usize) -> usize
     requires { ⌜ w ≤ 40 ⌝ }
     requires { ⌜ s < 2 ⌝ }
     ensures { λ r. ⌜ r ≡ at + length (codeOf w m s) ⌝ }
-    ensures { λ _. ⌜ fields 8 (now (buf .exit)) ≡ sets (fields 8 (now (buf .entry))) at (codeOf w m s) ⌝ }
+    ensures { λ _. ⌜ bitString 8 (now (buf .exit)) ≡ sets (bitString 8 (now (buf .entry))) at (codeOf w m s) ⌝ }
 {
     let n = (m >> w) as usize;
     bits::put_bits(buf, at, m, w);
@@ -82,7 +82,7 @@ pub(crate) fn put_code(buf: &mut [u8], at: usize, z: i64, w: usize) -> usize
     requires { ⌜ length (now buf) < 2 ^ 17 ⌝ }
     requires { ⌜ w ≤ 40 ⌝ }
     ensures { λ r. ⌜ r ≡ at + length (code w z) ⌝ }
-    ensures { λ _. ⌜ fields 8 (now (buf .exit)) ≡ sets (fields 8 (now (buf .entry))) at (code w z) ⌝ }
+    ensures { λ _. ⌜ bitString 8 (now (buf .exit)) ≡ sets (bitString 8 (now (buf .entry))) at (code w z) ⌝ }
 {
     put_mag(buf, at, int::mag(z), int::sign(z), w)
 }
@@ -94,7 +94,7 @@ pub(crate) fn put_codes(buf: &mut [u8], at: usize, zs: &[i64], w: usize) -> usiz
     requires { ⌜ length (now buf) < 2 ^ 17 ⌝ }
     requires { ⌜ w ≤ 40 ⌝ }
     ensures { λ r. ⌜ r ≡ at + length (codes w (now (zs .entry))) ⌝ }
-    ensures { λ _. ⌜ fields 8 (now (buf .exit)) ≡ sets (fields 8 (now (buf .entry))) at (codes w (now (zs .entry))) ⌝ }
+    ensures { λ _. ⌜ bitString 8 (now (buf .exit)) ≡ sets (bitString 8 (now (buf .entry))) at (codes w (now (zs .entry))) ⌝ }
 {
     let mut k = at;
     let mut i: usize = 0;
@@ -109,7 +109,7 @@ pub(crate) fn put_codes(buf: &mut [u8], at: usize, zs: &[i64], w: usize) -> usiz
 fn run(buf: &[u8], at: usize) -> usize
     requires { ⌜ at ≤ length (now buf) * 8 ⌝ }
     requires { ⌜ length (now buf) < 2 ^ 17 ⌝ }
-    ensures { λ r. ⌜ r ≡ runOf (drop at (fields 8 (now (buf .entry)))) ⌝ }
+    ensures { λ r. ⌜ r ≡ runOf (drop at (bitString 8 (now (buf .entry)))) ⌝ }
     ensures { λ r. ⌜ at + r ≤ length (now (buf .entry)) * 8 ⌝ }
 {
     let mut n: usize = 0;
@@ -127,7 +127,7 @@ pub(crate) fn get_code(buf: &[u8], at: usize, w: usize) -> Got
     requires { ⌜ at ≤ length (now buf) * 8 ⌝ }
     requires { ⌜ length (now buf) < 2 ^ 17 ⌝ }
     requires { ⌜ w ≤ 40 ⌝ }
-    ensures { λ r. ⌜ r ≡ gotOf at (readCode w (drop at (fields 8 (now (buf .entry))))) ⌝ }
+    ensures { λ r. ⌜ r ≡ gotOf at (readCode w (drop at (bitString 8 (now (buf .entry))))) ⌝ }
 {
     let end = buf.len() * 8;
     let a = at + w;
@@ -159,7 +159,7 @@ pub(crate) fn get_codes(buf: &[u8], at: usize, w: usize, out: &mut [i64]) -> Nex
     requires { ⌜ at ≤ length (now buf) * 8 ⌝ }
     requires { ⌜ length (now buf) < 2 ^ 17 ⌝ }
     requires { ⌜ w ≤ 40 ⌝ }
-    ensures { λ r. ⌜ NextOf at (readCodes w (length (now (out .entry))) (drop at (fields 8 (now (buf .entry))))) r (now (out .exit)) ⌝ }
+    ensures { λ r. ⌜ NextOf at (readCodes w (length (now (out .entry))) (drop at (bitString 8 (now (buf .entry))))) r (now (out .exit)) ⌝ }
 {
     let mut k = at;
     let mut i: usize = 0;

@@ -12,7 +12,7 @@ ghost use Rattle.sharing.specs.Region.{span, Kept};
 ghost use Rattle.signature.specs.Answers.{fieldsOf, FinishedAs};
 ghost use Rattle.signature.specs.Checks.{workWords};
 ghost use Rattle.signature.specs.Form.{hashBytes};
-ghost use Rattle.signature.specs.Keygen.{atRoom, atS, atT, atX, Small};
+ghost use Rattle.signature.specs.Keygen.{atRoom, atS, atT, atX};
 ghost use Rattle.signature.specs.Keys.{vkVector};
 ghost use Rattle.signature.specs.MaskedSteps.{matrixIn, MatrixHeld};
 ghost use Rattle.signature.specs.Recover.{sub31, centredAll, hintOf, recovered};
@@ -23,12 +23,12 @@ use crate::bits::unpack;
 use crate::bounds::check_bounds;
 use crate::form::bit_count;
 use crate::form::write;
-use crate::int::Q;
 use crate::recover::recover_row;
 use crate::residues::centred_into;
 use crate::residues::hint_into;
 use crate::vector::ntt_to;
 use hash::params::Params;
+use ring::poly::Q;
 use ring::poly::from_signed;
 use ring::poly::ntt;
 use ring::poly::round_w;
@@ -72,7 +72,7 @@ fn hint_rows(
 
 // Lines 17 and 18: the hint.
 fn make_hint(work: &mut [u64], p: Params, vk: &[u8], a: &[u64], c: [i8; 512], hint: &mut [i64])
-    requires { ⌜ Tabled p × Small p × (length (now work) ≡ workWords p) × Below q (now work) × Below 31 (span (now work) (atT (p .l) (p .shares)) (p .k * 512)) ⌝ }
+    requires { ⌜ Tabled p × (length (now work) ≡ workWords p) × Below q (now work) × Below 31 (span (now work) (atT (p .l) (p .shares)) (p .k * 512)) ⌝ }
     requires { ⌜ (length (now vk) ≡ p .«vk_bytes») × Below 125 (vkVector p (now vk)) × MatrixHeld p (now a) × (length (now hint) ≡ p .k * 512) ⌝ }
     ensures { λ _. ⌜ (length (now (work .exit)) ≡ length (now (work .entry))) × Below q (now (work .exit)) × Kept 0 (atRoom (p .shares)) (now (work .entry)) (now (work .exit)) × Kept (atS (p .shares)) (length (now (work .entry))) (now (work .entry)) (now (work .exit)) ⌝ }
     ensures { λ _. ⌜ now (hint .exit) ≡ hintOf (span (now (work .entry)) (atT (p .l) (p .shares)) (p .k * 512)) (recovered p (matrixIn p (now (a .entry))) (span (now (work .entry)) (atX (p .k) (p .l) (p .shares)) (p .l * 512)) (residues q c) (vkVector p (now (vk .entry)))) ⌝ }
@@ -122,7 +122,7 @@ fn finish_with(
     z: &mut [i64],
     out: &mut [u8],
 ) -> bool
-    requires { ⌜ Tabled p × Small p × (length (now work) ≡ workWords p) × Below q (now work) × Below 31 (span (now work) (atT (p .l) (p .shares)) (p .k * 512)) ⌝ }
+    requires { ⌜ Tabled p × (length (now work) ≡ workWords p) × Below q (now work) × Below 31 (span (now work) (atT (p .l) (p .shares)) (p .k * 512)) ⌝ }
     requires { ⌜ (length (now vk) ≡ p .«vk_bytes») × Below 125 (vkVector p (now vk)) × MatrixHeld p (now a) × (length (now hash) ≡ hashBytes p) ⌝ }
     requires { ⌜ (length (now hint) ≡ p .k * 512) × (length (now z) ≡ p .l * 512) × (length (now out) ≡ p .«sig_bytes») ⌝ }
     ensures { λ r. ⌜ (length (now (work .exit)) ≡ length (now (work .entry))) × Below q (now (work .exit)) × Kept 0 (atRoom (p .shares)) (now (work .entry)) (now (work .exit)) × Kept (atS (p .shares)) (length (now (work .entry))) (now (work .entry)) (now (work .exit)) ⌝ }
@@ -148,7 +148,7 @@ pub(crate) fn finish(
     c: [i8; 512],
     out: &mut [u8],
 ) -> bool
-    requires { ⌜ Tabled p × Small p × (length (now work) ≡ workWords p) × Below q (now work) × Below 31 (span (now work) (atT (p .l) (p .shares)) (p .k * 512)) ⌝ }
+    requires { ⌜ Tabled p × (length (now work) ≡ workWords p) × Below q (now work) × Below 31 (span (now work) (atT (p .l) (p .shares)) (p .k * 512)) ⌝ }
     requires { ⌜ (length (now vk) ≡ p .«vk_bytes») × Below 125 (vkVector p (now vk)) × MatrixHeld p (now a) × (length (now hash) ≡ hashBytes p) × (length (now out) ≡ p .«sig_bytes») ⌝ }
     ensures { λ r. ⌜ (length (now (work .exit)) ≡ length (now (work .entry))) × Below q (now (work .exit)) × Kept 0 (atRoom (p .shares)) (now (work .entry)) (now (work .exit)) × Kept (atS (p .shares)) (length (now (work .entry))) (now (work .entry)) (now (work .exit)) ⌝ }
     ensures { λ r. ⌜ ((mu : List ℕ) → FinishedAs (finished p (signedFields p (record { matrix = matrixIn p (now (a .entry)); vector = vkVector p (now (vk .entry)); mu = mu }) (span (now (work .entry)) (atT (p .l) (p .shares)) (p .k * 512)) (now (hash .entry)) (span (now (work .entry)) (atX (p .k) (p .l) (p .shares)) (p .l * 512)) c)) r (now (out .entry)) (now (out .exit))) ⌝ }

@@ -4,7 +4,7 @@ ghost use mathlib.Core.List.{_++_};
 ghost use Prim.Native.Nat.{ℕ, _+_, _-_, _*_, _^_, _<_, _≤_};
 ghost use lib.IntN.{pos, natAbs};
 ghost use lib.ListN.{length, getD, drop, replicate};
-ghost use Rattle.signature.specs.Bits.{fields, chop};
+ghost use Rattle.signature.specs.Bits.{bitString, chop};
 ghost use Rattle.signature.specs.Code.{codesBits};
 ghost use Rattle.signature.specs.Form.{formBits, bitCount};
 ghost use Rattle.signature.specs.Answers.{fieldsOf, allZero, parsed, ReadOf};
@@ -56,7 +56,7 @@ pub(crate) fn write(hash: &[u8], hint: &[i64], response: &[i64], out: &mut [u8])
 // Whether every bit from `at` on is 0.
 fn zeros(buf: &[u8], at: usize) -> bool
     requires { ⌜ length (now buf) < 2 ^ 17 ⌝ }
-    ensures { λ r. ⌜ r ≡ allZero (drop at (fields 8 (now (buf .entry)))) ⌝ }
+    ensures { λ r. ⌜ r ≡ allZero (drop at (bitString 8 (now (buf .entry)))) ⌝ }
 {
     let mut k = at;
     while k < buf.len() * 8 {
@@ -72,7 +72,7 @@ fn zeros(buf: &[u8], at: usize) -> bool
 pub(crate) fn read(sig: &[u8], hash_bytes: usize, hint: &mut [i64], response: &mut [i64]) -> bool
     requires { ⌜ «hash_bytes» ≤ length (now sig) ⌝ }
     requires { ⌜ length (now sig) < 2 ^ 17 ⌝ }
-    ensures { λ r. ⌜ ReadOf (parsed (length (now (hint .entry))) (length (now (response .entry))) (drop (8 * «hash_bytes») (fields 8 (now (sig .entry))))) r (now (hint .exit)) (now (response .exit)) ⌝ }
+    ensures { λ r. ⌜ ReadOf (parsed (length (now (hint .entry))) (length (now (response .entry))) (drop (8 * «hash_bytes») (bitString 8 (now (sig .entry))))) r (now (hint .exit)) (now (response .exit)) ⌝ }
 {
     let Next::At(a) = code::get_codes(sig, 8 * hash_bytes, 0, hint) else {
         return false;

@@ -5,9 +5,6 @@ ghost use lib.IntN.{natAbs};
 ghost use Rattle.ring.specs.Round.{residue};
 ghost use Rattle.signature.specs.Code.{negOf, signedOf};
 
-// The modulus q (000, Tables 2 to 4).
-pub(crate) const Q: u64 = 549824583172097;
-
 // The absolute value.
 pub(crate) fn mag(z: i64) -> u64
     requires { ⌜ natAbs z < 2 ^ 63 ⌝ }

@@ -7,12 +7,12 @@ ghost use lib.ListN.{length, take, drop};
 ghost use Rattle.ring.specs.Words.{q, allBelow};
 ghost use Rattle.signature.specs.Bits.{repack};
 ghost use Rattle.signature.specs.Checks.{firstNo, both, workWords, keygenSeedsSized, keygenBuffersSized, keyChecks};
-ghost use Rattle.signature.specs.Expanding.{Listed, partBytes};
+ghost use Rattle.signature.specs.Expanding.{partBytes};
 ghost use Rattle.signature.specs.Keys.{packed, expanded, fullShare, keygenBytes};
-ghost use Rattle.signature.specs.KeySizes.{Ranges};
+ghost use Rattle.signature.specs.Table.{Tabled};
 use crate::bits::unpack;
-use crate::int::Q;
 use hash::params::Params;
+use ring::poly::Q;
 use ring::poly::all_below;
 
 // Checks 3 and 8, of an expanded key: are there vk bytes and n words?
@@ -39,7 +39,7 @@ pub(crate) fn public_key_good(key: &[u8], n: usize, k: usize) -> bool
 
 // The full share, 49 bits a coefficient behind the seeds.
 pub(crate) fn full_share(p: Params, part: &[u8], out: &mut [u64])
-    requires { ⌜ Listed p × (length (now part) ≡ partBytes p) × (length (now out) ≡ p .l * 512) ⌝ }
+    requires { ⌜ Tabled p × (length (now part) ≡ partBytes p) × (length (now out) ≡ p .l * 512) ⌝ }
     ensures { λ _. ⌜ now (out .exit) ≡ fullShare p (now (part .entry)) ⌝ }
 {
     let a = (p.shares - 1) * (p.kappa / 8);
@@ -48,7 +48,7 @@ pub(crate) fn full_share(p: Params, part: &[u8], out: &mut [u64])
 
 // Check 5: are the words of the full share below q?
 pub(crate) fn full_share_good(p: Params, part: &[u8]) -> bool
-    requires { ⌜ Listed p × (length (now part) ≡ partBytes p) ⌝ }
+    requires { ⌜ Tabled p × (length (now part) ≡ partBytes p) ⌝ }
     ensures { λ r. ⌜ r ≡ allBelow q (fullShare p (now (part .entry))) ⌝ }
 {
     let mut full = [0u64; 3584];
@@ -59,7 +59,7 @@ pub(crate) fn full_share_good(p: Params, part: &[u8]) -> bool
 
 // Checks 3 to 5 of a signing key: the number of the first no, or 0.
 pub(crate) fn packed_no(p: Params, key: &[u8]) -> u32
-    requires { ⌜ Listed p ⌝ }
+    requires { ⌜ Tabled p ⌝ }
     ensures { λ r. ⌜ r ≡ firstNo (keyChecks p (packed (now (key .entry)))) ⌝ }
 {
     let vk = p.vk_bytes;
@@ -77,7 +77,7 @@ pub(crate) fn packed_no(p: Params, key: &[u8]) -> u32
 
 // .. of an expanded key.
 pub(crate) fn expanded_no(p: Params, key: &[u8], words: &[u64]) -> u32
-    requires { ⌜ Listed p ⌝ }
+    requires { ⌜ Tabled p ⌝ }
     ensures { λ r. ⌜ r ≡ firstNo (keyChecks p (expanded (record { vk = now (key .entry); words = now (words .entry) }))) ⌝ }
 {
     let n = p.l * (p.shares * 512);
@@ -95,7 +95,7 @@ pub(crate) fn expanded_no(p: Params, key: &[u8], words: &[u64]) -> u32
 
 // The bytes that key generation is lent: matrix seed, noise seeds, share seeds.
 pub(crate) fn keygen_bytes(p: Params) -> usize
-    requires { ⌜ Ranges p ⌝ }
+    requires { ⌜ Tabled p ⌝ }
     ensures { λ r. ⌜ r ≡ keygenBytes p ⌝ }
 {
     let n = p.kappa / 8;
@@ -104,7 +104,7 @@ pub(crate) fn keygen_bytes(p: Params) -> usize
 
 // The words of the work buffer: 512 (2 l d + 4 d + 2 k + 8).
 pub(crate) fn work_words(p: Params) -> usize
-    requires { ⌜ Ranges p ⌝ }
+    requires { ⌜ Tabled p ⌝ }
     ensures { λ r. ⌜ r ≡ workWords p ⌝ }
 {
     512 * (2 * p.l * p.shares + 4 * p.shares + 2 * p.k + 8)
@@ -112,7 +112,7 @@ pub(crate) fn work_words(p: Params) -> usize
 
 // The first no of key generation behind the look-up, but check 10, or 0.
 pub(crate) fn keygen_no(p: Params, seeds: &[u8], mask_seed: &[u8], out: &[u8], work: &[u64]) -> u32
-    requires { ⌜ Ranges p ⌝ }
+    requires { ⌜ Tabled p ⌝ }
     ensures { λ r. ⌜ r ≡ firstNo ((7, keygenSeedsSized p (now (seeds .entry)) (now («mask_seed» .entry))) ∷ (8, keygenBuffersSized p (now (out .entry)) (now (work .entry))) ∷ []) ⌝ }
 {
     if seeds.len() != keygen_bytes(p) {

@@ -10,12 +10,13 @@ ghost use Rattle.sharing.specs.Encoding.{skip, addNoise};
 ghost use Rattle.sharing.specs.Masks.{masks, maskStart};
 ghost use Rattle.sharing.specs.Noise.{seedNoise, noiseBytes};
 ghost use Rattle.signature.specs.Checks.{firstNo, both, workWords};
-ghost use Rattle.signature.specs.Keygen.{Small, Rounded, Generated, keyOf};
+ghost use Rattle.signature.specs.Keygen.{Rounded, Generated, keyOf};
 ghost use Rattle.signature.specs.KeyCalls.{keygenLeaves, keygenCall};
 ghost use Rattle.signature.specs.Keys.{vkSeed, noisePart, sharePart, keygenBytes, keyShares, compressed, keygenOf};
 ghost use Rattle.signature.specs.MaskedSteps.{MatrixHeld, rowsOf};
 ghost use Rattle.signature.specs.Matrix.{matrix, filled};
 ghost use Rattle.signature.specs.Outcome.{outcome};
+ghost use Rattle.signature.specs.Table.{Tabled};
 use crate::compress::compress_vector;
 use crate::keycheck::keygen_no;
 use crate::keyform::write_key;
@@ -41,7 +42,7 @@ fn public_vector(
     seeds: &[u8],
     g: MaskGen,
 ) -> MaskGen
-    requires { ⌜ Small p × (p .k * p .rep * p .shares * (p .kappa / 8) ≤ length (now seeds)) × MatrixHeld p (now a) ⌝ }
+    requires { ⌜ Tabled p × (p .k * p .rep * p .shares * (p .kappa / 8) ≤ length (now seeds)) × MatrixHeld p (now a) ⌝ }
     requires { ⌜ (p .shares * 512 + p .shares * 512 ≤ at) × (at + p .l * (p .shares * 512) ≤ to) × (to + p .k * 512 ≤ length (now s)) × Below q (now s) ⌝ }
     ensures { λ r. ⌜ Rounded p to (addNoise masks (p .shares) g (p .k) (p .rep) (seedNoise (p .shares) (p .rep) (p .ut) (p .kappa / 8) (now (seeds .entry))) (rowsOf (p .shares) (p .k) (p .l) (now (a .entry)) (span (now (s .entry)) at (p .l * (p .shares * 512))))) (now (s .entry)) (now (s .exit)) × (r ≡ skip masks (p .shares) (p .k * p .rep) g) ⌝ }
 {
@@ -62,7 +63,7 @@ fn make_parts(
     shares: &[u8],
     mask_seed: &[u8],
 ) -> bool
-    requires { ⌜ Small p × (length (now work) ≡ workWords p) × (length (now coins) ≡ noiseBytes p) × (length (now shares) ≡ (p .shares - 1) * (p .kappa / 8)) ⌝ }
+    requires { ⌜ Tabled p × (length (now work) ≡ workWords p) × (length (now coins) ≡ noiseBytes p) × (length (now shares) ≡ (p .shares - 1) * (p .kappa / 8)) ⌝ }
     ensures { λ r. ⌜ (r ≡ both (filled (matrix p (now (seed .entry)))) (filled (compressed p (now (shares .entry)) (keyShares p (now (coins .entry)) (maskStart (now («mask_seed» .entry))))))) × (length (now (work .exit)) ≡ length (now (work .entry))) × Below q (now (work .exit)) ⌝ }
     ensures { λ r. ⌜ ((A x : List ℕ) → matrix p (now (seed .entry)) ≡ some A → compressed p (now (shares .entry)) (keyShares p (now (coins .entry)) (maskStart (now («mask_seed» .entry)))) ≡ some x → Generated p (now (coins .entry)) (maskStart (now («mask_seed» .entry))) A x (now (work .exit))) ⌝ }
 {
@@ -89,7 +90,7 @@ fn make_parts(
 
 // Lines 2 to 8 and the compression. Lent are the matrix seed, the noise seeds (01: noise tape) and d - 1 share seeds, one behind the other.
 pub(crate) fn make_key(work: &mut [u64], p: Params, seeds: &[u8], mask_seed: &[u8]) -> bool
-    requires { ⌜ Small p × (length (now work) ≡ workWords p) × (length (now seeds) ≡ keygenBytes p) ⌝ }
+    requires { ⌜ Tabled p × (length (now work) ≡ workWords p) × (length (now seeds) ≡ keygenBytes p) ⌝ }
     ensures { λ r. ⌜ (r ≡ both (filled (matrix p (vkSeed p (now (seeds .entry))))) (filled (compressed p (sharePart p (now (seeds .entry))) (keyShares p (noisePart p (now (seeds .entry))) (maskStart (now («mask_seed» .entry))))))) × (length (now (work .exit)) ≡ length (now (work .entry))) × Below q (now (work .exit)) ⌝ }
     ensures { λ r. ⌜ ((A x : List ℕ) → matrix p (vkSeed p (now (seeds .entry))) ≡ some A → compressed p (sharePart p (now (seeds .entry))) (keyShares p (noisePart p (now (seeds .entry))) (maskStart (now («mask_seed» .entry)))) ≡ some x → Generated p (noisePart p (now (seeds .entry))) (maskStart (now («mask_seed» .entry))) A x (now (work .exit))) ⌝ }
 {
@@ -104,7 +105,7 @@ pub(crate) fn make_key(work: &mut [u64], p: Params, seeds: &[u8], mask_seed: &[u
 
 // The signing key of the parts that make_key left in the work buffer.
 fn write_made(work: &[u64], p: Params, seeds: &[u8], out: &mut [u8])
-    requires { ⌜ Small p × (length (now work) ≡ workWords p) × (length (now seeds) ≡ keygenBytes p) ⌝ }
+    requires { ⌜ Tabled p × (length (now work) ≡ workWords p) × (length (now seeds) ≡ keygenBytes p) ⌝ }
     requires { ⌜ length (now out) ≡ p .kappa / 8 + p .k * 448 + ((p .shares - 1) * (p .kappa / 8) + p .l * 3136) ⌝ }
     ensures { λ _. ⌜ now (out .exit) ≡ keyOf p (now (seeds .entry)) (now (work .entry)) ⌝ }
 {
@@ -130,7 +131,7 @@ fn write_made(work: &[u64], p: Params, seeds: &[u8], out: &mut [u8])
 
 // Key generation behind its checks: the key, or 10. The work buffer is zero afterwards.
 fn generate(p: Params, seeds: &[u8], mask_seed: &[u8], out: &mut [u8], work: &mut [u64]) -> u32
-    requires { ⌜ Small p × (length (now work) ≡ workWords p) × (length (now seeds) ≡ keygenBytes p) ⌝ }
+    requires { ⌜ Tabled p × (length (now work) ≡ workWords p) × (length (now seeds) ≡ keygenBytes p) ⌝ }
     requires { ⌜ length (now out) ≡ p .kappa / 8 + p .k * 448 + ((p .shares - 1) * (p .kappa / 8) + p .l * 3136) ⌝ }
     ensures { λ r. ⌜ outcome r (now (out .exit)) (now (work .exit)) ≡ keygenLeaves (firstNo ((10, filled (keygenOf p (now (seeds .entry)) (now («mask_seed» .entry)))) ∷ [])) p (now (seeds .entry)) (now («mask_seed» .entry)) (now (out .entry)) (now (work .entry)) ⌝ }
 {

@@ -14,9 +14,10 @@ ghost use Rattle.sharing.specs.Masks.{masks, maskStart};
 ghost use Rattle.signature.specs.Checks.{firstNo, maskSeedSized, expandedKeySized, keyChecks};
 ghost use Rattle.signature.specs.Matrix.{buildAll, filled};
 ghost use Rattle.signature.specs.Keys.{packed, expanded, fullShare, seededShare, shareAt, decompressed, expandOf, expandedOf};
-ghost use Rattle.signature.specs.Expanding.{Listed, partBytes, expandedAt, expandedShares};
+ghost use Rattle.signature.specs.Expanding.{partBytes, expandedAt, expandedShares};
 ghost use Rattle.signature.specs.KeyCalls.{keyLeaves, expandCall, refreshCall};
 ghost use Rattle.signature.specs.Outcome.{outcome};
+ghost use Rattle.signature.specs.Table.{Tabled};
 use crate::compress::seeded_share;
 use crate::keycheck::expanded_no;
 use crate::keycheck::full_share;
@@ -57,7 +58,7 @@ fn refresh_no(
     bytes_out: &[u8],
     words_out: &[u64],
 ) -> u32
-    requires { ⌜ Listed p ⌝ }
+    requires { ⌜ Tabled p ⌝ }
     ensures { λ r. ⌜ r ≡ firstNo (keyChecks p (expanded (record { vk = now (bytes .entry); words = now (words .entry) })) ++ ((7, maskSeedSized (now («mask_seed» .entry))) ∷ (8, expandedKeySized p (now («bytes_out» .entry)) (now («words_out» .entry))) ∷ [])) ⌝ }
 {
     let k = expanded_no(p, bytes, words);
@@ -135,7 +136,7 @@ pub fn refresh_key(
 
 // Share i, from 1, of polynomial j, expanded from its seed.
 fn seeded_at(p: Params, part: &[u8], j: usize, i: usize) -> Sampled
-    requires { ⌜ Listed p × (length (now part) ≡ partBytes p) × (j < p .l) × (1 ≤ i) × (i < p .shares) ⌝ }
+    requires { ⌜ Tabled p × (length (now part) ≡ partBytes p) × (j < p .l) × (1 ≤ i) × (i < p .shares) ⌝ }
     ensures { λ r. ⌜ (r ≡ heldOf (seededShare p (now (part .entry)) j i)) × Words 512 (r .poly) ⌝ }
 {
     let edition = p.edition;
@@ -144,7 +145,7 @@ fn seeded_at(p: Params, part: &[u8], j: usize, i: usize) -> Sampled
 
 // Check 10 for polynomial j: do all of its seeded shares fill?
 fn polynomial_fills(p: Params, part: &[u8], j: usize) -> bool
-    requires { ⌜ Listed p × (length (now part) ≡ partBytes p) × (j < p .l) ⌝ }
+    requires { ⌜ Tabled p × (length (now part) ≡ partBytes p) × (j < p .l) ⌝ }
     ensures { λ r. ⌜ r ≡ filled (buildAll (p .shares) (shareAt p (now (part .entry)) j)) ⌝ }
 {
     let d = p.shares;
@@ -159,7 +160,7 @@ fn polynomial_fills(p: Params, part: &[u8], j: usize) -> bool
 
 // Check 10: do all seeded shares fill?
 pub(crate) fn shares_fill(p: Params, part: &[u8]) -> bool
-    requires { ⌜ Listed p × (length (now part) ≡ partBytes p) ⌝ }
+    requires { ⌜ Tabled p × (length (now part) ≡ partBytes p) ⌝ }
     ensures { λ r. ⌜ r ≡ filled (decompressed p (now (part .entry))) ⌝ }
 {
     let l = p.l;
@@ -173,7 +174,7 @@ pub(crate) fn shares_fill(p: Params, part: &[u8]) -> bool
 
 // Share i of polynomial j: the full one is share 0.
 fn share_at(p: Params, part: &[u8], full: &[u64], j: usize, i: usize) -> [u64; 512]
-    requires { ⌜ Listed p × (length (now part) ≡ partBytes p) × (j < p .l) × (i < p .shares) ⌝ }
+    requires { ⌜ Tabled p × (length (now part) ≡ partBytes p) × (j < p .l) × (i < p .shares) ⌝ }
     requires { ⌜ (now full ≡ fullShare p (now part)) × Words (p .l * 512) (now full) ⌝ }
     ensures { λ r. ⌜ (r ≡ expandedAt p (now (part .entry)) j i) × Words 512 r ⌝ }
 {
@@ -186,7 +187,7 @@ fn share_at(p: Params, part: &[u8], full: &[u64], j: usize, i: usize) -> [u64; 5
 
 // The shares of polynomial j (000, Algorithm 15).
 fn decompress_polynomial(p: Params, part: &[u8], full: &[u64], j: usize, out: &mut [u64])
-    requires { ⌜ Listed p × (length (now part) ≡ partBytes p) × (j < p .l) ⌝ }
+    requires { ⌜ Tabled p × (length (now part) ≡ partBytes p) × (j < p .l) ⌝ }
     requires { ⌜ (now full ≡ fullShare p (now part)) × Words (p .l * 512) (now full) × Words (p .l * (p .shares * 512)) (now out) ⌝ }
     ensures { λ _. ⌜ Wrote 0 (j * (p .shares * 512)) (p .shares * 512) (build (p .shares) (expandedAt p (now (part .entry)) j)) (now (out .entry)) (now (out .exit)) ⌝ }
 {
@@ -199,7 +200,7 @@ fn decompress_polynomial(p: Params, part: &[u8], full: &[u64], j: usize, out: &m
 
 // .. of all polynomials, over words that are zero.
 fn decompress_all(p: Params, part: &[u8], full: &[u64], out: &mut [u64])
-    requires { ⌜ Listed p × (length (now part) ≡ partBytes p) ⌝ }
+    requires { ⌜ Tabled p × (length (now part) ≡ partBytes p) ⌝ }
     requires { ⌜ (now full ≡ fullShare p (now part)) × Words (p .l * 512) (now full) × (length (now out) ≡ p .l * (p .shares * 512)) ⌝ }
     ensures { λ _. ⌜ now (out .exit) ≡ expandedShares p (now (part .entry)) ⌝ }
 {
@@ -212,7 +213,7 @@ fn decompress_all(p: Params, part: &[u8], full: &[u64], out: &mut [u64])
 
 // MaskDecompress (000, Algorithm 15), where all seeded shares fill.
 pub(crate) fn decompress_shares(p: Params, part: &[u8], out: &mut [u64])
-    requires { ⌜ Listed p × (length (now part) ≡ partBytes p) ⌝ }
+    requires { ⌜ Tabled p × (length (now part) ≡ partBytes p) ⌝ }
     requires { ⌜ (length (now out) ≡ p .l * (p .shares * 512)) × Below q (fullShare p (now part)) ⌝ }
     ensures { λ _. ⌜ now (out .exit) ≡ expandedShares p (now (part .entry)) ⌝ }
 {
@@ -224,7 +225,7 @@ pub(crate) fn decompress_shares(p: Params, part: &[u8], out: &mut [u64])
 
 // The first no of expanding behind the look-up, but check 10, or 0.
 fn expand_no(p: Params, key: &[u8], bytes_out: &[u8], words_out: &[u64]) -> u32
-    requires { ⌜ Listed p ⌝ }
+    requires { ⌜ Tabled p ⌝ }
     ensures { λ r. ⌜ r ≡ firstNo (keyChecks p (packed (now (key .entry))) ++ ((8, expandedKeySized p (now («bytes_out» .entry)) (now («words_out» .entry))) ∷ [])) ⌝ }
 {
     let k = packed_no(p, key);
@@ -239,7 +240,7 @@ fn expand_no(p: Params, key: &[u8], bytes_out: &[u8], words_out: &[u64]) -> u32
 
 // Check 10, before anything is written; then the results of expanding: the public key's bytes, and the words of all shares.
 fn expand_found(p: Params, key: &[u8], bytes_out: &mut [u8], words_out: &mut [u64]) -> u32
-    requires { ⌜ Listed p × (length (now key) ≡ p .«sk_bytes») × Below q (fullShare p (drop (p .«vk_bytes») (now key))) ⌝ }
+    requires { ⌜ Tabled p × (length (now key) ≡ p .«sk_bytes») × Below q (fullShare p (drop (p .«vk_bytes») (now key))) ⌝ }
     requires { ⌜ (length (now «bytes_out») ≡ p .«vk_bytes») × (length (now «words_out») ≡ p .l * (p .shares * 512)) ⌝ }
     ensures { λ r. ⌜ outcome r (now («bytes_out» .exit)) (now («words_out» .exit)) ≡ keyLeaves (firstNo ((10, filled (expandOf p (now (key .entry)))) ∷ [])) (expandedOf p (now (key .entry))) (now («bytes_out» .entry)) (now («words_out» .entry)) ⌝ }
 {

@@ -12,7 +12,8 @@ ghost use Rattle.signature.specs.Checks.{workWords, keySized, sharesGood
 ghost use Rattle.signature.specs.Keygen.{atS};
 ghost use Rattle.signature.specs.Keys.{fullShare, decompressed, sharesOf};
 ghost use Rattle.signature.specs.Matrix.{filled};
-ghost use Rattle.signature.specs.Expanding.{Listed, partBytes};
+ghost use Rattle.signature.specs.Expanding.{partBytes};
+ghost use Rattle.signature.specs.Table.{Tabled};
 use crate::keys::decompress_shares;
 use crate::keys::shares_fill;
 use hash::params::Params;
@@ -30,7 +31,7 @@ fn load_words(s: &mut [u64], at: usize, words: &[u64])
 
 // The shares of a signing key at `at`; lent is the part behind the public key. False where a share seed does not fill (check 10).
 fn load_part(s: &mut [u64], at: usize, p: Params, part: &[u8]) -> bool
-    requires { ⌜ Listed p × (length (now part) ≡ partBytes p) × Below q (fullShare p (now part)) ⌝ }
+    requires { ⌜ Tabled p × (length (now part) ≡ partBytes p) × Below q (fullShare p (now part)) ⌝ }
     requires { ⌜ (at + p .l * (p .shares * 512) ≤ length (now s)) × Below q (now s) ⌝ }
     ensures { λ r. ⌜ (r ≡ filled (decompressed p (now (part .entry)))) × (length (now (s .exit)) ≡ length (now (s .entry))) × Below q (now (s .exit)) ⌝ }
     ensures { λ r. ⌜ ((X : List ℕ) → decompressed p (now (part .entry)) ≡ some X → Wrote 0 at (p .l * (p .shares * 512)) X (now (s .entry)) (now (s .exit))) ⌝ }
@@ -52,7 +53,7 @@ pub(crate) fn load_shares(
     key: &[u8],
     words: &[u64],
 ) -> bool
-    requires { ⌜ Listed p × (length (now work) ≡ workWords p) ⌝ }
+    requires { ⌜ Tabled p × (length (now work) ≡ workWords p) ⌝ }
     requires { ⌜ (keySized p (keyFrom packed (now key) (now words)) ≡ true) × (sharesGood p (keyFrom packed (now key) (now words)) ≡ true) ⌝ }
     ensures { λ r. ⌜ (r ≡ filled (sharesOf p (keyFrom packed (now (key .entry)) (now (words .entry))))) × (length (now (work .exit)) ≡ length (now (work .entry))) × Below q (now (work .exit)) ⌝ }
     ensures { λ r. ⌜ ((X : List ℕ) → sharesOf p (keyFrom packed (now (key .entry)) (now (words .entry))) ≡ some X → span (now (work .exit)) (atS (p .shares)) (p .l * (p .shares * 512)) ≡ X) ⌝ }

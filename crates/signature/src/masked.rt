@@ -10,8 +10,8 @@ ghost use Rattle.sharing.specs.Region.{span, Wrote};
 ghost use Rattle.sharing.specs.Encoding.{skip, addNoise};
 ghost use Rattle.sharing.specs.Masks.{masks};
 ghost use Rattle.sharing.specs.Noise.{seedNoise, explicitNoise};
-ghost use Rattle.signature.specs.Keygen.{Small};
 ghost use Rattle.signature.specs.MaskedSteps.{MatrixHeld, accrued, rowSum, rowShare, noisedRow, rowsOf, Summed, SummedAll};
+ghost use Rattle.signature.specs.Table.{Tabled};
 use crate::vector::intt_vector;
 use hash::params::Params;
 use ring::poly::mul_add;
@@ -81,7 +81,7 @@ fn image_row_seeds(
     seeds: &[u8],
     g: MaskGen,
 ) -> MaskGen
-    requires { ⌜ Small p × (i < 256) × (1 ≤ u) × (u ≤ 48) × ((i * p .rep + p .rep) * p .shares * (p .kappa / 8) ≤ length (now seeds)) × (i * (p .l * 512) + p .l * 512 ≤ length (now a)) × Below q (now a) ⌝ }
+    requires { ⌜ Tabled p × (i < 256) × (1 ≤ u) × (u ≤ 48) × ((i * p .rep + p .rep) * p .shares * (p .kappa / 8) ≤ length (now seeds)) × (i * (p .l * 512) + p .l * 512 ≤ length (now a)) × Below q (now a) ⌝ }
     requires { ⌜ (p .shares * 512 ≤ row) × (row + p .shares * 512 ≤ at) × (at + p .l * (p .shares * 512) ≤ to) × (to + 512 ≤ length (now s)) × Below q (now s) ⌝ }
     ensures { λ r. ⌜ Summed (p .shares) row to (noisedRow (p .shares) (p .l) g (p .rep) (seedNoise (p .shares) (p .rep) u (p .kappa / 8) (now (seeds .entry)) i) (block (p .l * 512) i (now (a .entry))) (span (now (s .entry)) at (p .l * (p .shares * 512)))) (now (s .entry)) (now (s .exit)) × (r ≡ skip masks (p .shares) (p .rep) g) ⌝ }
 {
@@ -106,7 +106,7 @@ pub(crate) fn image_seeds(
     seeds: &[u8],
     g: MaskGen,
 ) -> MaskGen
-    requires { ⌜ Small p × (1 ≤ u) × (u ≤ 48) × (p .k * p .rep * p .shares * (p .kappa / 8) ≤ length (now seeds)) × MatrixHeld p (now a) ⌝ }
+    requires { ⌜ Tabled p × (1 ≤ u) × (u ≤ 48) × (p .k * p .rep * p .shares * (p .kappa / 8) ≤ length (now seeds)) × MatrixHeld p (now a) ⌝ }
     requires { ⌜ (p .shares * 512 ≤ row) × (row + p .shares * 512 ≤ at) × (at + p .l * (p .shares * 512) ≤ to) × (to + p .k * 512 ≤ length (now s)) × Below q (now s) ⌝ }
     ensures { λ r. ⌜ SummedAll (p .shares) (p .k) row to (addNoise masks (p .shares) g (p .k) (p .rep) (seedNoise (p .shares) (p .rep) u (p .kappa / 8) (now (seeds .entry))) (rowsOf (p .shares) (p .k) (p .l) (now (a .entry)) (span (now (s .entry)) at (p .l * (p .shares * 512))))) (now (s .entry)) (now (s .exit)) × (r ≡ skip masks (p .shares) (p .k * p .rep) g) ⌝ }
 {
@@ -131,7 +131,7 @@ fn image_row_explicit(
     words: &[u64],
     g: MaskGen,
 ) -> MaskGen
-    requires { ⌜ Small p × (i < 256) × (i * (p .shares * 512) + p .shares * 512 ≤ length (now words)) × Below q (now words) × (i * (p .l * 512) + p .l * 512 ≤ length (now a)) × Below q (now a) ⌝ }
+    requires { ⌜ Tabled p × (i < 256) × (i * (p .shares * 512) + p .shares * 512 ≤ length (now words)) × Below q (now words) × (i * (p .l * 512) + p .l * 512 ≤ length (now a)) × Below q (now a) ⌝ }
     requires { ⌜ (p .shares * 512 ≤ row) × (row + p .shares * 512 ≤ at) × (at + p .l * (p .shares * 512) ≤ to) × (to + 512 ≤ length (now s)) × Below q (now s) ⌝ }
     ensures { λ r. ⌜ Summed (p .shares) row to (noisedRow (p .shares) (p .l) g 1 (explicitNoise (p .shares) (now (words .entry)) i) (block (p .l * 512) i (now (a .entry))) (span (now (s .entry)) at (p .l * (p .shares * 512)))) (now (s .entry)) (now (s .exit)) × (r ≡ skip masks (p .shares) 1 g) ⌝ }
 {
@@ -154,7 +154,7 @@ pub(crate) fn image_explicit(
     words: &[u64],
     g: MaskGen,
 ) -> MaskGen
-    requires { ⌜ Small p × (p .k * (p .shares * 512) ≤ length (now words)) × Below q (now words) × MatrixHeld p (now a) ⌝ }
+    requires { ⌜ Tabled p × (p .k * (p .shares * 512) ≤ length (now words)) × Below q (now words) × MatrixHeld p (now a) ⌝ }
     requires { ⌜ (p .shares * 512 ≤ row) × (row + p .shares * 512 ≤ at) × (at + p .l * (p .shares * 512) ≤ to) × (to + p .k * 512 ≤ length (now s)) × Below q (now s) ⌝ }
     ensures { λ r. ⌜ SummedAll (p .shares) (p .k) row to (addNoise masks (p .shares) g (p .k) 1 (explicitNoise (p .shares) (now (words .entry))) (rowsOf (p .shares) (p .k) (p .l) (now (a .entry)) (span (now (s .entry)) at (p .l * (p .shares * 512))))) (now (s .entry)) (now (s .exit)) × (r ≡ skip masks (p .shares) (p .k * 1) g) ⌝ }
 {

@@ -4,9 +4,9 @@ ghost use Prim.Native.Nat.{_+_, _*_, _/_, _≤_};
 ghost use lib.ListN.{length};
 ghost use Rattle.ring.specs.Words.{q, Below};
 ghost use Rattle.sharing.specs.Region.{Wrote};
-ghost use Rattle.signature.specs.Keygen.{Small};
 ghost use Rattle.signature.specs.Masked.{seeded, explicit, maskedNoise};
 ghost use Rattle.signature.specs.MaskedSteps.{transformed};
+ghost use Rattle.signature.specs.Table.{Tabled};
 use crate::vector::ntt_vector;
 use hash::params::Params;
 use sharing::encoding::zero_vector;
@@ -23,7 +23,7 @@ pub(crate) fn noise_seeds(
     seeds: &[u8],
     g: MaskGen,
 ) -> MaskGen
-    requires { ⌜ Small p × (1 ≤ u) × (u ≤ 48) × (p .l * p .rep * p .shares * (p .kappa / 8) ≤ length (now seeds)) ⌝ }
+    requires { ⌜ Tabled p × (1 ≤ u) × (u ≤ 48) × (p .l * p .rep * p .shares * (p .kappa / 8) ≤ length (now seeds)) ⌝ }
     requires { ⌜ (p .shares * 512 ≤ at) × (at + p .l * (p .shares * 512) ≤ length (now s)) × Below q (now s) ⌝ }
     ensures { λ r. ⌜ Wrote (p .shares * 512) at (p .l * (p .shares * 512)) (transformed (p .l * p .shares) (maskedNoise p (seeded p u (now (seeds .entry))) g .shares)) (now (s .entry)) (now (s .exit)) × (r ≡ maskedNoise p (seeded p u (now (seeds .entry))) g .next) ⌝ }
 {
@@ -43,7 +43,7 @@ pub(crate) fn noise_explicit(
     words: &[u64],
     g: MaskGen,
 ) -> MaskGen
-    requires { ⌜ Small p × (p .l * (p .shares * 512) ≤ length (now words)) × Below q (now words) ⌝ }
+    requires { ⌜ Tabled p × (p .l * (p .shares * 512) ≤ length (now words)) × Below q (now words) ⌝ }
     requires { ⌜ (p .shares * 512 ≤ at) × (at + p .l * (p .shares * 512) ≤ length (now s)) × Below q (now s) ⌝ }
     ensures { λ r. ⌜ Wrote (p .shares * 512) at (p .l * (p .shares * 512)) (transformed (p .l * p .shares) (maskedNoise p (explicit p (now (words .entry))) g .shares)) (now (s .entry)) (now (s .exit)) × (r ≡ maskedNoise p (explicit p (now (words .entry))) g .next) ⌝ }
 {

@@ -8,16 +8,13 @@ ghost use Rattle.hash.specs.declared.params.Selected.{Selected};
 ghost use Rattle.ring.specs.Words.{q, Below};
 ghost use Rattle.signature.specs.Attempt.{keyFrom, coinsOf, Within, keyIn};
 ghost use Rattle.signature.specs.Checks.{workWords};
-ghost use Rattle.signature.specs.Keygen.{Small};
-ghost use Rattle.signature.specs.KeySizes.{Ranges};
 ghost use Rattle.signature.specs.Keys.{vkSeed, vkVector, publicOf, sharesOf};
 ghost use Rattle.signature.specs.MaskedSteps.{matrixIn, MatrixHeld};
 ghost use Rattle.signature.specs.Matrix.{matrix};
-ghost use Rattle.signature.specs.Expanding.{Listed};
 ghost use Rattle.signature.specs.Outcome.{answer, signing};
-ghost use Rattle.signature.specs.Sign.{signFrom};
+ghost use Rattle.signature.specs.Sign.{publicBy, signFrom};
 ghost use Rattle.signature.specs.SignCalls.{packed, expanded, coinsGood, signBy, leftBy, signCall};
-ghost use Rattle.signature.specs.SignSteps.{publicBy, signNo, signMade, EndedAt, kept};
+ghost use Rattle.signature.specs.SignSteps.{signNo, signMade, EndedAt, answerIn};
 ghost use Rattle.signature.specs.Table.{Tabled};
 use crate::attempt::answer;
 use crate::commit::commit;
@@ -71,7 +68,7 @@ fn attempt(
     i: usize,
     out: &mut [u8],
 ) -> AttemptEnd
-    requires { ⌜ Tabled p × Small p × (length (now work) ≡ workWords p) × Below q (now work) × MatrixHeld p (now a) ⌝ }
+    requires { ⌜ Tabled p × (length (now work) ≡ workWords p) × Below q (now work) × MatrixHeld p (now a) ⌝ }
     requires { ⌜ (length (now vk) ≡ p .«vk_bytes») × Below 125 (vkVector p (now vk)) × (length (now out) ≡ p .«sig_bytes») ⌝ }
     requires { ⌜ Within p (coinsOf explicit (now seeds) (now noise) (now «mask_seeds»)) i ⌝ }
     ensures { λ r. ⌜ (length (now (work .exit)) ≡ length (now (work .entry))) × Below q (now (work .exit)) ⌝ }
@@ -105,11 +102,11 @@ fn attempt_all(
     n: usize,
     out: &mut [u8],
 ) -> Signed
-    requires { ⌜ Tabled p × Small p × (length (now work) ≡ workWords p) × Below q (now work) × MatrixHeld p (now a) ⌝ }
+    requires { ⌜ Tabled p × (length (now work) ≡ workWords p) × Below q (now work) × MatrixHeld p (now a) ⌝ }
     requires { ⌜ (length (now vk) ≡ p .«vk_bytes») × Below 125 (vkVector p (now vk)) × (length (now out) ≡ p .«sig_bytes») ⌝ }
     requires { ⌜ (n ≤ 16) × (coinsGood p n (coinsOf explicit (now seeds) (now noise) (now «mask_seeds»)) ≡ true) ⌝ }
     ensures { λ r. ⌜ length (now (work .exit)) ≡ length (now (work .entry)) ⌝ }
-    ensures { λ r. ⌜ answer (r .status) (r .attempts) (now (out .exit)) ≡ kept (signFrom p (publicBy p (now (vk .entry)) (now (mu .entry)) (matrixIn p (now (a .entry)))) (coinsOf explicit (now (seeds .entry)) (now (noise .entry)) (now («mask_seeds» .entry))) n 0 (keyIn p (now (work .entry)))) (now (out .entry)) ⌝ }
+    ensures { λ r. ⌜ answer (r .status) (r .attempts) (now (out .exit)) ≡ answerIn (signFrom p (publicBy p (now (vk .entry)) (now (mu .entry)) (matrixIn p (now (a .entry)))) (coinsOf explicit (now (seeds .entry)) (now (noise .entry)) (now («mask_seeds» .entry))) n 0 (keyIn p (now (work .entry)))) (now (out .entry)) ⌝ }
 {
     let mut i: usize = 0;
     while i < n {
@@ -141,11 +138,11 @@ fn sign_loaded(
     n: usize,
     out: &mut [u8],
 ) -> Signed
-    requires { ⌜ Tabled p × Small p × (length (now work) ≡ workWords p) × Below q (now work) ⌝ }
+    requires { ⌜ Tabled p × (length (now work) ≡ workWords p) × Below q (now work) ⌝ }
     requires { ⌜ (length (now vk) ≡ p .«vk_bytes») × Below 125 (vkVector p (now vk)) × (length (now out) ≡ p .«sig_bytes») ⌝ }
     requires { ⌜ (n ≤ 16) × (coinsGood p n (coinsOf explicit (now seeds) (now noise) (now «mask_seeds»)) ≡ true) ⌝ }
     ensures { λ r. ⌜ length (now (work .exit)) ≡ length (now (work .entry)) ⌝ }
-    ensures { λ r. ⌜ answer (r .status) (r .attempts) (now (out .exit)) ≡ kept (signMade p (now (vk .entry)) (now (message .entry)) (coinsOf explicit (now (seeds .entry)) (now (noise .entry)) (now («mask_seeds» .entry))) n (matrix p (vkSeed p (now (vk .entry)))) (some (keyIn p (now (work .entry))))) (now (out .entry)) ⌝ }
+    ensures { λ r. ⌜ answer (r .status) (r .attempts) (now (out .exit)) ≡ answerIn (signMade p (now (vk .entry)) (now (message .entry)) (coinsOf explicit (now (seeds .entry)) (now (noise .entry)) (now («mask_seeds» .entry))) n (matrix p (vkSeed p (now (vk .entry)))) (some (keyIn p (now (work .entry))))) (now (out .entry)) ⌝ }
 {
     let e = p.kappa / 8;
     let b = p.kappa / 4;
@@ -185,7 +182,7 @@ fn sign_with(
     out: &mut [u8],
     work: &mut [u64],
 ) -> Signed
-    requires { ⌜ Tabled p × Listed p × Small p ⌝ }
+    requires { ⌜ Tabled p ⌝ }
     requires { ⌜ signNo p (keyFrom packed (now key) (now words)) n (now message) (coinsOf explicit (now seeds) (now noise) (now «mask_seeds»)) (now out) (now work) ≡ 0 ⌝ }
     ensures { λ r. ⌜ signing (r .status) (r .attempts) (now (out .exit)) (now (work .exit)) ≡ leftBy (signMade p (publicOf p (keyFrom packed (now (key .entry)) (now (words .entry)))) (now (message .entry)) (coinsOf explicit (now (seeds .entry)) (now (noise .entry)) (now («mask_seeds» .entry))) n (matrix p (vkSeed p (publicOf p (keyFrom packed (now (key .entry)) (now (words .entry)))))) (sharesOf p (keyFrom packed (now (key .entry)) (now (words .entry))))) (now (out .entry)) (now (work .entry)) ⌝ }
 {
@@ -225,7 +222,7 @@ fn sign_found(
     out: &mut [u8],
     work: &mut [u64],
 ) -> Signed
-    requires { ⌜ Tabled p × Listed p × Small p × Ranges p ⌝ }
+    requires { ⌜ Tabled p ⌝ }
     ensures { λ r. ⌜ signing (r .status) (r .attempts) (now (out .exit)) (now (work .exit)) ≡ leftBy (signBy (Selected.Found p) p (keyFrom packed (now (key .entry)) (now (words .entry))) attempts (now (message .entry)) (coinsOf explicit (now (seeds .entry)) (now (noise .entry)) (now («mask_seeds» .entry))) (now (out .entry)) (now (work .entry))) (now (out .entry)) (now (work .entry)) ⌝ }
 {
     let k = sign_no(

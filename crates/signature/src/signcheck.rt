@@ -2,22 +2,20 @@
 ghost use mathlib.Core.Path.{_≡_};
 ghost use Prim.Native.Nat.{_≤_};
 ghost use Rattle.signature.specs.Attempt.{keyFrom, coinsOf};
-ghost use Rattle.signature.specs.Keygen.{Small};
-ghost use Rattle.signature.specs.KeySizes.{Ranges};
-ghost use Rattle.signature.specs.Expanding.{Listed};
 ghost use Rattle.signature.specs.Checks.{firstNo, keyChecks};
 ghost use Rattle.signature.specs.SignCalls.{coinsGood, callChecks};
 ghost use Rattle.signature.specs.SignSteps.{signNo};
-use crate::int::Q;
+ghost use Rattle.signature.specs.Table.{Tabled};
 use crate::keycheck::expanded_no;
 use crate::keycheck::packed_no;
 use crate::keycheck::work_words;
 use hash::params::Params;
+use ring::poly::Q;
 use ring::poly::all_below;
 
 // Checks 3 to 5, of a key of either form.
 fn key_no(p: Params, packed: bool, key: &[u8], words: &[u64]) -> u32
-    requires { ⌜ Listed p ⌝ }
+    requires { ⌜ Tabled p ⌝ }
     ensures { λ r. ⌜ r ≡ firstNo (keyChecks p (keyFrom packed (now (key .entry)) (now (words .entry)))) ⌝ }
 {
     if packed {
@@ -35,7 +33,7 @@ fn coins_good(
     noise: &[u64],
     mask_seeds: &[u8],
 ) -> bool
-    requires { ⌜ Small p × (n ≤ 16) ⌝ }
+    requires { ⌜ Tabled p × (n ≤ 16) ⌝ }
     ensures { λ r. ⌜ r ≡ coinsGood p n (coinsOf explicit (now (seeds .entry)) (now (noise .entry)) (now («mask_seeds» .entry))) ⌝ }
 {
     if mask_seeds.len() != n * 32 {
@@ -63,7 +61,7 @@ fn call_no(
     out: &[u8],
     work: &[u64],
 ) -> u32
-    requires { ⌜ Small p × Ranges p ⌝ }
+    requires { ⌜ Tabled p ⌝ }
     ensures { λ r. ⌜ r ≡ firstNo (callChecks p attempts (now (message .entry)) (coinsOf explicit (now (seeds .entry)) (now (noise .entry)) (now («mask_seeds» .entry))) (now (out .entry)) (now (work .entry))) ⌝ }
 {
     if attempts < 1 {
@@ -102,7 +100,7 @@ pub(crate) fn sign_no(
     out: &[u8],
     work: &[u64],
 ) -> u32
-    requires { ⌜ Listed p × Small p × Ranges p ⌝ }
+    requires { ⌜ Tabled p ⌝ }
     ensures { λ r. ⌜ r ≡ signNo p (keyFrom packed (now (key .entry)) (now (words .entry))) attempts (now (message .entry)) (coinsOf explicit (now (seeds .entry)) (now (noise .entry)) (now («mask_seeds» .entry))) (now (out .entry)) (now (work .entry)) ⌝ }
 {
     let k = key_no(p, packed, key, words);

@@ -37,7 +37,8 @@ use Rattle.signature.specs.Recover.{productRow, recoveredRow, recovered, hintOf
 use Rattle.signature.specs.Sign.{Public, Attempted, Coins, signedFields, wrote, finished, challenged, concluded, refreshedKey, refreshedResponse, attempted, noiseAt, maskAt, ended, signFrom}
 use Rattle.signature.specs.Sign.Attempted.{made, over, stuck}
 use Rattle.signature.specs.SignCalls.{publicFor}
-use Rattle.signature.specs.Verify.{recomputed, fieldsIn, fieldChecks, verifyChecks}
+use Rattle.signature.specs.Verify.{recomputed, fieldsIn, verifyChecks}
+use Rattle.signature.specs.VerifySteps.{fieldChecks}
 use Rattle.signature.proofs.Canonical.{Sized, write-read, write-length}
 use Rattle.signature.proofs.Centred.{length-centred}
 use Rattle.signature.proofs.SameBytes.{same-refl}

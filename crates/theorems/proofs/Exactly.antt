@@ -22,13 +22,15 @@ use Rattle.signature.specs.Keys.{vkSeed, vkVector}
 use Rattle.signature.specs.Matrix.{matrix, filled}
 use Rattle.signature.specs.Outcome.{firstNo, heldOr, foundIn}
 use Rattle.signature.specs.Recover.{muOf}
-use Rattle.signature.specs.Verify.{recomputed, recomputedFor, fieldsIn, fieldChecks, verifyChecks, verifyCall}
+use Rattle.signature.specs.Verify.{recomputed, recomputedFor, fieldsIn, verifyChecks, verifyCall}
+use Rattle.signature.specs.VerifySteps.{fieldChecks}
+use Rattle.signature.proofs.Listing.{tabled}
 use Rattle.signature.proofs.Canonical.{Sized, write-read, write-length, read-sized}
 use Rattle.ring.proofs.Checks.{asked}
 use Rattle.ring.proofs.Filled.{filled-held}
 use Rattle.signature.proofs.Proper.{proper-some, proper-is}
 use Rattle.signature.proofs.SameBytes.{same-refl, same-eq}
-use Rattle.signature.proofs.Verified.{tabled, never-shares}
+use Rattle.signature.proofs.Verified.{never-shares}
 
 -- what the submission accepts, with the limits of paper 01
 pub record Accepts (e : Edition) (set : ℕ) (vk msg sig : List ℕ) : Type 0 where

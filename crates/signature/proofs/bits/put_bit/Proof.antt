@@ -6,7 +6,7 @@ use lib.Dec.{lit<}
 use lib.ListN.{getD, set}
 use lib.Pow.{shl-exact}
 use lib.Bits.{bitXor}
-use Rattle.signature.specs.Bits.{fields}
+use Rattle.signature.specs.Bits.{bitString}
 use Rattle.signature.proofs.Strings.{flipped, left}
 use borrow.Author.Needs.{needs}
 use Rattle.signature.proofs.bits.put_bit.Statement.{statement}
@@ -15,7 +15,7 @@ use Rattle.signature.proofs.bits.put_bit.Tie as tie
 returns : tie.Need-returns
 returns c =
     let a = c .before .before .before .before in
-    ap (λ (n : ℕ). fields 8 (set (a .args .buf .now) (a .args .at / 8) (bitXor (getD (a .args .buf .now) (a .args .at / 8) 0) n)))
+    ap (λ (n : ℕ). bitString 8 (set (a .args .buf .now) (a .args .at / 8) (bitXor (getD (a .args .buf .now) (a .args .at / 8) 0) n)))
     (shl-exact {a = 1} 1 (a .args .at % 8) 8 (lit< tt) (omega arith) ∙ one-mul _)
     ∙ flipped (a .args .buf .now) (a .args .at) (a .pre .0) (a .args .b) (a .pre .1) (λ e. c .if1 .taken (ap (λ (n : ℕ). n % 2) (c .before .wide .ensures .0) ∙ e))
 

@@ -4,13 +4,13 @@ use native.Mathlib.Omega.{arith}
 use borrow.Author.Needs.{needs}
 use lib.ListN.{length, replicate, length-replicate}
 use lib.Seq.{sets}
-use Rattle.signature.specs.Bits.{fields}
+use Rattle.signature.specs.Bits.{bitString}
 use Rattle.signature.proofs.Strings.{run-more, store-more}
 use Rattle.signature.proofs.bits.put_run.Statement.{statement}
 use Rattle.signature.proofs.bits.put_run.Tie as tie
 
 abbrev Inv-loop : tie.InvT-loop
-Inv-loop buf₀ at b n k₀ buf k = (k ≤ n) × (length buf ≡ length buf₀) × (fields 8 buf ≡ sets (fields 8 buf₀) at (replicate k b))
+Inv-loop buf₀ at b n k₀ buf k = (k ≤ n) × (length buf ≡ length buf₀) × (bitString 8 buf ≡ sets (bitString 8 buf₀) at (replicate k b))
 
 abbrev μ-loop : tie.MeasureT-loop
 μ-loop buf₀ at b n k₀ buf k = n - k
@@ -20,7 +20,7 @@ loop-again c =
     let l = c .before .before .before .before .before .loop in
     let a = c .before .before .before .before .before .before .before .args in
     let p = c .before .before .put-bit in
-    (omega arith, p .kept .0 ∙ l .inv .1, rw run-more (store-more (fields 8 (a .buf .now)) (a .at) (replicate (l .k) (a .b)) (l .k) _ (length-replicate (l .k) (a .b)) _ _ (l .inv .2) (p .ensures)))
+    (omega arith, p .kept .0 ∙ l .inv .1, rw run-more (store-more (bitString 8 (a .buf .now)) (a .at) (replicate (l .k) (a .b)) (l .k) _ (length-replicate (l .k) (a .b)) _ _ (l .inv .2) (p .ensures)))
 
 returns : tie.Need-returns Inv-loop μ-loop
 returns c =

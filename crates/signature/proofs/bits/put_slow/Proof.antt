@@ -4,13 +4,13 @@ use native.Mathlib.Omega.{arith}
 use borrow.Author.Needs.{needs}
 use lib.ListN.{length}
 use lib.Seq.{sets}
-use Rattle.signature.specs.Bits.{bitsOf, fields}
+use Rattle.signature.specs.Bits.{bitsOf, bitString}
 use Rattle.signature.proofs.Strings.{length-bits, bits-more, store-more}
 use Rattle.signature.proofs.bits.put_slow.Statement.{statement}
 use Rattle.signature.proofs.bits.put_slow.Tie as tie
 
 abbrev Inv-loop : tie.InvT-loop
-Inv-loop buf₀ at v w k₀ buf k = (k ≤ w) × (length buf ≡ length buf₀) × (fields 8 buf ≡ sets (fields 8 buf₀) at (bitsOf k v))
+Inv-loop buf₀ at v w k₀ buf k = (k ≤ w) × (length buf ≡ length buf₀) × (bitString 8 buf ≡ sets (bitString 8 buf₀) at (bitsOf k v))
 
 abbrev μ-loop : tie.MeasureT-loop
 μ-loop buf₀ at v w k₀ buf k = w - k
@@ -24,7 +24,7 @@ loop-again c =
     let l = c .before .before .before .before .before .loop in
     let a = c .before .before .before .before .before .before .before .args in
     let p = c .before .before .put-bit in
-    (omega arith, p .kept .0 ∙ l .inv .1, rw bits-more (store-more (fields 8 (a .buf .now)) (a .at) (bitsOf (l .k) (a .v)) (l .k) _ (length-bits (l .k) (a .v)) _ _ (l .inv .2) (p .ensures)))
+    (omega arith, p .kept .0 ∙ l .inv .1, rw bits-more (store-more (bitString 8 (a .buf .now)) (a .at) (bitsOf (l .k) (a .v)) (l .k) _ (length-bits (l .k) (a .v)) _ _ (l .inv .2) (p .ensures)))
 
 returns : tie.Need-returns Inv-loop μ-loop
 returns c =

@@ -5,13 +5,13 @@ use borrow.Author.Needs.{needs}
 use lib.ListN.{length, take, length-set}
 use lib.Seq.{take-all}
 use Rattle.sharing.proofs.Lists.{inside}
-use Rattle.signature.specs.Bits.{fields, chop, repack}
+use Rattle.signature.specs.Bits.{bitString, chop, repack}
 use Rattle.signature.proofs.Packing.{unpack-more}
 use Rattle.signature.proofs.bits.unpack.Statement.{statement}
 use Rattle.signature.proofs.bits.unpack.Tie as tie
 
 abbrev Inv-loop : tie.InvT-loop
-Inv-loop bytes w out₀ i₀ out i = (i ≤ length out) × (length out ≡ length out₀) × (take i out ≡ chop w i (fields 8 bytes))
+Inv-loop bytes w out₀ i₀ out i = (i ≤ length out) × (length out ≡ length out₀) × (take i out ≡ chop w i (bitString 8 bytes))
 
 abbrev μ-loop : tie.MeasureT-loop
 μ-loop bytes w out₀ i₀ out i = length out - i
@@ -37,7 +37,7 @@ loop-again : tie.Need-loop-again Inv-loop μ-loop
 loop-again c =
     let l = c .before .before .loop in
     let a = c .before .before .before .before .before .args in
-    (simp length-set (omega arith), simp length-set (omega arith), unpack-more (a .w) (fields 8 (a .bytes .now)) (l .out) (l .i) (c .get-bits .result) (omega arith) (l .inv .2) (c .get-bits .ensures .0))
+    (simp length-set (omega arith), simp length-set (omega arith), unpack-more (a .w) (bitString 8 (a .bytes .now)) (l .out) (l .i) (c .get-bits .result) (omega arith) (l .inv .2) (c .get-bits .ensures .0))
 
 returns : tie.Need-returns Inv-loop μ-loop
 unfolding repack
@@ -45,7 +45,7 @@ returns c =
     let l = c .before .loop in
     let a = c .before .before .before .before .args in
     let e : l .i ≡ length (a .out .now) = omega arith in
-    sym (take-all (l .i) (l .out) (omega arith)) ∙ l .inv .2 ∙ ap (λ (n : ℕ). chop (a .w) n (fields 8 (a .bytes .now))) e
+    sym (take-all (l .i) (l .out) (omega arith)) ∙ l .inv .2 ∙ ap (λ (n : ℕ). chop (a .w) n (bitString 8 (a .bytes .now))) e
 
 pub unpack-spec : {M : Type 1} → statement M
 unpack-spec =

@@ -9,7 +9,7 @@ use lib.Seq.{take-all, drop-drop}
 use mir.Syntax.{w64}
 use mir.Val.{SFits, toZ, ofZ}
 use mir.ValLaws.{toZ-ofZ}
-use Rattle.signature.specs.Bits.{fields}
+use Rattle.signature.specs.Bits.{bitString}
 use Rattle.signature.specs.Code.{readCode, readCodes}
 use Rattle.signature.proofs.Strings.{length-fields}
 use Rattle.signature.specs.declared.code.Next.the-variants.{At}
@@ -19,7 +19,7 @@ use Rattle.signature.proofs.code.get_codes.Tie as tie
 
 abbrev Inv-loop : tie.InvT-loop
 Inv-loop buf at w out₀ k₀ i₀ out k i =
-    (i ≤ length out) × (length out ≡ length out₀) × (at ≤ k) × (k ≤ length buf * 8) × (readCodes w i (drop at (fields 8 buf)) ≡ some (take i out, k - at))
+    (i ≤ length out) × (length out ≡ length out₀) × (at ≤ k) × (k ≤ length buf * 8) × (readCodes w i (drop at (bitString 8 buf)) ≡ some (take i out, k - at))
 
 abbrev μ-loop : tie.MeasureT-loop
 μ-loop buf at w out₀ k₀ i₀ out k i = length out - i
@@ -34,10 +34,10 @@ returns c =
     let b = g .before .before in
     let a = b .before .before .args in
     let l = b .loop in
-    let t = drop (a .at) (fields 8 (a .buf .now)) in
-    let f = got-bad (l .k) (readCode (a .w) (drop (l .k) (fields 8 (a .buf .now)))) (sym (c .enum-told .given .1) ∙ g .get-code .ensures) in
+    let t = drop (a .at) (bitString 8 (a .buf .now)) in
+    let f = got-bad (l .k) (readCode (a .w) (drop (l .k) (bitString 8 (a .buf .now)))) (sym (c .enum-told .given .1) ∙ g .get-code .ensures) in
     let p : a .at + (l .k - a .at) ≡ l .k = omega arith in
-    let d : readCode (a .w) (drop (l .k - a .at) t) ≡ none = ap (readCode (a .w)) (drop-drop (l .k - a .at) (a .at) (fields 8 (a .buf .now)) ∙ ap (λ (n : ℕ). drop n (fields 8 (a .buf .now))) p) ∙ f in
+    let d : readCode (a .w) (drop (l .k - a .at) t) ≡ none = ap (readCode (a .w)) (drop-drop (l .k - a .at) (a .at) (bitString 8 (a .buf .now)) ∙ ap (λ (n : ℕ). drop n (bitString 8 (a .buf .now))) p) ∙ f in
     rw (none-left (a .w) t (l .i) (l .k - a .at) (length (a .out .now)) (take (l .i) (l .out)) (l .inv .4) d (omega arith)) refl
 
 loop-less : tie.Need-loop-less Inv-loop μ-loop
@@ -51,13 +51,13 @@ loop-again c =
     let l = b .loop in
     let z = c .before .z .given .0 .0 in
     let next = c .before .z .given .0 .1 .0 in
-    let t = drop (a .at) (fields 8 (a .buf .now)) in
-    let f = got-code (l .k) (readCode (a .w) (drop (l .k) (fields 8 (a .buf .now)))) z next (sym (c .before .z .given .1) ∙ g .get-code .ensures) in
+    let t = drop (a .at) (bitString 8 (a .buf .now)) in
+    let f = got-code (l .k) (readCode (a .w) (drop (l .k) (bitString 8 (a .buf .now)))) z next (sym (c .before .z .given .1) ∙ g .get-code .ensures) in
     let p : a .at + (l .k - a .at) ≡ l .k = omega arith in
-    let q = drop-drop (l .k - a .at) (a .at) (fields 8 (a .buf .now)) ∙ ap (λ (n : ℕ). drop n (fields 8 (a .buf .now))) p in
+    let q = drop-drop (l .k - a .at) (a .at) (bitString 8 (a .buf .now)) ∙ ap (λ (n : ℕ). drop n (bitString 8 (a .buf .now))) p in
     let d : readCode (a .w) (drop (l .k - a .at) t) ≡ some (z, f .0) = ap (readCode (a .w)) q ∙ f .1 in
-    let r = read-le (a .w) (drop (l .k) (fields 8 (a .buf .now))) z (f .0) (f .1) in
-    let n : length (drop (l .k) (fields 8 (a .buf .now))) ≡ length (a .buf .now) * 8 - l .k = length-drop (l .k) (fields 8 (a .buf .now)) ∙ ap (λ (k : ℕ). k - l .k) (length-fields 8 (a .buf .now)) in
+    let r = read-le (a .w) (drop (l .k) (bitString 8 (a .buf .now))) z (f .0) (f .1) in
+    let n : length (drop (l .k) (bitString 8 (a .buf .now))) ≡ length (a .buf .now) * 8 - l .k = length-drop (l .k) (bitString 8 (a .buf .now)) ∙ ap (λ (k : ℕ). k - l .k) (length-fields 8 (a .buf .now)) in
     let s : SFits w64 z = search needs in
     let e : toZ w64 (ofZ w64 z) ≡ z = toZ-ofZ w64 z s in
     let h : l .i < length (l .out) = omega arith in

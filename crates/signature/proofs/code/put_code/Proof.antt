@@ -6,7 +6,7 @@ use lib.ListN.{length}
 use lib.IntN.{natAbs}
 use Rattle.signature.proofs.Signs.{same}
 use lib.Seq.{sets}
-use Rattle.signature.specs.Bits.{fields}
+use Rattle.signature.specs.Bits.{bitString}
 use Rattle.signature.specs.Code.{codeOf, code, negOf}
 use Rattle.signature.proofs.Codes.{neg-lt, same-code}
 use borrow.Author.Needs.{needs}
@@ -28,7 +28,7 @@ returns c =
     let v = same (s .args .z) (s .fits .z) in
     let e = same-code (s .args .w) _ _ (s .args .z) (g .mag .ensures ∙ ap natAbs v) (c .before .before .before .sign .ensures ∙ ap negOf v) in
     let p = c .before .before .put-mag in
-    (p .ensures .0 ∙ ap (λ (x : List ℕ). s .args .at + length x) e, p .ensures .1 ∙ ap (sets (fields 8 (s .args .buf .now)) (s .args .at)) e)
+    (p .ensures .0 ∙ ap (λ (x : List ℕ). s .args .at + length x) e, p .ensures .1 ∙ ap (sets (bitString 8 (s .args .buf .now)) (s .args .at)) e)
 
 pub put-code-spec : {M : Type 1} → statement M
 put-code-spec =

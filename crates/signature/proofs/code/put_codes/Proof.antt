@@ -9,7 +9,7 @@ use lib.Seq.{sets, take-all}
 use mir.Syntax.{w64}
 use mir.Val.{toZ, ofZ}
 use mir.ValLaws.{toZ-ofZ}
-use Rattle.signature.specs.Bits.{fields}
+use Rattle.signature.specs.Bits.{bitString}
 use Rattle.signature.specs.Code.{code, codes}
 use Rattle.signature.proofs.Lists.{codes-next, codes-room, write-more}
 use Rattle.signature.proofs.code.put_codes.Statement.{statement}
@@ -17,7 +17,7 @@ use Rattle.signature.proofs.code.put_codes.Tie as tie
 
 abbrev Inv-loop : tie.InvT-loop
 Inv-loop buf₀ at zs w k₀ i₀ buf k i =
-    (i ≤ length zs) × (length buf ≡ length buf₀) × (k ≡ at + length (codes w (take i zs))) × (fields 8 buf ≡ sets (fields 8 buf₀) at (codes w (take i zs)))
+    (i ≤ length zs) × (length buf ≡ length buf₀) × (k ≡ at + length (codes w (take i zs))) × (bitString 8 buf ≡ sets (bitString 8 buf₀) at (codes w (take i zs)))
 
 abbrev μ-loop : tie.MeasureT-loop
 μ-loop buf₀ at zs w k₀ i₀ buf k i = length zs - i
@@ -51,8 +51,8 @@ loop-again c =
       omega arith,
       p .kept .0 ∙ l .inv .1,
       omega (arith, p .ensures .0, ap (λ (z : ℤ). length (code (a .w) z)) (number q), codes-next (a .w) (a .zs .now) (l .i) h),
-      write-more (a .w) (a .zs .now) (l .i) h (fields 8 (a .buf .now)) (fields 8 (l .buf)) _ (a .at) (l .inv .3)
-          (p .ensures .1 ∙ ap (λ (z : ℤ). sets (fields 8 (l .buf)) (l .k) (code (a .w) z)) (number q) ∙ ap (λ (n : ℕ). sets (fields 8 (l .buf)) n (code (a .w) (getD (a .zs .now) (l .i) (pos 0)))) (l .inv .2)),
+      write-more (a .w) (a .zs .now) (l .i) h (bitString 8 (a .buf .now)) (bitString 8 (l .buf)) _ (a .at) (l .inv .3)
+          (p .ensures .1 ∙ ap (λ (z : ℤ). sets (bitString 8 (l .buf)) (l .k) (code (a .w) z)) (number q) ∙ ap (λ (n : ℕ). sets (bitString 8 (l .buf)) n (code (a .w) (getD (a .zs .now) (l .i) (pos 0)))) (l .inv .2)),
     )
 
 returns : tie.Need-returns Inv-loop μ-loop
@@ -60,7 +60,7 @@ returns c =
     let l = c .before .loop in
     let a = c .before .before .before .args in
     let e = take-all (l .i) (a .zs .now) (omega arith) in
-    (l .inv .2 ∙ ap (λ (x : List ℤ). a .at + length (codes (a .w) x)) e, l .inv .3 ∙ ap (λ (x : List ℤ). sets (fields 8 (a .buf .now)) (a .at) (codes (a .w) x)) e)
+    (l .inv .2 ∙ ap (λ (x : List ℤ). a .at + length (codes (a .w) x)) e, l .inv .3 ∙ ap (λ (x : List ℤ). sets (bitString 8 (a .buf .now)) (a .at) (codes (a .w) x)) e)
 
 pub put-codes-spec : {M : Type 1} → statement M
 put-codes-spec =

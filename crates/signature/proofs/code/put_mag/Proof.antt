@@ -2,7 +2,7 @@ use Prim.Native.Nat.{ℕ, _+_, _*_, _/_, _^_, _≤_}
 use mathlib.Core.Path.{ap}
 use native.Mathlib.Omega.{arith}
 use lib.ListN.{length}
-use Rattle.signature.specs.Bits.{fields}
+use Rattle.signature.specs.Bits.{bitString}
 use Rattle.signature.specs.Code.{signs}
 use Rattle.signature.proofs.Codes.{code-length, sign-length, no-sign, with-sign}
 use borrow.Author.Needs.{needs}
@@ -32,7 +32,7 @@ returns : tie.Need-returns
 returns c =
     let s = c .before .before .before .before .before .before .before .before .before .before .before .before .before .before in
     let a = s .args in
-    (omega (arith, code-length (a .w) (a .m) (a .s), ap (λ (n : ℕ). length (signs n (a .s))) (c .if1 .taken)), no-sign (fields 8 (a .buf .now)) _ _ _ (a .at) (a .w) (a .m) (a .s) (c .before .before .before .before .before .before .before .before .before .before .before .put-bits .ensures) (c .before .before .before .before .before .before .before .put-run .ensures) (c .before .before .before .put-bit .ensures) (c .if1 .taken))
+    (omega (arith, code-length (a .w) (a .m) (a .s), ap (λ (n : ℕ). length (signs n (a .s))) (c .if1 .taken)), no-sign (bitString 8 (a .buf .now)) _ _ _ (a .at) (a .w) (a .m) (a .s) (c .before .before .before .before .before .before .before .before .before .before .before .put-bits .ensures) (c .before .before .before .before .before .before .before .put-run .ensures) (c .before .before .before .put-bit .ensures) (c .if1 .taken))
 
 add-put-bit : tie.Need-add-put-bit
 add-put-bit c = omega (arith, room (c .before .before .before .before .before .before .before .before .before .before .before .before .before .before .before), c .before .before .before .before .before .before .before .before .before .before .before .before .before .before .before .pre)
@@ -51,7 +51,7 @@ returns-2 c =
     let s = c .before .before .before .before .before .before .before .before .before .before .before .before .before .before .before .before .before .before in
     let a = s .args in
     let h = c .before .before .before .before .if1 .left in
-    (omega (arith, code-length (a .w) (a .m) (a .s), ap length (sign-length (a .m) (a .s) h)), with-sign (fields 8 (a .buf .now)) _ _ _ (a .at) (a .w) (a .m) (a .s) (c .before .before .before .before .before .before .before .before .before .before .before .before .before .before .before .put-bits .ensures) (c .before .before .before .before .before .before .before .before .before .before .before .put-run .ensures) (c .before .before .before .before .before .before .before .put-bit .ensures) h _ (c .before .before .put-bit2 .ensures))
+    (omega (arith, code-length (a .w) (a .m) (a .s), ap length (sign-length (a .m) (a .s) h)), with-sign (bitString 8 (a .buf .now)) _ _ _ (a .at) (a .w) (a .m) (a .s) (c .before .before .before .before .before .before .before .before .before .before .before .before .before .before .before .put-bits .ensures) (c .before .before .before .before .before .before .before .before .before .before .before .put-run .ensures) (c .before .before .before .before .before .before .before .put-bit .ensures) h _ (c .before .before .put-bit2 .ensures))
 
 pub put-mag-spec : {M : Type 1} → statement M
 put-mag-spec =

@@ -29,7 +29,7 @@ centred-into-requires c κs =
     let p = b .p in
     let x = atX (p .k) (p .l) (p .shares) in
     let e : p .l * 512 ≡ x + p .l * 512 - x = omega arith in
-    let w = span-words (b .work .now) x (p .l * 512) (room p (a .pre .0 .1) (length (b .work .now)) (a .pre .0 .2) .2) (a .pre .0 .3) in
+    let w = span-words (b .work .now) x (p .l * 512) (room p (a .pre .0 .0) (length (b .work .now)) (a .pre .0 .1) .2) (a .pre .0 .2) in
     subst (λ (j : ℕ). (length (b .z .now) ≡ length (take j (drop x (b .work .now)))) × Below q (take j (drop x (b .work .now))) × (0 < q) × (q < 2 ^ 62)) e
     (a .pre .1 .1 .1 ∙ sym (w .long), w .low, lit< tt, lit< tt)
 
@@ -39,9 +39,9 @@ write-fields-requires c κs =
     let b = a .args in
     let p = b .p in
     let T = a .pre .0 .0 in
-    let R = room p (a .pre .0 .1) (length (b .work .now)) (a .pre .0 .2) in
+    let R = room p (a .pre .0 .0) (length (b .work .now)) (a .pre .0 .1) in
     let x = atX (p .k) (p .l) (p .shares) in
-    let z = span-words (b .work .now) x (p .l * 512) (R .2) (a .pre .0 .3) in
+    let z = span-words (b .work .now) x (p .l * 512) (R .2) (a .pre .0 .2) in
     let e : x + p .l * 512 - x ≡ p .l * 512 = omega arith in
     let f = c .before .before .before .before .before .before .before .before .before .before .centred-into .ensures ∙ ap (λ (j : ℕ). centredAll q (take j (drop x (b .work .now)))) e in
     let v = span (b .work .now) x (p .l * 512) in
@@ -49,7 +49,7 @@ write-fields-requires c κs =
     let w = span (b .work .now) (atT (p .l) (p .shares)) (p .k * 512) in
     let h = c .before .before .before .before .before .before .make-hint .ensures .1 in (
       (T, a .pre .1 .0 .3, omega (arith, hint-length w y h, length-span (b .work .now) (atT (p .l) (p .shares)) (p .k * 512) (R .1), T .rows-low), omega (arith, response-length v f, z .long, T .columns-low), a .pre .1 .1 .2),
-      (hint-small w y h (a .pre .0 .4), response-small v f (z .low)),
+      (hint-small w y h (a .pre .0 .3), response-small v f (z .low)),
     )
 
 returns : tie.Need-returns

@@ -22,8 +22,8 @@ use Rattle.signature.proofs.fields.make_hint.Tie as tie
 ntt-to-requires : tie.Need-ntt-to-requires
 ntt-to-requires c κs =
     let a = c .before .before .before .before .before .before .before .before .before in
-    let R = room (a .args .p) (a .pre .0 .1) (length (a .args .work .now)) (a .pre .0 .2) .2 in
-    (omega (arith, a .pre .0 .1 .columns-low), R, a .pre .0 .3)
+    let R = room (a .args .p) (a .pre .0 .0) (length (a .args .work .now)) (a .pre .0 .1) .2 in
+    (omega (arith, a .pre .0 .0 .columns-low), R, a .pre .0 .2)
 
 part-hint-rows-end : tie.Need-part-hint-rows-end
 part-hint-rows-end c =
@@ -37,8 +37,8 @@ hint-rows-requires c κs =
     let a = c .before .before .before .before .before .before .before .before .before .before .before .before .before .before .before .before .before .before in
     let p = a .args .p in
     let T = a .pre .0 .0 in
-    let S = a .pre .0 .1 in
-    let R = room p S (length (a .args .work .now)) (a .pre .0 .2) in
+    let S = a .pre .0 .0 in
+    let R = room p S (length (a .args .work .now)) (a .pre .0 .1) in
     let r = S .columns-low in
     let x = c .before .before .before .before .before .before .before .before .before .before .before .unpack in
     let m : p .kappa / 8 + p .k * 448 - p .kappa / 8 ≡ p .k * 448 = omega arith in
@@ -49,7 +49,7 @@ hint-rows-requires c κs =
     let w = u .behind (atT (p .l) (p .shares)) (p .k * 512) (omega arith) (omega (arith, r)) in (
       (omega arith, omega arith, omega (arith, n, r, R .0), omega (arith, n, R .1), u .low),
       (
-        (T .rows-low, T .columns-low, c .before .before .before .before .ntt .ensures .1, ap (λ (l : List ℕ). length l) t ∙ length-repack 8 7 (p .k * 512) _, subst (Below 125) (sym t) (a .pre .1 .1), subst (Below 31) (sym w) (a .pre .0 .4), a .pre .1 .3),
+        (T .rows-low, T .columns-low, c .before .before .before .before .ntt .ensures .1, ap (λ (l : List ℕ). length l) t ∙ length-repack 8 7 (p .k * 512) _, subst (Below 125) (sym t) (a .pre .1 .1), subst (Below 31) (sym w) (a .pre .0 .3), a .pre .1 .3),
         a .pre .1 .2,
       ),
     )
@@ -61,8 +61,8 @@ returns c =
     let b = a .args in
     let p = b .p in
     let T = a .pre .0 .0 in
-    let S = a .pre .0 .1 in
-    let R = room p S (length (b .work .now)) (a .pre .0 .2) in
+    let S = a .pre .0 .0 in
+    let R = room p S (length (b .work .now)) (a .pre .0 .1) in
     let o = S .columns-low in
     let k = p .k in
     let l = p .l in
@@ -86,7 +86,7 @@ returns c =
             (kept-less (omega arith) (omega (arith, u .long)) (r .0 .3)),
       ),
       r .1 ∙ hint-parts k l (b .a .now) (u .new) y t (u .behind (atT l d) (k * 512) (omega arith) (omega (arith, o)))
-      ∙ hint-all p (b .a .now) z x (vkVector p (b .vk .now)) w (a .pre .1 .2) (span-words (b .work .now) (atX k l d) (l * 512) (R .2) (a .pre .0 .3))
+      ∙ hint-all p (b .a .now) z x (vkVector p (b .vk .now)) w (a .pre .1 .2) (span-words (b .work .now) (atX k l d) (l * 512) (R .2) (a .pre .0 .2))
       (subst (Words 512) (s .0) (s .1)) (length-repack 8 7 (p .k * 512) _) (length-span (b .work .now) (atT l d) (k * 512) (R .1)),
     )
 

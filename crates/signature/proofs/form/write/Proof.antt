@@ -3,7 +3,7 @@ use mathlib.Core.Path.{_≡_, ap, _∙_}
 use native.Mathlib.Omega.{arith}
 use lib.ListN.{length}
 use lib.Seq.{sets}
-use Rattle.signature.specs.Bits.{fields}
+use Rattle.signature.specs.Bits.{bitString}
 use Rattle.signature.specs.Code.{codes}
 use Rattle.signature.proofs.Filled.{form-room, written}
 use borrow.Author.Needs.{needs}
@@ -38,7 +38,7 @@ returns c =
     let a = s .args in
     let p = c .before .before .before .before .before .before .put-codes in
     let l : length (c .before .before .put-codes2 .last .0) ≡ length (a .out .now) = c .before .before .put-codes2 .kept .0 ∙ p .kept .0 ∙ c .before .before .before .before .before .before .before .before .before .before .begin .kept .1 .0 in
-    let e = c .before .before .put-codes2 .ensures .1 ∙ ap (λ (n : ℕ). sets (fields 8 (p .last .0)) n (codes 40 (a .response .now))) (p .ensures .0) in
+    let e = c .before .before .put-codes2 .ensures .1 ∙ ap (λ (n : ℕ). sets (bitString 8 (p .last .0)) n (codes 40 (a .response .now))) (p .ensures .0) in
     written (a .hash .now) (a .hint .now) (a .response .now) _ _ _ (length (a .out .now)) l (λ i. c .slice-known4 .given i .fits) (s .pre .0) (c .before .before .before .before .before .before .before .before .before .before .begin .ensures) (p .ensures .1) e
 
 pub write-spec : {M : Type 1} → statement M

@@ -1,9 +1,7 @@
 use mathlib.Core.Path.{sym, _∙_}
-use Rattle.signature.proofs.Asked.{listed}
+use Rattle.signature.proofs.Listing.{tabled}
 use Rattle.signature.proofs.KeyDone.{key-long}
 use Rattle.signature.proofs.KeyEnds.{passed, keygen-no-set, keygen-no-shares, keygen-refused, keygen-on}
-use Rattle.signature.proofs.KeyRanges.{ranged}
-use Rattle.signature.proofs.Listing.{found-small}
 use borrow.Author.Needs.{needs}
 use Rattle.signature.proofs.keygen.keygen.Statement.{statement}
 use Rattle.signature.proofs.keygen.keygen.Tie as tie
@@ -29,7 +27,7 @@ keygen-no-requires : tie.Need-keygen-no-requires
 keygen-no-requires c κs =
     let m = c .before .before .before in
     let a = m .before .before .before .before .before .before .before .args in
-    ranged (a .set) (a .shares) (a .edition) (m .p .given .0 .0) (sym (m .before .before .lookup .ensures) ∙ m .p .given .1)
+    tabled (a .set) (a .shares) (a .edition) (m .p .given .0 .0) (sym (m .before .before .lookup .ensures) ∙ m .p .given .1)
 
 generate-requires : tie.Need-generate-requires
 generate-requires c κs =
@@ -39,7 +37,7 @@ generate-requires c κs =
     let p = m .p .given .0 .0 in
     let f = sym (m .before .before .lookup .ensures) ∙ m .p .given .1 in
     let h = passed p (a .seeds .now) (a .mask-seed .now) (a .key-out .now) (a .work .now) (sym (k .keygen-no .ensures) ∙ c .before .before .if1 .taken) in
-    ((found-small (a .set) (a .shares) (a .edition) p f, h .work-long, h .seeds-long), h .out-long ∙ key-long p (listed (a .set) (a .shares) (a .edition) p f))
+    ((tabled (a .set) (a .shares) (a .edition) p f, h .work-long, h .seeds-long), h .out-long ∙ key-long p (tabled (a .set) (a .shares) (a .edition) p f))
 
 same-length : tie.Need-same-length
 same-length c = search needs

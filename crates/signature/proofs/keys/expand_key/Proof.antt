@@ -1,5 +1,6 @@
 use mathlib.Core.Path.{sym, _∙_}
-use Rattle.signature.proofs.Asked.{listed, expandable, expand-no-set, expand-no-shares, expand-refused, expand-done}
+use Rattle.signature.proofs.Listing.{tabled}
+use Rattle.signature.proofs.Asked.{expandable, expand-no-set, expand-no-shares, expand-refused, expand-done}
 use borrow.Author.Needs.{needs}
 use Rattle.signature.proofs.keys.expand_key.Statement.{statement}
 use Rattle.signature.proofs.keys.expand_key.Tie as tie
@@ -8,7 +9,7 @@ expand-no-requires : tie.Need-expand-no-requires
 expand-no-requires c κs =
     let m = c .before .before .before in
     let a = m .before .before .before .before .before .before .args in
-    listed (a .set) (a .shares) (a .edition) (m .p .given .0 .0) (sym (m .before .before .lookup .ensures) ∙ m .p .given .1)
+    tabled (a .set) (a .shares) (a .edition) (m .p .given .0 .0) (sym (m .before .before .lookup .ensures) ∙ m .p .given .1)
 
 expand-found-requires : tie.Need-expand-found-requires
 expand-found-requires c κs =
@@ -16,7 +17,7 @@ expand-found-requires c κs =
     let m = k .before .before .before .before in
     let a = m .before .before .before .before .before .before .args in
     let p = m .p .given .0 .0 in
-    let t = listed (a .set) (a .shares) (a .edition) p (sym (m .before .before .lookup .ensures) ∙ m .p .given .1) in
+    let t = tabled (a .set) (a .shares) (a .edition) p (sym (m .before .before .lookup .ensures) ∙ m .p .given .1) in
     let h = expandable p (a .key .now) (a .bytes-out .now) (a .words-out .now) (sym (k .expand-no .ensures) ∙ c .before .before .if1 .taken) in
     ((t, h .key-long, h .share-low), (h .bytes-long, h .words-long))
 

@@ -1,6 +1,7 @@
 use mathlib.Core.Path.{sym, _∙_}
 use Rattle.hash.specs.declared.params.Edition.{Edition}
-use Rattle.signature.proofs.Asked.{listed, refreshable, refresh-no-set, refresh-no-shares, refresh-refused, refresh-done}
+use Rattle.signature.proofs.Listing.{tabled}
+use Rattle.signature.proofs.Asked.{refreshable, refresh-no-set, refresh-no-shares, refresh-refused, refresh-done}
 use borrow.Author.Needs.{needs}
 use Rattle.signature.proofs.keys.refresh_key.Statement.{statement}
 use Rattle.signature.proofs.keys.refresh_key.Tie as tie
@@ -9,7 +10,7 @@ refresh-no-requires : tie.Need-refresh-no-requires
 refresh-no-requires c κs =
     let m = c .before .before .before in
     let a = m .before .before .before .before .before .before .before .before .args in
-    listed (a .set) (a .shares) Edition.Printed (m .p .given .0 .0) (sym (m .before .before .lookup .ensures) ∙ m .p .given .1)
+    tabled (a .set) (a .shares) Edition.Printed (m .p .given .0 .0) (sym (m .before .before .lookup .ensures) ∙ m .p .given .1)
 
 renew-requires : tie.Need-renew-requires
 renew-requires c κs =
@@ -17,7 +18,7 @@ renew-requires c κs =
     let m = k .before .before .before .before in
     let a = m .before .before .before .before .before .before .before .before .args in
     let p = m .p .given .0 .0 in
-    let t = listed (a .set) (a .shares) Edition.Printed p (sym (m .before .before .lookup .ensures) ∙ m .p .given .1) in
+    let t = tabled (a .set) (a .shares) Edition.Printed p (sym (m .before .before .lookup .ensures) ∙ m .p .given .1) in
     let h = refreshable p (record { vk = a .bytes .now; words = a .words .now }) (a .mask-seed .now) (a .bytes-out .now) (a .words-out .now)
     (sym (k .refresh-no .ensures) ∙ c .before .before .if1 .taken) in (
       (record { long = h .shares-long; low = h .shares-low }, t .count),

@@ -1,6 +1,5 @@
 use Rattle.signature.specs.Attempt.{coinsOf, keyIn}
 use Rattle.signature.specs.MaskedSteps.{matrixIn}
-use Rattle.signature.specs.SignSteps.{publicBy}
 use mathlib.Core.List.{List}
 use mathlib.Core.Path.{_≡_, ap, _∙_}
 use Prim.Native.Nat.{ℕ, _-_, _/_}
@@ -8,7 +7,7 @@ use native.Mathlib.Omega.{arith}
 use lib.ListN.{length, replicate}
 use borrow.Author.Tests.{not-true, not-false}
 use borrow.Rule.Slice.PartMut.{mid-len}
-use Rattle.signature.specs.Sign.{noiseAt, maskAt}
+use Rattle.signature.specs.Sign.{publicBy, noiseAt, maskAt}
 use Rattle.signature.proofs.AttemptEnds.{hash-long, commitment-low, ended-stuck, ended-made, ended-over}
 use Rattle.signature.proofs.Sizes.{room}
 use Rattle.signature.proofs.Fronts.{front-in, front-is}
@@ -26,7 +25,7 @@ answer-requires c κs =
     let z = c .before .before .before .before .commit .ensures in
     let n = a .args .p .kappa / 4 in
     let o : n - 0 ≡ n = omega arith in
-    (a .pre .0 .1, z .0 ∙ a .pre .0 .2, z .1, mid-len 0 n (replicate 64 0) (a .pre .0 .0 .hash-low) ∙ o)
+    (a .pre .0 .0, z .0 ∙ a .pre .0 .1, z .1, mid-len 0 n (replicate 64 0) (a .pre .0 .0 .hash-low) ∙ o)
 
 returns : tie.Need-returns
 returns c =
@@ -71,7 +70,7 @@ finish-requires c κs =
     let a = c .before .before .before .before .before .before .before .before .before .before .before .before .before .before .before .before .before .before .before .before .before .before .before .before .before .before in
     let n = hash-long p P N g s _ _ _ u in
     let H = front-is (p .kappa / 4) (replicate 64 0) (c .before .before .before .before .before .before .before .before .before .before .answer .last .1 .1 .1 .0) (a .pre .0 .0 .hash-low) n in
-    ((a .pre .0 .0, a .pre .0 .1, v .0 .0 ∙ z .0 ∙ a .pre .0 .2, v .0 .1, commitment-low p P N g s _ _ _ u), (a .pre .1 .0 .0, a .pre .1 .0 .1, a .pre .0 .4, ap (λ (l : List ℕ). length l) H ∙ n, a .pre .1 .0 .2))
+    ((a .pre .0 .0, v .0 .0 ∙ z .0 ∙ a .pre .0 .1, v .0 .1, commitment-low p P N g s _ _ _ u), (a .pre .1 .0 .0, a .pre .1 .0 .1, a .pre .0 .3, ap (λ (l : List ℕ). length l) H ∙ n, a .pre .1 .0 .2))
 
 returns-2 : tie.Need-returns-2
 returns-2 c =
@@ -90,7 +89,7 @@ returns-2 c =
     let H = front-is (p .kappa / 4) (replicate 64 0) (c .before .before .before .before .before .before .before .before .before .before .before .before .before .before .before .before .answer .last .1 .1 .1 .0) (a .pre .0 .0 .hash-low) n in
     let ok = not-false _ (c .before .before .before .before .before .before .before .before .before .before .before .if1 .left) in
     let f = c .before .before .before .before .before .finish .ensures in
-    let l = room p (a .pre .0 .1) (length (b .work .now)) (a .pre .0 .2) .1 in
+    let l = room p (a .pre .0 .0) (length (b .work .now)) (a .pre .0 .1) .1 in
     ((f .0 .0 ∙ v .0 .0 ∙ z .0, f .0 .1), ended-made p P N g s _ _ _ u ok _ H _ _ _ (f .1 (b .mu .now)) _ _ (omega (arith, l, v .0 .0, z .0)) (f .0 .2) (f .0 .3) (c .if2 .taken))
 
 returns-3 : tie.Need-returns-3
@@ -110,7 +109,7 @@ returns-3 c =
     let H = front-is (p .kappa / 4) (replicate 64 0) (c .before .before .before .before .before .before .before .before .before .before .before .before .before .before .before .before .answer .last .1 .1 .1 .0) (a .pre .0 .0 .hash-low) n in
     let ok = not-false _ (c .before .before .before .before .before .before .before .before .before .before .before .if1 .left) in
     let f = c .before .before .before .before .before .finish .ensures in
-    let l = room p (a .pre .0 .1) (length (b .work .now)) (a .pre .0 .2) .1 in
+    let l = room p (a .pre .0 .0) (length (b .work .now)) (a .pre .0 .1) .1 in
     ((f .0 .0 ∙ v .0 .0 ∙ z .0, f .0 .1), ended-over p P N g s _ _ _ u ok _ H _ _ _ (f .1 (b .mu .now)) _ _ (omega (arith, l, v .0 .0, z .0)) (f .0 .2) (f .0 .3) (c .if2 .left))
 
 pub attempt-spec : {M : Type 1} → statement M

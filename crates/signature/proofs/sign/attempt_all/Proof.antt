@@ -6,8 +6,7 @@ use Prim.Native.Nat.{ℕ, _-_, _≤_}
 use native.Mathlib.Omega.{arith}
 use lib.ListN.{length}
 use Rattle.ring.specs.Words.{q, Below}
-use Rattle.signature.specs.Sign.{signFrom}
-use Rattle.signature.specs.SignSteps.{publicBy}
+use Rattle.signature.specs.Sign.{publicBy, signFrom}
 use Rattle.signature.proofs.AttemptEnds.{told-as, all-over, all-pass, all-stuck, all-next}
 use Rattle.signature.proofs.Coins.{coins-within}
 use borrow.Author.Needs.{needs}
@@ -29,7 +28,7 @@ loop-holds c =
     let b = a .args in
     let p = b .p in
     let e : b .n ≡ b .n - 0 = omega arith in
-    (omega arith, refl, a .pre .0 .3, refl, ap (λ (m : ℕ). signFrom p (publicBy p (b .vk .now) (b .mu .now) (matrixIn p (b .a .now))) (coinsOf (b .explicit) (b .seeds .now) (b .noise .now) (b .mask-seeds .now)) m 0 (keyIn p (b .work .now))) e)
+    (omega arith, refl, a .pre .0 .2, refl, ap (λ (m : ℕ). signFrom p (publicBy p (b .vk .now) (b .mu .now) (matrixIn p (b .a .now))) (coinsOf (b .explicit) (b .seeds .now) (b .noise .now) (b .mask-seeds .now)) m 0 (keyIn p (b .work .now))) e)
 
 attempt-requires : tie.Need-attempt-requires Inv-loop μ-loop
 attempt-requires c κs =
@@ -38,7 +37,7 @@ attempt-requires c κs =
     let i = c .before .before .before .loop .inv in
     let T = coinsOf (b .explicit) (b .seeds .now) (b .noise .now) (b .mask-seeds .now) in
     let w = coins-within (b .p) (b .n) (c .before .before .before .loop .i) (c .before .before .loop-test .taken) (a .pre .1 .1 .0) T (a .pre .1 .1 .1) in
-    ((a .pre .0 .0, a .pre .0 .1, i .1 ∙ a .pre .0 .2, i .2, a .pre .0 .4), ((a .pre .1 .0 .0, a .pre .1 .0 .1, ap (λ (l : List ℕ). length l) (i .3) ∙ a .pre .1 .0 .2), w))
+    ((a .pre .0 .0, i .1 ∙ a .pre .0 .1, i .2, a .pre .0 .3), ((a .pre .1 .0 .0, a .pre .1 .0 .1, ap (λ (l : List ℕ). length l) (i .3) ∙ a .pre .1 .0 .2), w))
 
 add-reported : tie.Need-add-reported Inv-loop μ-loop
 add-reported c =

@@ -1,10 +1,7 @@
 use mathlib.Core.Path.{sym, _∙_}
 use Rattle.signature.specs.Attempt.{keyFrom, coinsOf}
-use Rattle.signature.proofs.Asked.{listed}
-use Rattle.signature.proofs.KeyRanges.{ranged}
-use Rattle.signature.proofs.Listing.{found-small}
+use Rattle.signature.proofs.Listing.{tabled}
 use Rattle.signature.proofs.SignEnds.{sign-no-set, sign-no-shares, sign-on}
-use Rattle.signature.proofs.Verified.{tabled}
 use borrow.Author.Needs.{needs}
 use Rattle.signature.proofs.sign.sign_any.Statement.{statement}
 use Rattle.signature.proofs.sign.sign_any.Tie as tie
@@ -14,7 +11,7 @@ sign-found-requires c κs =
     let a = c .before .before .before .before .before .before .before .before .before .before .before .before .before .before .args in
     let p = c .before .before .before .p .given .0 .0 in
     let f = sym (c .before .before .before .before .before .lookup .ensures) ∙ c .before .before .before .p .given .1 in
-    (tabled (a .set) (a .shares) (a .edition) p f, listed (a .set) (a .shares) (a .edition) p f, found-small (a .set) (a .shares) (a .edition) p f, ranged (a .set) (a .shares) (a .edition) p f)
+    tabled (a .set) (a .shares) (a .edition) p f
 
 returns : tie.Need-returns
 returns c =

@@ -24,7 +24,7 @@ part-expand-matrix-end c =
 
 expand-matrix-requires : tie.Need-expand-matrix-requires
 expand-matrix-requires c κs =
-    let h = c .before .before .before .before .before .before .before .before .before .before .before .pre .0 .1 in
+    let h = c .before .before .before .before .before .before .before .before .before .before .before .pre .0 .0 in
     (matrix-fits (c .before .before .before .before .before .before .before .before .before .before .before .args .p) h (words-zeros 32256 .long), words-zeros 32256 .low, h .rows-low, h .columns-low)
 
 returns : tie.Need-returns
@@ -52,7 +52,7 @@ attempt-all-requires : tie.Need-attempt-all-requires
 attempt-all-requires c κs =
     let a = c .before .before .before .before .before .before .before .before .before .before .before .before .before .before .before .before .before .before .before .before .before .before in
     let z = c .before .before .before .before .before .before .before .before .before .before .expand-matrix .ensures .0 in
-    ((a .pre .0 .0, a .pre .0 .1, a .pre .0 .2, a .pre .0 .3, (matrix-fits (a .args .p) (a .pre .0 .1) (z .1), z .2)), (a .pre .1 .0, a .pre .1 .1))
+    ((a .pre .0 .0, a .pre .0 .1, a .pre .0 .2, (matrix-fits (a .args .p) (a .pre .0 .0) (z .1), z .2)), (a .pre .1 .0, a .pre .1 .1))
 
 returns-2 : tie.Need-returns-2
 returns-2 c =

@@ -21,7 +21,7 @@ load-shares-requires c κs =
     let a = c .before .before .before .before .before .before .before .before .before in
     let b = a .args in
     let g = signable (b .p) (keyFrom (b .packed) (b .key .now) (b .words .now)) (b .n) (b .message .now) (coinsOf (b .explicit) (b .seeds .now) (b .noise .now) (b .mask-seeds .now)) (b .out .now) (b .work .now) (a .pre .1) in
-    ((a .pre .0 .1, g .work-long), (g .sized, g .low))
+    ((a .pre .0, g .work-long), (g .sized, g .low))
 
 returns : tie.Need-returns
 returns c =
@@ -37,7 +37,7 @@ part-sign-loaded-end c =
     let a = c .before .before .before .before .before .before .before .before .before .before .before .before .before .before in
     let b = a .args in
     let g = signable (b .p) (keyFrom (b .packed) (b .key .now) (b .words .now)) (b .n) (b .message .now) (coinsOf (b .explicit) (b .seeds .now) (b .noise .now) (b .mask-seeds .now)) (b .out .now) (b .work .now) (a .pre .1) in
-    public-in (b .p) (a .pre .0 .1) (b .key .now) (b .words .now) (b .packed) (g .sized)
+    public-in (b .p) (a .pre .0) (b .key .now) (b .words .now) (b .packed) (g .sized)
 
 sign-loaded-requires : tie.Need-sign-loaded-requires
 sign-loaded-requires c κs =
@@ -45,10 +45,10 @@ sign-loaded-requires c κs =
     let b = a .args in
     let g = signable (b .p) (keyFrom (b .packed) (b .key .now) (b .words .now)) (b .n) (b .message .now) (coinsOf (b .explicit) (b .seeds .now) (b .noise .now) (b .mask-seeds .now)) (b .out .now) (b .work .now) (a .pre .1) in
     let z = c .before .before .before .before .before .before .load-shares .ensures in
-    let e = public-front (b .p) (a .pre .0 .1) (b .key .now) (b .words .now) (b .packed) (g .sized) in
-    let n = public-long (b .p) (a .pre .0 .1) (b .key .now) (b .words .now) (b .packed) (g .sized) in
-    let v = public-good (b .p) (a .pre .0 .1) (b .key .now) (b .words .now) (b .packed) (g .sized) (g .good) in (
-      (a .pre .0 .0, a .pre .0 .2, z .0 .1 ∙ g .work-long, z .0 .2),
+    let e = public-front (b .p) (a .pre .0) (b .key .now) (b .words .now) (b .packed) (g .sized) in
+    let n = public-long (b .p) (a .pre .0) (b .key .now) (b .words .now) (b .packed) (g .sized) in
+    let v = public-good (b .p) (a .pre .0) (b .key .now) (b .words .now) (b .packed) (g .sized) (g .good) in (
+      (a .pre .0, z .0 .1 ∙ g .work-long, z .0 .2),
       (
         (ap (λ (l : List ℕ). length l) e ∙ n, subst (λ (l : List ℕ). Below 125 (vkVector (b .p) l)) (sym e) v, g .out-long),
         (g .most, g .coins),
@@ -67,7 +67,7 @@ returns-2 c =
     let z = w .ensures in
     let f = filled-some (sharesOf p K) (sym (z .0 .0) ∙ not-false _ (c .before .before .before .before .before .before .before .before .before .before .before .before .if1 .left)) in
     let x = z .1 (heldOf (sharesOf p K) .poly) f in
-    let e = public-front p (a .pre .0 .1) (b .key .now) (b .words .now) (b .packed) (g .sized) in
+    let e = public-front p (a .pre .0) (b .key .now) (b .words .now) (b .packed) (g .sized) in
     let r = c .before .before .before .before .before .before .before .before .sign-loaded in
     ap (signing _ _ _) (c .before .before .clear2 .ensures)
     ∙ end-made p K (b .message .now) T (b .n) (b .out .now) (b .work .now) (r .last .0) (r .ensures .0 ∙ z .0 .1)

@@ -1,5 +1,6 @@
 use mathlib.Core.Path.{sym, _∙_}
-use Rattle.signature.proofs.Verified.{tabled, verify-no-set, never-shares, verify-found}
+use Rattle.signature.proofs.Listing.{tabled}
+use Rattle.signature.proofs.Verified.{verify-no-set, never-shares, verify-found}
 use borrow.Author.Needs.{needs}
 use Rattle.signature.proofs.verify.verify.Statement.{statement}
 use Rattle.signature.proofs.verify.verify.Tie as tie
