@@ -74,9 +74,3 @@ lookupOf set d e =
     pick (eqb (setIndex set) 3)
     Selected.NoSet
     (pick (eqb (orderIndex d) 6) Selected.NoShares (Selected.Found (paramsOf (rowAt (6 * setIndex set + orderIndex d)) e)))
-
--- the status of each answer: checks 1 and 2; 0 where both are a yes
-abbrev pub selectedNo : Selected → ℕ
-selectedNo (Selected.Found p) = 0
-selectedNo Selected.NoSet = 1
-selectedNo Selected.NoShares = 2

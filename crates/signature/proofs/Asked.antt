@@ -1,17 +1,15 @@
 -- The checks of expanding and refreshing (01, "Questions put to a call"): what is known where none is a no, and the ends of a call.
-use mathlib.Core.Path.{_≡_, refl, sym, ap, subst, _∙_}
+use mathlib.Core.Path.{_≡_, refl, sym, ap, _∙_}
 use mathlib.Core.Bool.{Bool, true}
 use mathlib.Core.List.{List, [], _∷_, _++_}
 use Prim.Native.Nat.{ℕ, zero, suc, _*_}
-use native.Mathlib.Omega.{arith}
 use borrow.Author.Tests.{eqb-true}
 use lib.Dec.{eqb}
 use lib.ListN.{length, drop}
-use Rattle.hash.specs.Params.{ShareCount, lookupOf}
+use Rattle.hash.specs.Params.{lookupOf}
 use Rattle.hash.specs.declared.params.Edition.{Edition}
 use Rattle.hash.specs.declared.params.Params.{Params}
 use Rattle.hash.specs.declared.params.Selected.{Selected}
-use Rattle.hash.proofs.Rows.{found, count-low}
 use Rattle.ring.specs.Words.{q, Below}
 use Rattle.ring.proofs.Sums.{all-below}
 use Rattle.ring.proofs.Checks.{asked, no-before, yes-before, both-true}
@@ -23,7 +21,6 @@ use Rattle.signature.specs.Checks.{firstNo, both, signingKeySized, expan
 use Rattle.signature.specs.ExpandedKey.{ExpandedKey}
 use Rattle.signature.specs.KeyCalls.{keyLeaves, expandCall, refreshCall}
 use Rattle.signature.specs.Outcome.{Outcome, outcome}
-use Rattle.signature.specs.Table.{Tabled}
 
 pub sizes : (x v y n : ℕ) → both (eqb x v) (eqb y n) ≡ true → (x ≡ v) × (y ≡ n)
 sizes x v y n e = let b = both-true (eqb x v) (eqb y n) e in (eqb-true x v (b .0), eqb-true y n (b .1))

@@ -18,10 +18,10 @@ use Rattle.ring.proofs.Filled.{filled-some, not-filled}
 use Rattle.ring.proofs.Mapped.{rounded-residues}
 use Rattle.sharing.specs.Region.{span, Kept}
 use Rattle.sharing.specs.declared.masks.MaskGen.{MaskGen}
-use Rattle.signature.specs.Answers.{FinishedAs}
-use Rattle.signature.specs.Attempt.{atR, keyIn, Answered, commitmentOf}
+use Rattle.signature.specs.AnswerSteps.{FinishedAs}
+use Rattle.signature.specs.AttemptSteps.{keyIn, Answered, commitmentOf}
 use Rattle.signature.specs.Challenge.{chalHash}
-use Rattle.signature.specs.Keygen.{atRoom, atS, atT, atX}
+use Rattle.signature.specs.Layout.{atRoom, atS, atR, atT, atX}
 use Rattle.signature.specs.Masked.{Noise}
 use Rattle.signature.specs.Matrix.{filled}
 use Rattle.signature.specs.Recover.{muOf}

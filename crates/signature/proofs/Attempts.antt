@@ -18,11 +18,12 @@ use Rattle.sharing.specs.Region.{span, Wrote}
 use Rattle.sharing.specs.Encoding.{skip, refreshed}
 use Rattle.sharing.specs.Masks.{masks}
 use Rattle.sharing.specs.declared.masks.MaskGen.{MaskGen}
-use Rattle.signature.specs.Attempt.{atR, keyIn, Begun, LastRow, Committed, Responded, Answered, commitmentOf, hashOf}
+use Rattle.signature.specs.AttemptSteps.{keyIn, Begun, LastRow, Committed, Responded, Answered, commitmentOf, hashOf}
 use Rattle.signature.specs.Bounds.{checkBounds}
-use Rattle.signature.specs.Challenge.{headed, ordered, challenge, chalHash, chalPoly, chalHeld}
+use Rattle.signature.specs.Challenge.{headed, ordered, challenge, chalHash, chalPoly}
+use Rattle.signature.specs.ChallengeSteps.{chalHeld}
 use Rattle.signature.specs.Form.{Fields, write}
-use Rattle.signature.specs.Keygen.{atS, atT, atX}
+use Rattle.signature.specs.Layout.{atS, atR, atT, atX}
 use Rattle.signature.specs.Masked.{Noise, maskedNoise}
 use Rattle.signature.specs.Outcome.{answer}
 use Rattle.signature.specs.Sign.{Public, Attempted, made, over, stuck, Coins, signedFields, finished, challenged, concluded, maskedResponse, refreshedKey, refreshedNoise, refreshedResponse, attempted, noiseAt, maskAt, signFrom}

@@ -19,7 +19,7 @@ use Rattle.hash.specs.declared.params.Params.{Params}
 use Rattle.signature.specs.Bits.{bitsOf, valOf, bitString, chop}
 use Rattle.signature.specs.Code.{negOf, signs, codeOf, code, codes, codesBits, readCodes}
 use Rattle.signature.specs.Form.{Fields, hashBytes, formBits, bitCount, write, read}
-use Rattle.signature.specs.Answers.{fieldsOf, allZero, parsed}
+use Rattle.signature.specs.AnswerSteps.{fieldsOf, allZero, parsed}
 use Rattle.signature.proofs.Strings.{Bits, bits-drop, bits-join, are-bits, fields-bits, length-bits, length-fields}
 use Rattle.signature.proofs.Packing.{val-bits, chop-fields, fields-append, length-chop, chop-lt, fields-chop, bytes-lt, lt-bytes}
 use Rattle.signature.proofs.Codes.{neg-lt, code-length}

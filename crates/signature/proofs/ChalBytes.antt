@@ -15,7 +15,8 @@ use Rattle.hash.proofs.Lanes.{absorb-mod}
 use Rattle.hash.proofs.Output.{after-none, after-next, finish-mod}
 use Rattle.hash.proofs.Table.{length-table, getD-table, filled-more}
 use Rattle.hash.proofs.Sponge.{absorb-append, finish-two, stream-block}
-use Rattle.signature.specs.Challenge.{draw, draws, ordered, bytesOf, drawsOf, blockOf, nextOf, behind}
+use Rattle.signature.specs.Challenge.{draw, draws, ordered}
+use Rattle.signature.specs.ChallengeSteps.{bytesOf, drawsOf, blockOf, nextOf, behind}
 
 -- ---- blocks
 

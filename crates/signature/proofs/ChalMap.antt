@@ -12,7 +12,7 @@ use lib.Seq.{getD-set-same, getD-set-other}
 use lib.Pow.{pow-pos, pow-add, split, pow-lt, shl-shr}
 use lib.Bits.{bitOr, or-block, or-zero-r, or-shr, or-mod}
 use lib.Count.{ones, ones-cat}
-use Rattle.signature.specs.Challenge.{bitAt, onesOf}
+use Rattle.signature.specs.ChallengeSteps.{bitAt, onesOf}
 
 -- ---- one word
 

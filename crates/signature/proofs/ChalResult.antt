@@ -19,7 +19,8 @@ use Rattle.hash.proofs.Output.{output-length, output-bytes}
 use Rattle.hash.proofs.Rows.{found}
 use Rattle.ring.proofs.Checks.{absurd-bool}
 use Rattle.ring.proofs.Filled.{some-filled, none-filled}
-use Rattle.signature.specs.Challenge.{draw, place, minusBit, sign, nz, weight, step, run, draws, challenge, chalPoly, ordered, chalHash, sampledChallenge, headed, chalHeld}
+use Rattle.signature.specs.Challenge.{draw, place, minusBit, sign, nz, weight, step, run, draws, challenge, chalPoly, ordered, chalHash, sampledChallenge, headed}
+use Rattle.signature.specs.ChallengeSteps.{chalHeld}
 use Rattle.signature.specs.declared.challenge.Challenged.{Challenged}
 
 -- ---- the polynomial

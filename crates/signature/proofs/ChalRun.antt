@@ -20,7 +20,8 @@ use mir.Val.{toZ, ofZ}
 use Rattle.hash.specs.Lists.{pick}
 use Rattle.hash.specs.Keccak.{State}
 use Rattle.hash.specs.declared.params.Edition.{Edition}
-use Rattle.signature.specs.Challenge.{draw, place, minusBit, sign, nz, weight, step, run, draws, challenge, chalHeld, bytesOf, blockOf, bitAt, onesOf}
+use Rattle.signature.specs.Challenge.{draw, place, minusBit, sign, nz, weight, step, run, draws, challenge}
+use Rattle.signature.specs.ChallengeSteps.{chalHeld, bytesOf, blockOf, bitAt, onesOf}
 use Rattle.signature.specs.declared.challenge.Challenged.{Challenged}
 use Rattle.signature.proofs.ChalBytes.{stateOf, block-draws}
 use Rattle.signature.proofs.ChalMap.{marked, mark-ones, mark-same, mark-other}

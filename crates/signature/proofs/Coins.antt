@@ -21,7 +21,7 @@ use Rattle.sharing.specs.declared.masks.MaskGen.{MaskGen}
 use Rattle.sharing.proofs.Lists.{inside}
 use Rattle.sharing.proofs.NoisePlaces.{noise-bytes}
 use Rattle.sharing.proofs.Regions.{length-span}
-use Rattle.signature.specs.Attempt.{coinsOf, Within, Committed}
+use Rattle.signature.specs.AttemptSteps.{coinsOf, Within, Committed}
 use Rattle.signature.specs.Checks.{both}
 use Rattle.signature.specs.Masked.{Noise, seeded, explicit}
 use Rattle.signature.specs.Sign.{Coins, noiseAt, maskAt}

@@ -13,8 +13,8 @@ use Rattle.sharing.specs.Region.{span, Wrote}
 use Rattle.sharing.specs.Encoding.{skip, addNoise}
 use Rattle.sharing.specs.Masks.{masks}
 use Rattle.sharing.specs.declared.masks.MaskGen.{MaskGen}
-use Rattle.signature.specs.Attempt.{atR, keyIn, Begun, Committed}
-use Rattle.signature.specs.Keygen.{atS, atT}
+use Rattle.signature.specs.AttemptSteps.{keyIn, Committed}
+use Rattle.signature.specs.Layout.{atS, atR, atT}
 use Rattle.signature.specs.Masked.{Noise, maskedNoise, maskedImage}
 use Rattle.signature.specs.MaskedSteps.{matrixIn, MatrixHeld, transformed, rowsOf, SummedAll}
 use Rattle.signature.proofs.Masking.{image-is, image-next}

@@ -26,7 +26,7 @@ use Rattle.signature.proofs.Entries.{All, all-some}
 use Rattle.signature.proofs.Packing.{length-repack}
 use Rattle.signature.proofs.Sizes.{part-all}
 use Rattle.signature.specs.Keys.{seedBytes, fullShare, seededShare, shareAt, decompressed, expandOf, expandedOf}
-use Rattle.signature.specs.Expanding.{partBytes, expandedAt, expandedShares}
+use Rattle.signature.specs.ExpandSteps.{partBytes, expandedAt, expandedShares}
 use Rattle.signature.specs.KeyCalls.{keyLeaves}
 use Rattle.signature.specs.Outcome.{outcome, firstNo, heldOr}
 use Rattle.signature.specs.Table.{Tabled}

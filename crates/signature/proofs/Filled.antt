@@ -12,7 +12,7 @@ use lib.Seq.{sets, sets-eq, drop-cons, take-all, take-suc, take-suc-set}
 use Rattle.signature.specs.Bits.{bitsOf, bitString, chop}
 use Rattle.signature.specs.Code.{codes, codesBits}
 use Rattle.signature.specs.Form.{formBits, bitCount}
-use Rattle.signature.specs.Answers.{fieldsOf, allZero}
+use Rattle.signature.specs.AnswerSteps.{fieldsOf, allZero}
 use Rattle.signature.proofs.Strings.{length-fields, sets-append, sets-right}
 use Rattle.signature.proofs.Packing.{chop-fields, fields-append}
 use Rattle.signature.proofs.Counts.{codes-length}

@@ -12,7 +12,7 @@ use Rattle.hash.specs.declared.params.Params.{Params}
 use Rattle.ring.specs.Words.{q, Below, zipTo}
 use Rattle.ring.specs.Round.{roundW, residues}
 use Rattle.ring.proofs.Sums.{below-zip, length-zip}
-use Rattle.signature.specs.Answers.{fieldsOf, FinishedAs}
+use Rattle.signature.specs.AnswerSteps.{fieldsOf, FinishedAs}
 use Rattle.signature.specs.Bits.{chop}
 use Rattle.signature.specs.Bounds.{checkBounds}
 use Rattle.signature.specs.Form.{Fields, formBits, bitCount}

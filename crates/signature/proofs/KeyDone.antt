@@ -16,8 +16,9 @@ use Rattle.signature.specs.Bits.{repack}
 use Rattle.sharing.specs.Masks.{maskStart}
 use Rattle.signature.specs.Checks.{firstNo, both, workWords}
 use Rattle.signature.specs.Keys.{keygenBytes, vkSeed, noisePart, sharePart, keygenOf, publicKey}
-use Rattle.signature.specs.Keygen.{atT, Generated, keyOf}
+use Rattle.signature.specs.KeygenSteps.{Generated, keyOf}
 use Rattle.signature.specs.KeyCalls.{keygenLeaves}
+use Rattle.signature.specs.Layout.{atT}
 use Rattle.signature.specs.Outcome.{outcome}
 use Rattle.signature.specs.Matrix.{matrix, filled}
 use Rattle.signature.specs.Table.{Tabled}

@@ -3,11 +3,7 @@ use Prim.Native.Nat.{ℕ, _+_, _-_, _*_, _/_, _^_, _≤_, _<_}
 use mathlib.Core.Path.{_≡_, sym, ap}
 use native.Mathlib.Omega.{arith}
 use native.Mathlib.Nat.{mul-le-mul}
-use Rattle.hash.specs.declared.params.Edition.{Edition}
 use Rattle.hash.specs.declared.params.Params.{Params}
-use Rattle.hash.specs.declared.params.Selected.{Selected}
-use Rattle.hash.specs.Params.{lookupOf}
-use Rattle.hash.proofs.Rows.{found, count-low}
 use Rattle.sharing.proofs.NoisePlaces.{noise-bytes}
 use Rattle.signature.specs.Keys.{keygenBytes}
 use Rattle.signature.specs.Table.{Tabled}

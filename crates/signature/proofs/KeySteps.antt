@@ -18,9 +18,10 @@ use Rattle.sharing.specs.Noise.{seedNoise}
 use Rattle.sharing.specs.declared.masks.MaskGen.{MaskGen}
 use Rattle.sharing.proofs.Regions.{wrote-value, wrote-wide, wrote-over}
 use Rattle.signature.specs.Checks.{both}
-use Rattle.signature.specs.Keygen.{atS, atT, atX, Rounded, Generated}
+use Rattle.signature.specs.KeygenSteps.{Rounded, Generated}
 use Rattle.signature.specs.Keys.{keyShares, keyVector, compressed}
 use Rattle.signature.specs.Compress.{compressedOf}
+use Rattle.signature.specs.Layout.{atS, atT, atX}
 use Rattle.signature.specs.Masked.{Noise, seeded, maskedNoise, maskedImage}
 use Rattle.signature.specs.MaskedSteps.{matrixIn, MatrixHeld, transformed, rowsOf, SummedAll}
 use Rattle.signature.specs.Matrix.{matrix, matrixOf, filled}

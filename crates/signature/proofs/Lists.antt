@@ -12,7 +12,7 @@ use lib.IntN.{ℤ, pos}
 use lib.ListN.{length, getD, set, take, drop, length-append}
 use lib.Seq.{sets, take-suc-set}
 use Rattle.signature.specs.Code.{code, signedOf, codes, runOf, magOf, readCode, readCodes}
-use Rattle.signature.specs.Answers.{gotOf}
+use Rattle.signature.specs.AnswerSteps.{gotOf}
 use Rattle.signature.proofs.Strings.{sets-append}
 use Rattle.signature.proofs.Codes.{read-short, read-zero, read-cut, read-some}
 

@@ -17,12 +17,12 @@ use Rattle.sharing.specs.Blocks.{block, build}
 use Rattle.sharing.specs.Region.{put, Wrote}
 use Rattle.sharing.proofs.Lists.{block-words, words-build}
 use Rattle.sharing.proofs.Regions.{put-back, wrote-put}
-use Rattle.signature.specs.Attempt.{keyFrom}
+use Rattle.signature.specs.AttemptSteps.{keyFrom}
 use Rattle.signature.specs.Checks.{keySized, sharesGood}
 use Rattle.signature.specs.Keys.{fullShare, seededShare, shareAt, decompressed, expandOf, sharesOf}
 use Rattle.signature.specs.Compress.{seededShareOf}
 use Rattle.signature.specs.Matrix.{filled}
-use Rattle.signature.specs.Expanding.{expandedAt, expandedShares}
+use Rattle.signature.specs.ExpandSteps.{expandedAt, expandedShares}
 use Rattle.signature.proofs.Asked.{sizes}
 use Rattle.signature.proofs.Expanded.{full-length, expanded-all}
 use Rattle.signature.proofs.Sizes.{part-all}

@@ -12,11 +12,9 @@ use lib.Dec.{leb}
 use lib.Pow.{shr-mono}
 use borrow.Author.Tests.{le-leb, lt-leb, leb-true}
 use Rattle.hash.specs.Lists.{pick}
-use Rattle.hash.specs.declared.params.Params.{Params}
 use Rattle.signature.specs.declared.bounds.Norm.{Norm}
-use Rattle.signature.specs.Form.{Fields}
-use Rattle.signature.specs.Bounds.{within, squares, checkBounds}
-use Rattle.signature.specs.Answers.{normOf, boundsOf}
+use Rattle.signature.specs.Bounds.{within, squares, boundsOf}
+use Rattle.signature.specs.AnswerSteps.{normOf}
 
 both-false : (b : Bool) → pick b false false ≡ false
 both-false true = refl
@@ -101,8 +99,3 @@ module _ (limit most all : ℕ) (h z : List ℤ) where
   pub by-sum : within limit h ≡ true → within most z ≡ true → boundsOf limit most all h z ≡ leb (2 ^ 24 * squares 0 h + squares 32 z) all
   unfolding boundsOf
   by-sum e f = rw (e, f)
-
--- the code's test is that of the definition
-pub bounds-are : (p : Params) (f : Fields) → boundsOf (p .«hint_limit») (p .binf) (p .b22) (f .hint) (f .response) ≡ checkBounds p f
-unfolding boundsOf checkBounds
-bounds-are p f = refl

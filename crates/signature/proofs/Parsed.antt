@@ -11,7 +11,7 @@ use lib.Seq.{drop-drop}
 use Rattle.hash.specs.Lists.{pick}
 use Rattle.signature.specs.declared.code.Next.{Next}
 use Rattle.signature.specs.Code.{readCode, readCodes, oneMore, thenOne}
-use Rattle.signature.specs.Answers.{NextOf, allZero, parsed, ReadOf}
+use Rattle.signature.specs.AnswerSteps.{NextOf, allZero, parsed, ReadOf}
 use Rattle.signature.proofs.Lists.{read-le}
 
 -- ---- the answer of several numbers

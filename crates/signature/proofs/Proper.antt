@@ -11,9 +11,9 @@ use lib.IntN.{ℤ, pos, natAbs}
 use lib.ListN.{length, getD, take, drop}
 use Rattle.hash.specs.Lists.{pick, Bytes}
 use Rattle.hash.specs.declared.params.Params.{Params}
-use Rattle.signature.specs.Answers.{fieldsOf, parsed, ReadOf, boundsOf}
+use Rattle.signature.specs.AnswerSteps.{fieldsOf, parsed, ReadOf}
 use Rattle.signature.specs.Bits.{bitString}
-use Rattle.signature.specs.Bounds.{within, squares, checkBounds}
+use Rattle.signature.specs.Bounds.{within, squares, boundsOf}
 use Rattle.signature.specs.Checks.{firstNo, writtenAs, properFields, properForm}
 use Rattle.signature.specs.Form.{Fields, hashBytes, write, read}
 use Rattle.signature.specs.Verify.{hashChecks, fieldsIn}
@@ -88,10 +88,6 @@ read-no t n m n′ m′ r h z a b e u =
     ap (λ (x : ℕ). parsed x m t) (sym a) ∙ ap (λ (x : ℕ). parsed n′ x t) (sym b) ∙ read-false (parsed n′ m′ t) h z (subst (λ (x : Bool). ReadOf (parsed n′ m′ t) x h z) e u)
 
 -- ---- the bounds
-
-pub bounds-is : (p : Params) (c : List ℕ) (h z : List ℤ) → boundsOf (p .«hint_limit») (p .binf) (p .b22) h z ≡ checkBounds p (fieldsOf c h z)
-unfolding boundsOf checkBounds
-bounds-is p c h z = refl
 
 within-at : (most : ℕ) (zs : List ℤ) → within most zs ≡ true → (i : ℕ) → i < length zs → natAbs (getD zs i (pos 0)) ≤ most
 unfolding within

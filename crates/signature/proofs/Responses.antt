@@ -16,8 +16,8 @@ use Rattle.sharing.proofs.Lists.{block-words, block-build, build-ext, build-add
 use Rattle.sharing.proofs.Built.{each-is}
 use Rattle.sharing.proofs.Regions.{wrote-value, wrote-turn}
 use Rattle.sharing.proofs.Turns.{block-rest, source}
-use Rattle.signature.specs.Attempt.{atR, responseShare, responseAt, Renewed, Responded}
-use Rattle.signature.specs.Keygen.{atS, atT, atX}
+use Rattle.signature.specs.AttemptSteps.{responseShare, responseAt, Renewed, Responded}
+use Rattle.signature.specs.Layout.{atS, atR, atT, atX}
 use Rattle.signature.specs.MaskedSteps.{transformed, untransformed}
 use Rattle.signature.specs.Sign.{maskedResponse}
 

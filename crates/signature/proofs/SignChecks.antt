@@ -12,7 +12,7 @@ use Rattle.ring.specs.Words.{q, allBelow}
 use Rattle.ring.proofs.Checks.{absurd-bool, asked, no-before, yes-before, yes-both, both-true, left-no, right-no, both-last}
 use Rattle.sharing.specs.Noise.{noiseBytes}
 use Rattle.sharing.proofs.NoisePlaces.{noise-bytes}
-use Rattle.signature.specs.Attempt.{coinsOf}
+use Rattle.signature.specs.AttemptSteps.{coinsOf}
 use Rattle.signature.specs.Checks.{firstNo, both, attemptsAllowed, signBuffersSized, messageSized, workWords, keySized, keyGood, sharesGood, keyChecks}
 use Rattle.signature.specs.Keys.{vkSeed, publicOf, sharesOf}
 use Rattle.signature.specs.Matrix.{matrix, filled}

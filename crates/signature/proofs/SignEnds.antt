@@ -17,7 +17,7 @@ use Rattle.hash.specs.declared.params.Params.{Params}
 use Rattle.hash.specs.declared.params.Selected.{Selected}
 use Rattle.ring.specs.Words.{Below}
 use Rattle.ring.proofs.Sums.{all-below}
-use Rattle.signature.specs.Attempt.{keyFrom}
+use Rattle.signature.specs.AttemptSteps.{keyFrom}
 use Rattle.signature.specs.Bits.{repack}
 use Rattle.signature.specs.Checks.{both, keySized, keyGood, keyChecks}
 use Rattle.signature.specs.Keys.{seedBytes, vkSeed, vkVector, publicOf, sharesOf}

@@ -15,8 +15,8 @@ use Rattle.ring.proofs.Sums.{words-zeros}
 use Rattle.sharing.specs.Noise.{noiseBytes}
 use Rattle.sharing.proofs.NoisePlaces.{noise-bytes}
 use Rattle.signature.specs.Checks.{workWords}
-use Rattle.signature.specs.Keygen.{atS, atT, atX}
 use Rattle.signature.specs.Keys.{keygenBytes, noisePart, sharePart}
+use Rattle.signature.specs.Layout.{atS, atT, atX}
 use Rattle.signature.specs.Table.{Tabled}
 
 pub cleared : (xs ys : List ℕ) → ys ≡ zeros (length xs) → Words (length xs) ys
@@ -31,6 +31,10 @@ same-le e = omega arith
 -- a part that ends with its whole
 pub part-all : (b : ℕ) (xs : List ℕ) → take (length xs - b) (drop b xs) ≡ drop b xs
 part-all b xs = let e : length (drop b xs) ≡ length xs - b = length-drop b xs in take-all (length xs - b) (drop b xs) (omega arith)
+
+-- all shares of one of s and r
+pub region-low : {l d : ℕ} → (l ≤ 7) × (d ≤ 32) → l * (d * 512) ≤ 114688
+region-low {l} {d} h = let m : l * d ≤ 7 * 32 = mul-le-mul (h .0) (h .1) in omega arith
 
 module _ (p : Params) (h : Tabled p) where
   seed-low : p .kappa / 8 ≤ 32

@@ -10,7 +10,8 @@ use Rattle.hash.specs.Shake.{shake256}
 use Rattle.hash.specs.declared.params.Params.{Params}
 use Rattle.ring.specs.Uniform.{heldOf}
 use Rattle.ring.proofs.Filled.{not-filled, filled-some}
-use Rattle.signature.specs.Challenge.{headed, ordered, chalHash, chalPoly, chalHeld}
+use Rattle.signature.specs.Challenge.{headed, ordered, chalHash, chalPoly}
+use Rattle.signature.specs.ChallengeSteps.{chalHeld}
 use Rattle.signature.specs.Checks.{hashEqual}
 use Rattle.signature.specs.Form.{Fields}
 use Rattle.signature.specs.Keys.{vkSeed, vkVector}

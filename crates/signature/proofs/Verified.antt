@@ -12,10 +12,9 @@ use Rattle.hash.specs.Params.{setIndex, orderIndex, rowAt, paramsOf, lookupOf}
 use Rattle.hash.specs.declared.params.Edition.{Edition}
 use Rattle.hash.specs.declared.params.Params.{Params}
 use Rattle.hash.specs.declared.params.Selected.{Selected}
-use Rattle.hash.proofs.Rows.{order-count, found}
+use Rattle.hash.proofs.Rows.{order-count}
 use Rattle.hash.proofs.Sets.{look-up}
 use Rattle.signature.specs.Outcome.{firstNo, foundIn}
-use Rattle.signature.specs.Table.{Tabled}
 use Rattle.signature.specs.Verify.{verifyChecks, verifyCall}
 
 -- the look-up of the set, check 1: with one share there is a record or no set

@@ -18,9 +18,9 @@ unfoldable pub squares : ℕ → List ℤ → ℕ
 squares v [] = 0
 squares v (z ∷ zs) = natAbs z / 2 ^ v * (natAbs z / 2 ^ v) + squares v zs
 
--- lines 3 and 4; lines 5 to 7, with 2^(2 v_w - 64) = 2^24
-unfoldable pub checkBounds : Params → Fields → Bool
-checkBounds p f =
-    pick (within (p .«hint_limit») (f .hint))
-    (pick (within (p .binf) (f .response)) (leb (2 ^ 24 * squares 0 (f .hint) + squares 32 (f .response)) (p .b22)) false)
-    false
+-- lines 3 and 4; lines 5 to 7, with 2^(2 v_w - 64) = 2^24: over the hint's limit, B_inf and 2^-64 B_2^2, and over those of a set
+unfoldable pub boundsOf : ℕ → ℕ → ℕ → List ℤ → List ℤ → Bool
+boundsOf limit most all h z = pick (within limit h) (pick (within most z) (leb (2 ^ 24 * squares 0 h + squares 32 z) all) false) false
+
+abbrev pub checkBounds : Params → Fields → Bool
+checkBounds p f = boundsOf (p .«hint_limit») (p .binf) (p .b22) (f .hint) (f .response)

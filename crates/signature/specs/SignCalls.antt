@@ -10,7 +10,7 @@ use Rattle.hash.specs.declared.params.Params.{Params}
 use Rattle.hash.specs.declared.params.Selected.{Selected}
 use Rattle.signature.specs.Checks.{attemptsAllowed, signSeedsSized, signNoiseGood, signBuffersSized, messageSized, keyChecks}
 pub use Rattle.signature.specs.Keys.{Key, packed, expanded}
-use Rattle.signature.specs.Keys.{vkSeed, vkVector, publicOf, sharesOf}
+use Rattle.signature.specs.Keys.{vkSeed, publicOf, sharesOf}
 use Rattle.signature.specs.Matrix.{matrix, filled}
 use Rattle.signature.specs.Outcome.{Outcome, signing, refusedOr, firstNo, both, heldOr, written, wiped, setKnown, sharesKnown, foundIn}
 use Rattle.signature.specs.Recover.{muOf}

@@ -1,22 +1,26 @@
--- The steps of a signing call: its checks before any step, the end of an attempt as the code tells it, and what the attempts leave.
+-- Steps (what the code leaves on its way; no call's contract reaches these): a signing call's checks before any step, the end of an
+-- attempt as the code tells it, and what the attempts leave.
 use mathlib.Core.Path.{_≡_}
 use mathlib.Core.List.{List, [], _++_}
 use mathlib.Core.Option.{Option, some, none}
 use Prim.Native.Nat.{ℕ, _*_}
 use lib.IntN.{ℤ}
 use Rattle.hash.specs.declared.params.Params.{Params}
+use Rattle.hash.specs.declared.params.Selected.{Selected}
 use Rattle.ring.specs.Words.{q}
 use Rattle.ring.specs.Round.{residues}
 use Rattle.sharing.specs.Region.{span}
 use Rattle.sharing.specs.declared.masks.MaskGen.{MaskGen}
-use Rattle.signature.specs.Attempt.{atR, keyIn, Begun, LastRow, hashOf}
+use Rattle.signature.specs.AttemptSteps.{keyIn, Begun, LastRow, hashOf}
 use Rattle.signature.specs.Challenge.{chalPoly}
 use Rattle.signature.specs.Checks.{keyChecks}
-use Rattle.signature.specs.Keys.{vkVector}
+use Rattle.signature.specs.Keys.{vkSeed, publicOf, sharesOf}
+use Rattle.signature.specs.Layout.{atR}
 use Rattle.signature.specs.Masked.{Noise}
+use Rattle.signature.specs.Matrix.{matrix}
 use Rattle.signature.specs.Outcome.{Outcome, answer, firstNo, written}
 use Rattle.signature.specs.Sign.{Public, Attempted, made, over, stuck, Coins, refreshedKey, refreshedResponse, attempted, noiseAt, maskAt, signFrom}
-use Rattle.signature.specs.SignCalls.{Key, callChecks, publicFor}
+use Rattle.signature.specs.SignCalls.{Key, callChecks, publicFor, signBy, leftBy}
 use Rattle.signature.specs.declared.sign.AttemptEnd.{AttemptEnd}
 
 -- checks 3 to 9, before any step
@@ -28,6 +32,13 @@ abbrev pub signMade : Params → List ℕ → List ℕ → Coins → ℕ → Opt
 signMade p vk msg T n none s = answer 10 0 []
 signMade p vk msg T n (some A) none = answer 10 0 []
 signMade p vk msg T n (some A) (some s) = signFrom p (publicFor p vk msg A) T n 0 s
+
+-- .. with what they leave in the buffers; and the whole, of a record that was found
+abbrev pub signedWith : Params → Key → ℕ → List ℕ → Coins → List ℕ → List ℕ → Outcome
+signedWith p key n msg T out work = leftBy (signMade p (publicOf p key) msg T n (matrix p (vkSeed p (publicOf p key))) (sharesOf p key)) out work
+
+abbrev pub signedFound : Params → Key → ℕ → List ℕ → Coins → List ℕ → List ℕ → Outcome
+signedFound p key n msg T out work = leftBy (signBy (Selected.Found p) p key n msg T out work) out work
 
 -- what shares the work buffer ys holds behind a response: s refreshed, the shares of z, and those of the last row of w
 pub record Spent (p : Params) (P : Public) (N : Noise) (g : MaskGen) (s ys : List ℕ) : Type 0 where

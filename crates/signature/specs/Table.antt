@@ -1,6 +1,6 @@
 -- Steps (no call's contract reaches this): what every record of the parameter table has. proofs/Listing.antt shows it.
 use mathlib.Core.Path.{_≡_}
-use Prim.Native.Nat.{ℕ, _+_, _-_, _*_, _^_, _≤_, _<_}
+use Prim.Native.Nat.{_+_, _-_, _*_, _^_, _≤_, _<_}
 use Rattle.hash.specs.Params.{ShareCount}
 use Rattle.hash.specs.declared.params.Params.{Params}
 use Rattle.signature.specs.Form.{hashBytes}

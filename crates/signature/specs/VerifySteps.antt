@@ -1,4 +1,5 @@
--- The steps of verifying: the ends of its checks that the code's functions put, each behind those before it.
+-- Steps (what the code leaves on its way; no call's contract reaches these): the ends of verifying's checks that the code's functions
+-- put, each behind those before it.
 use mathlib.Core.Bool.{Bool}
 use mathlib.Core.List.{List, _∷_}
 use Prim.Native.Nat.{ℕ}

@@ -1,4 +1,4 @@
-// One attempt behind its commitment, up to its response (000, Algorithm 2, lines 9 to 16), on the work buffer, laid out as specs/Attempt.antt says.
+// One attempt behind its commitment, up to its response (000, Algorithm 2, lines 9 to 16), on the work buffer, laid out as specs/Layout.antt says.
 ghost use mathlib.Core.Path.{_≡_};
 ghost use mathlib.Core.List.{List, _++_};
 ghost use Prim.Native.Nat.{ℕ, _+_, _*_, _/_, _≤_, _<_};
@@ -8,14 +8,16 @@ ghost use Rattle.ring.specs.Words.{q, Below};
 ghost use Rattle.ring.specs.Round.{roundW};
 ghost use Rattle.sharing.specs.Region.{span, Wrote};
 ghost use Rattle.sharing.specs.declared.masks.MaskGen.{MaskGen};
-ghost use Rattle.signature.specs.Attempt.{Committed, Answered};
-ghost use Rattle.signature.specs.Challenge.{headed, ordered, challenge, chalHeld};
+ghost use Rattle.signature.specs.AttemptSteps.{Committed, Answered};
+ghost use Rattle.signature.specs.Challenge.{headed, ordered, challenge};
+ghost use Rattle.signature.specs.ChallengeSteps.{chalHeld};
 ghost use Rattle.signature.specs.Checks.{workWords};
 ghost use Rattle.signature.specs.Masked.{Noise};
 ghost use Rattle.signature.specs.Table.{Tabled};
 use crate::challenge::Challenged;
 use crate::challenge::chal_hash;
 use crate::challenge::chal_poly;
+use crate::layout::at_t;
 use crate::respond::respond;
 use crate::rounding::round_w_vector;
 use crate::rounding::to_bytes;
@@ -71,7 +73,7 @@ pub(crate) fn answer(
     let d = p.shares;
     let w = p.omega;
     let edition = p.edition;
-    let at = 4 * (d * 512) + 4096 + l * (d * 512) + l * (d * 512);
+    let at = at_t(l, d);
     let c = challenge_at(work, at, k, w, edition, mu, hash);
     if !c.ok {
         return c;

@@ -3,7 +3,8 @@ ghost use mathlib.Core.Path.{_≡_};
 ghost use Prim.Native.Nat.{ℕ, _/_, _^_, _<_, _≤_};
 ghost use lib.IntN.{pos, natAbs};
 ghost use lib.ListN.{length, getD};
-ghost use Rattle.signature.specs.Answers.{normOf, boundsOf};
+ghost use Rattle.signature.specs.Bounds.{boundsOf};
+ghost use Rattle.signature.specs.AnswerSteps.{normOf};
 use crate::int;
 
 pub enum Norm {

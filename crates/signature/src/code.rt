@@ -6,7 +6,7 @@ ghost use lib.ListN.{length, getD, drop};
 ghost use lib.Seq.{sets};
 ghost use Rattle.signature.specs.Bits.{bitString};
 ghost use Rattle.signature.specs.Code.{codeOf, code, codes, codeBits, codesBits, runOf, readCode, readCodes};
-ghost use Rattle.signature.specs.Answers.{gotOf, NextOf};
+ghost use Rattle.signature.specs.AnswerSteps.{gotOf, NextOf};
 use crate::bits;
 use crate::int;
 

@@ -1,15 +1,17 @@
-// The commitment of one attempt (000, Algorithm 2, lines 4 to 8) on the work buffer, laid out as specs/Attempt.antt says.
+// The commitment of one attempt (000, Algorithm 2, lines 4 to 8) on the work buffer, laid out as specs/Layout.antt says.
 ghost use mathlib.Core.Path.{_≡_};
 ghost use Prim.Native.Nat.{_+_, _*_};
 ghost use lib.ListN.{length};
 ghost use Rattle.ring.specs.Words.{q, Below};
 ghost use Rattle.sharing.specs.Noise.{noiseBytes};
-ghost use Rattle.signature.specs.Attempt.{coinsOf, Within, keyIn, Committed};
+ghost use Rattle.signature.specs.AttemptSteps.{coinsOf, Within, keyIn, Committed};
 ghost use Rattle.signature.specs.Checks.{workWords};
 ghost use Rattle.signature.specs.Masked.{seeded, explicit};
 ghost use Rattle.signature.specs.MaskedSteps.{matrixIn, MatrixHeld};
 ghost use Rattle.signature.specs.Sign.{noiseAt, maskAt};
 ghost use Rattle.signature.specs.Table.{Tabled};
+use crate::layout::at_r;
+use crate::layout::at_t;
 use crate::masked::image_explicit;
 use crate::masked::image_seeds;
 use crate::noise::noise_explicit;
@@ -28,8 +30,8 @@ fn commit_seeds(work: &mut [u64], p: Params, a: &[u64], coins: &[u8], g: MaskGen
     let rep = p.rep;
     let u = p.uw;
     let n = p.kappa / 8;
-    let at = 4 * (d * 512) + 4096 + l * (d * 512);
-    let to = at + l * (d * 512);
+    let at = at_r(l, d);
+    let to = at_t(l, d);
     let b = l * rep * d * n;
     let x = noise_seeds(work, at, p, u, coins, g);
     image_seeds(work, d * 512, at, to, p, u, a, &coins[b..], x)
@@ -42,8 +44,8 @@ fn commit_explicit(work: &mut [u64], p: Params, a: &[u64], words: &[u64], g: Mas
 {
     let l = p.l;
     let d = p.shares;
-    let at = 4 * (d * 512) + 4096 + l * (d * 512);
-    let to = at + l * (d * 512);
+    let at = at_r(l, d);
+    let to = at_t(l, d);
     let b = l * (d * 512);
     let x = noise_explicit(work, at, p, words, g);
     image_explicit(work, d * 512, at, to, p, a, &words[b..], x)

@@ -1,5 +1,5 @@
 // The end of a signing attempt (000, Algorithm 2, lines 17 to 20): the hint, the bounds, and the signature. The work buffer is laid out as
-// specs/Keygen.antt says: w, rounded, at atT, and z at atX. These lines write only to the room of eight polynomials before s: a row of y, and
+// specs/Layout.antt says: w, rounded, at atT, and z at atX. These lines write only to the room of eight polynomials before s: a row of y, and
 // z in the transform domain behind it. So all shares stay where they are.
 ghost use mathlib.Core.Path.{_≡_};
 ghost use mathlib.Core.List.{List};
@@ -9,11 +9,11 @@ ghost use lib.ListN.{length, getD};
 ghost use Rattle.ring.specs.Words.{q, Below, Words, zipTo};
 ghost use Rattle.ring.specs.Round.{roundW, residues};
 ghost use Rattle.sharing.specs.Region.{span, Kept};
-ghost use Rattle.signature.specs.Answers.{fieldsOf, FinishedAs};
+ghost use Rattle.signature.specs.AnswerSteps.{fieldsOf, FinishedAs};
 ghost use Rattle.signature.specs.Checks.{workWords};
 ghost use Rattle.signature.specs.Form.{hashBytes};
-ghost use Rattle.signature.specs.Keygen.{atRoom, atS, atT, atX};
 ghost use Rattle.signature.specs.Keys.{vkVector};
+ghost use Rattle.signature.specs.Layout.{atRoom, atS, atT, atX};
 ghost use Rattle.signature.specs.MaskedSteps.{matrixIn, MatrixHeld};
 ghost use Rattle.signature.specs.Recover.{sub31, centredAll, hintOf, recovered};
 ghost use Rattle.signature.specs.RecoverSteps.{hintRows};
@@ -23,6 +23,9 @@ use crate::bits::unpack;
 use crate::bounds::check_bounds;
 use crate::form::bit_count;
 use crate::form::write;
+use crate::layout::at_room;
+use crate::layout::at_t;
+use crate::layout::at_x;
 use crate::recover::recover_row;
 use crate::residues::centred_into;
 use crate::residues::hint_into;
@@ -83,12 +86,12 @@ fn make_hint(work: &mut [u64], p: Params, vk: &[u8], a: &[u64], c: [i8; 512], hi
     let n = p.kappa / 8;
     let m = k * 512;
     let e = n + k * 448;
-    let row = 4 * (d * 512);
+    let row = at_room(d);
     let at = row + 512;
-    let wat = row + 4096 + l * (d * 512) + l * (d * 512);
+    let wat = at_t(l, d);
     let mut t = [0u64; 4608];
     unpack(&vk[n..e], 7, &mut t[0..m]);
-    ntt_to(work, wat + m, at, l);
+    ntt_to(work, at_x(k, l, d), at, l);
     let x = ntt(from_signed(c));
     hint_rows(work, row, at, wat, a, k, l, x, &t[0..m], hint);
 }
@@ -128,11 +131,8 @@ fn finish_with(
     ensures { λ r. ⌜ (length (now (work .exit)) ≡ length (now (work .entry))) × Below q (now (work .exit)) × Kept 0 (atRoom (p .shares)) (now (work .entry)) (now (work .exit)) × Kept (atS (p .shares)) (length (now (work .entry))) (now (work .entry)) (now (work .exit)) ⌝ }
     ensures { λ r. ⌜ ((mu : List ℕ) → FinishedAs (finished p (signedFields p (record { matrix = matrixIn p (now (a .entry)); vector = vkVector p (now (vk .entry)); mu = mu }) (span (now (work .entry)) (atT (p .l) (p .shares)) (p .k * 512)) (now (hash .entry)) (span (now (work .entry)) (atX (p .k) (p .l) (p .shares)) (p .l * 512)) c)) r (now (out .entry)) (now (out .exit))) ⌝ }
 {
-    let k = p.k;
-    let l = p.l;
-    let d = p.shares;
-    let b = 4 * (d * 512) + 4096 + l * (d * 512) + l * (d * 512) + k * 512;
-    let e = b + l * 512;
+    let b = at_x(p.k, p.l, p.shares);
+    let e = b + p.l * 512;
     centred_into(&work[b..e], Q, z);
     make_hint(work, p, vk, a, c, hint);
     write_fields(p, hash, hint, z, out)

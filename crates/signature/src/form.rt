@@ -7,7 +7,7 @@ ghost use lib.ListN.{length, getD, drop, replicate};
 ghost use Rattle.signature.specs.Bits.{bitString, chop};
 ghost use Rattle.signature.specs.Code.{codesBits};
 ghost use Rattle.signature.specs.Form.{formBits, bitCount};
-ghost use Rattle.signature.specs.Answers.{fieldsOf, allZero, parsed, ReadOf};
+ghost use Rattle.signature.specs.AnswerSteps.{fieldsOf, allZero, parsed, ReadOf};
 use crate::bits;
 use crate::code;
 use crate::code::Next;

@@ -7,7 +7,7 @@ ghost use lib.ListN.{length, take, drop};
 ghost use Rattle.ring.specs.Words.{q, allBelow};
 ghost use Rattle.signature.specs.Bits.{repack};
 ghost use Rattle.signature.specs.Checks.{firstNo, both, workWords, keygenSeedsSized, keygenBuffersSized, keyChecks};
-ghost use Rattle.signature.specs.Expanding.{partBytes};
+ghost use Rattle.signature.specs.ExpandSteps.{partBytes};
 ghost use Rattle.signature.specs.Keys.{packed, expanded, fullShare, keygenBytes};
 ghost use Rattle.signature.specs.Table.{Tabled};
 use crate::bits::unpack;

@@ -1,4 +1,4 @@
-// Key generation (000, Algorithm 1, lines 2 to 8, and the compression of s) on one work buffer, laid out as specs/Keygen.antt says.
+// Key generation (000, Algorithm 1, lines 2 to 8, and the compression of s) on one work buffer, laid out as specs/Layout.antt says.
 ghost use mathlib.Core.Path.{_≡_};
 ghost use mathlib.Core.List.{List, [], _∷_};
 ghost use mathlib.Core.Option.{some};
@@ -10,7 +10,7 @@ ghost use Rattle.sharing.specs.Encoding.{skip, addNoise};
 ghost use Rattle.sharing.specs.Masks.{masks, maskStart};
 ghost use Rattle.sharing.specs.Noise.{seedNoise, noiseBytes};
 ghost use Rattle.signature.specs.Checks.{firstNo, both, workWords};
-ghost use Rattle.signature.specs.Keygen.{Rounded, Generated, keyOf};
+ghost use Rattle.signature.specs.KeygenSteps.{Rounded, Generated, keyOf};
 ghost use Rattle.signature.specs.KeyCalls.{keygenLeaves, keygenCall};
 ghost use Rattle.signature.specs.Keys.{vkSeed, noisePart, sharePart, keygenBytes, keyShares, compressed, keygenOf};
 ghost use Rattle.signature.specs.MaskedSteps.{MatrixHeld, rowsOf};
@@ -20,6 +20,9 @@ ghost use Rattle.signature.specs.Table.{Tabled};
 use crate::compress::compress_vector;
 use crate::keycheck::keygen_no;
 use crate::keyform::write_key;
+use crate::layout::at_s;
+use crate::layout::at_t;
+use crate::layout::at_x;
 use crate::masked::image_seeds;
 use crate::matrix::expand_matrix;
 use crate::noise::noise_seeds;
@@ -54,7 +57,7 @@ fn public_vector(
     x
 }
 
-// Both, and the compression of s: t at 4 d + 8 + 2 l d polynomials, x behind it. The seeds by their parts.
+// Both, and the compression of s. The seeds by their parts.
 fn make_parts(
     work: &mut [u64],
     p: Params,
@@ -74,8 +77,8 @@ fn make_parts(
     let u = p.ut;
     let n = p.kappa / 8;
     let edition = p.edition;
-    let at = 4 * (d * 512) + 4096;
-    let to = at + l * (d * 512) + l * (d * 512);
+    let at = at_s(d);
+    let to = at_t(l, d);
     let b = l * rep * d * n;
     let mut a = [0u64; 32256];
     clear(work);
@@ -85,7 +88,7 @@ fn make_parts(
     let g = start(mask_seed);
     let x = noise_seeds(work, at, p, u, coins, g);
     public_vector(work, at, to, p, &a, &coins[b..], x);
-    compress_vector(work, at, to + k * 512, l, d, edition, shares, n)
+    compress_vector(work, at, at_x(k, l, d), l, d, edition, shares, n)
 }
 
 // Lines 2 to 8 and the compression. Lent are the matrix seed, the noise seeds (01: noise tape) and d - 1 share seeds, one behind the other.
@@ -115,8 +118,8 @@ fn write_made(work: &[u64], p: Params, seeds: &[u8], out: &mut [u8])
     let rep = p.rep;
     let n = p.kappa / 8;
     let e = n + (l + k) * d * rep * n;
-    let a = 4 * (d * 512) + 4096 + l * (d * 512) + l * (d * 512);
-    let b = a + k * 512;
+    let a = at_t(l, d);
+    let b = at_x(k, l, d);
     let c = b + l * 512;
     write_key(
         &seeds[0..n],

@@ -14,7 +14,7 @@ ghost use Rattle.sharing.specs.Masks.{masks, maskStart};
 ghost use Rattle.signature.specs.Checks.{firstNo, maskSeedSized, expandedKeySized, keyChecks};
 ghost use Rattle.signature.specs.Matrix.{buildAll, filled};
 ghost use Rattle.signature.specs.Keys.{packed, expanded, fullShare, seededShare, shareAt, decompressed, expandOf, expandedOf};
-ghost use Rattle.signature.specs.Expanding.{partBytes, expandedAt, expandedShares};
+ghost use Rattle.signature.specs.ExpandSteps.{partBytes, expandedAt, expandedShares};
 ghost use Rattle.signature.specs.KeyCalls.{keyLeaves, expandCall, refreshCall};
 ghost use Rattle.signature.specs.Outcome.{outcome};
 ghost use Rattle.signature.specs.Table.{Tabled};

@@ -14,6 +14,7 @@ mod keycheck;
 mod keyform;
 pub mod keygen;
 pub mod keys;
+mod layout;
 mod load;
 mod masked;
 mod matrix;

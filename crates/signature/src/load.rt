@@ -1,4 +1,4 @@
-// The shares of a key into the work buffer of signing, laid out as specs/Attempt.antt says.
+// The shares of a key into the work buffer of signing, laid out as specs/Layout.antt says.
 ghost use mathlib.Core.Path.{_≡_};
 ghost use mathlib.Core.Bool.{true};
 ghost use mathlib.Core.List.{List};
@@ -7,15 +7,16 @@ ghost use Prim.Native.Nat.{ℕ, _+_, _*_, _≤_};
 ghost use lib.ListN.{length};
 ghost use Rattle.ring.specs.Words.{q, Below};
 ghost use Rattle.sharing.specs.Region.{span, Wrote};
-ghost use Rattle.signature.specs.Attempt.{keyFrom};
+ghost use Rattle.signature.specs.AttemptSteps.{keyFrom};
 ghost use Rattle.signature.specs.Checks.{workWords, keySized, sharesGood};
-ghost use Rattle.signature.specs.Keygen.{atS};
 ghost use Rattle.signature.specs.Keys.{fullShare, decompressed, sharesOf};
 ghost use Rattle.signature.specs.Matrix.{filled};
-ghost use Rattle.signature.specs.Expanding.{partBytes};
+ghost use Rattle.signature.specs.ExpandSteps.{partBytes};
+ghost use Rattle.signature.specs.Layout.{atS};
 ghost use Rattle.signature.specs.Table.{Tabled};
 use crate::keys::decompress_shares;
 use crate::keys::shares_fill;
+use crate::layout::at_s;
 use hash::params::Params;
 use ring::poly::copy_into;
 use sharing::region::clear;
@@ -58,8 +59,7 @@ pub(crate) fn load_shares(
     ensures { λ r. ⌜ (r ≡ filled (sharesOf p (keyFrom packed (now (key .entry)) (now (words .entry))))) × (length (now (work .exit)) ≡ length (now (work .entry))) × Below q (now (work .exit)) ⌝ }
     ensures { λ r. ⌜ ((X : List ℕ) → sharesOf p (keyFrom packed (now (key .entry)) (now (words .entry))) ≡ some X → span (now (work .exit)) (atS (p .shares)) (p .l * (p .shares * 512)) ≡ X) ⌝ }
 {
-    let d = p.shares;
-    let at = 4 * (d * 512) + 4096;
+    let at = at_s(p.shares);
     clear(work);
     if packed {
         let vk = p.vk_bytes;

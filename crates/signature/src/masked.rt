@@ -59,7 +59,15 @@ fn row_sums(s: &mut [u64], to: usize, at: usize, a: &[u64], from: usize, l: usiz
 }
 
 // A row of the masked product at `to`; the vector of l sharings, transformed, is at `at`.
-pub(crate) fn row_at(s: &mut [u64], to: usize, at: usize, a: &[u64], from: usize, l: usize, d: usize)
+pub(crate) fn row_at(
+    s: &mut [u64],
+    to: usize,
+    at: usize,
+    a: &[u64],
+    from: usize,
+    l: usize,
+    d: usize,
+)
     requires { ⌜ (to + d * 512 ≤ at) × (at + l * (d * 512) ≤ length (now s)) × Below q (now s) × (from + l * 512 ≤ length (now a)) × Below q (now a) ⌝ }
     ensures { λ _. ⌜ Wrote 0 to (d * 512) (build d (rowShare d l (span (now (a .entry)) from (l * 512)) (span (now (s .entry)) at (l * (d * 512))))) (now (s .entry)) (now (s .exit)) ⌝ }
 {

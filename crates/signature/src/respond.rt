@@ -1,4 +1,4 @@
-// The response of one attempt (000, Algorithm 2, lines 12 to 16) on the work buffer, laid out as specs/Attempt.antt says.
+// The response of one attempt (000, Algorithm 2, lines 12 to 16) on the work buffer, laid out as specs/Layout.antt says.
 ghost use mathlib.Core.Path.{_≡_};
 ghost use Prim.Native.Nat.{_+_, _*_, _≤_};
 ghost use lib.ListN.{length};
@@ -7,9 +7,13 @@ ghost use Rattle.ring.specs.Words.{q, addW, Below, Words};
 ghost use Rattle.ring.specs.Transform.{intt, pointwise};
 ghost use Rattle.sharing.specs.Blocks.{build, totals};
 ghost use Rattle.sharing.specs.Region.{span, Wrote};
-ghost use Rattle.signature.specs.Attempt.{responseShare, Renewed, Responded};
-ghost use Rattle.signature.specs.Keygen.{atX};
+ghost use Rattle.signature.specs.AttemptSteps.{responseShare, Renewed, Responded};
+ghost use Rattle.signature.specs.Layout.{atX};
 ghost use Rattle.signature.specs.Sign.{maskedResponse};
+ghost use Rattle.signature.specs.Table.{Tabled};
+use crate::layout::at_r;
+use crate::layout::at_s;
+use crate::layout::at_x;
 use crate::vector::intt_vector;
 use hash::params::Params;
 use ring::poly::add;
@@ -87,15 +91,15 @@ fn refresh_both(s: &mut [u64], a: usize, b: usize, p: Params, g: MaskGen) -> Mas
 
 // Lines 12 to 16 of the challenge polynomial c; g is the generator behind line 7. The generator behind line 15.
 pub(crate) fn respond(work: &mut [u64], p: Params, c: [u64; 512], g: MaskGen) -> MaskGen
-    requires { ⌜ ShareCount (p .shares) × (atX (p .k) (p .l) (p .shares) + p .l * 512 ≤ length (now work)) × Below q (now work) × Words 512 c ⌝ }
+    requires { ⌜ Tabled p × (atX (p .k) (p .l) (p .shares) + p .l * 512 ≤ length (now work)) × Below q (now work) × Words 512 c ⌝ }
     ensures { λ r. ⌜ Responded (p .k) (p .l) (p .shares) c g r (now (work .entry)) (now (work .exit)) ⌝ }
 {
     let k = p.k;
     let l = p.l;
     let d = p.shares;
-    let a = 4 * (d * 512) + 4096;
-    let b = a + l * (d * 512);
-    let e = b + l * (d * 512) + k * 512;
+    let a = at_s(d);
+    let b = at_r(l, d);
+    let e = at_x(k, l, d);
     let x = refresh_both(work, a, b, p, g);
     respond_vector(work, a, b, c, l, d);
     let y = refresh_vector(work, b, l, p, x);

@@ -1,4 +1,4 @@
-// Signing (000, Algorithm 2; 01: checks 1 to 10, 11 within each attempt, 12), on one work buffer, laid out as specs/Attempt.antt says.
+// Signing (000, Algorithm 2; 01: checks 1 to 10, 11 within each attempt, 12), on one work buffer, laid out as specs/Layout.antt says.
 ghost use mathlib.Core.Path.{_≡_};
 ghost use mathlib.Core.Bool.{true, false};
 ghost use mathlib.Core.Option.{some};
@@ -6,15 +6,15 @@ ghost use Prim.Native.Nat.{_≤_};
 ghost use lib.ListN.{length};
 ghost use Rattle.hash.specs.declared.params.Selected.{Selected};
 ghost use Rattle.ring.specs.Words.{q, Below};
-ghost use Rattle.signature.specs.Attempt.{keyFrom, coinsOf, Within, keyIn};
+ghost use Rattle.signature.specs.AttemptSteps.{keyFrom, coinsOf, Within, keyIn};
 ghost use Rattle.signature.specs.Checks.{workWords};
-ghost use Rattle.signature.specs.Keys.{vkSeed, vkVector, publicOf, sharesOf};
+ghost use Rattle.signature.specs.Keys.{vkSeed, vkVector};
 ghost use Rattle.signature.specs.MaskedSteps.{matrixIn, MatrixHeld};
 ghost use Rattle.signature.specs.Matrix.{matrix};
 ghost use Rattle.signature.specs.Outcome.{answer, signing};
 ghost use Rattle.signature.specs.Sign.{publicBy, signFrom};
-ghost use Rattle.signature.specs.SignCalls.{packed, expanded, coinsGood, signBy, leftBy, signCall};
-ghost use Rattle.signature.specs.SignSteps.{signNo, signMade, EndedAt, answerIn};
+ghost use Rattle.signature.specs.SignCalls.{packed, expanded, coinsGood, signCall};
+ghost use Rattle.signature.specs.SignSteps.{signNo, signMade, signedWith, signedFound, EndedAt, answerIn};
 ghost use Rattle.signature.specs.Table.{Tabled};
 use crate::attempt::answer;
 use crate::commit::commit;
@@ -64,19 +64,19 @@ fn attempt(
     explicit: bool,
     seeds: &[u8],
     noise: &[u64],
-    mask_seeds: &[u8],
+    masks: &[u8],
     i: usize,
     out: &mut [u8],
 ) -> AttemptEnd
     requires { ⌜ Tabled p × (length (now work) ≡ workWords p) × Below q (now work) × MatrixHeld p (now a) ⌝ }
     requires { ⌜ (length (now vk) ≡ p .«vk_bytes») × Below 125 (vkVector p (now vk)) × (length (now out) ≡ p .«sig_bytes») ⌝ }
-    requires { ⌜ Within p (coinsOf explicit (now seeds) (now noise) (now «mask_seeds»)) i ⌝ }
+    requires { ⌜ Within p (coinsOf explicit (now seeds) (now noise) (now masks)) i ⌝ }
     ensures { λ r. ⌜ (length (now (work .exit)) ≡ length (now (work .entry))) × Below q (now (work .exit)) ⌝ }
-    ensures { λ r. ⌜ EndedAt p (publicBy p (now (vk .entry)) (now (mu .entry)) (matrixIn p (now (a .entry)))) (coinsOf explicit (now (seeds .entry)) (now (noise .entry)) (now («mask_seeds» .entry))) i (keyIn p (now (work .entry))) r (now (out .entry)) (now (out .exit)) (now (work .exit)) ⌝ }
+    ensures { λ r. ⌜ EndedAt p (publicBy p (now (vk .entry)) (now (mu .entry)) (matrixIn p (now (a .entry)))) (coinsOf explicit (now (seeds .entry)) (now (noise .entry)) (now (masks .entry))) i (keyIn p (now (work .entry))) r (now (out .entry)) (now (out .exit)) (now (work .exit)) ⌝ }
 {
     let b = p.kappa / 4;
     let mut hash = [0u8; 64];
-    let g = commit(work, p, a, explicit, seeds, noise, mask_seeds, i);
+    let g = commit(work, p, a, explicit, seeds, noise, masks, i);
     let c = answer(work, p, mu, &mut hash[0..b], g);
     if !c.ok {
         return AttemptEnd::Stuck;
@@ -98,19 +98,19 @@ fn attempt_all(
     explicit: bool,
     seeds: &[u8],
     noise: &[u64],
-    mask_seeds: &[u8],
+    masks: &[u8],
     n: usize,
     out: &mut [u8],
 ) -> Signed
     requires { ⌜ Tabled p × (length (now work) ≡ workWords p) × Below q (now work) × MatrixHeld p (now a) ⌝ }
     requires { ⌜ (length (now vk) ≡ p .«vk_bytes») × Below 125 (vkVector p (now vk)) × (length (now out) ≡ p .«sig_bytes») ⌝ }
-    requires { ⌜ (n ≤ 16) × (coinsGood p n (coinsOf explicit (now seeds) (now noise) (now «mask_seeds»)) ≡ true) ⌝ }
+    requires { ⌜ (n ≤ 16) × (coinsGood p n (coinsOf explicit (now seeds) (now noise) (now masks)) ≡ true) ⌝ }
     ensures { λ r. ⌜ length (now (work .exit)) ≡ length (now (work .entry)) ⌝ }
-    ensures { λ r. ⌜ answer (r .status) (r .attempts) (now (out .exit)) ≡ answerIn (signFrom p (publicBy p (now (vk .entry)) (now (mu .entry)) (matrixIn p (now (a .entry)))) (coinsOf explicit (now (seeds .entry)) (now (noise .entry)) (now («mask_seeds» .entry))) n 0 (keyIn p (now (work .entry)))) (now (out .entry)) ⌝ }
+    ensures { λ r. ⌜ answer (r .status) (r .attempts) (now (out .exit)) ≡ answerIn (signFrom p (publicBy p (now (vk .entry)) (now (mu .entry)) (matrixIn p (now (a .entry)))) (coinsOf explicit (now (seeds .entry)) (now (noise .entry)) (now (masks .entry))) n 0 (keyIn p (now (work .entry)))) (now (out .entry)) ⌝ }
 {
     let mut i: usize = 0;
     while i < n {
-        match attempt(work, p, vk, a, mu, explicit, seeds, noise, mask_seeds, i, out) {
+        match attempt(work, p, vk, a, mu, explicit, seeds, noise, masks, i, out) {
             AttemptEnd::Made => {
                 return reported(0, i + 1);
             }
@@ -130,19 +130,19 @@ fn sign_loaded(
     work: &mut [u64],
     p: Params,
     vk: &[u8],
-    message: &[u8],
+    msg: &[u8],
     explicit: bool,
     seeds: &[u8],
     noise: &[u64],
-    mask_seeds: &[u8],
+    masks: &[u8],
     n: usize,
     out: &mut [u8],
 ) -> Signed
     requires { ⌜ Tabled p × (length (now work) ≡ workWords p) × Below q (now work) ⌝ }
     requires { ⌜ (length (now vk) ≡ p .«vk_bytes») × Below 125 (vkVector p (now vk)) × (length (now out) ≡ p .«sig_bytes») ⌝ }
-    requires { ⌜ (n ≤ 16) × (coinsGood p n (coinsOf explicit (now seeds) (now noise) (now «mask_seeds»)) ≡ true) ⌝ }
+    requires { ⌜ (n ≤ 16) × (coinsGood p n (coinsOf explicit (now seeds) (now noise) (now masks)) ≡ true) ⌝ }
     ensures { λ r. ⌜ length (now (work .exit)) ≡ length (now (work .entry)) ⌝ }
-    ensures { λ r. ⌜ answer (r .status) (r .attempts) (now (out .exit)) ≡ answerIn (signMade p (now (vk .entry)) (now (message .entry)) (coinsOf explicit (now (seeds .entry)) (now (noise .entry)) (now («mask_seeds» .entry))) n (matrix p (vkSeed p (now (vk .entry)))) (some (keyIn p (now (work .entry))))) (now (out .entry)) ⌝ }
+    ensures { λ r. ⌜ answer (r .status) (r .attempts) (now (out .exit)) ≡ answerIn (signMade p (now (vk .entry)) (now (msg .entry)) (coinsOf explicit (now (seeds .entry)) (now (noise .entry)) (now (masks .entry))) n (matrix p (vkSeed p (now (vk .entry)))) (some (keyIn p (now (work .entry))))) (now (out .entry)) ⌝ }
 {
     let e = p.kappa / 8;
     let b = p.kappa / 4;
@@ -151,7 +151,7 @@ fn sign_loaded(
     if !expand_matrix(&mut a, &vk[0..e], p.k, p.l) {
         return reported(10, 0);
     }
-    bind(vk, message, &mut mu[0..b]);
+    bind(vk, msg, &mut mu[0..b]);
     attempt_all(
         work,
         p,
@@ -161,7 +161,7 @@ fn sign_loaded(
         explicit,
         seeds,
         noise,
-        mask_seeds,
+        masks,
         n,
         out,
     )
@@ -174,17 +174,17 @@ fn sign_with(
     key: &[u8],
     words: &[u64],
     n: usize,
-    message: &[u8],
+    msg: &[u8],
     explicit: bool,
     seeds: &[u8],
     noise: &[u64],
-    mask_seeds: &[u8],
+    masks: &[u8],
     out: &mut [u8],
     work: &mut [u64],
 ) -> Signed
     requires { ⌜ Tabled p ⌝ }
-    requires { ⌜ signNo p (keyFrom packed (now key) (now words)) n (now message) (coinsOf explicit (now seeds) (now noise) (now «mask_seeds»)) (now out) (now work) ≡ 0 ⌝ }
-    ensures { λ r. ⌜ signing (r .status) (r .attempts) (now (out .exit)) (now (work .exit)) ≡ leftBy (signMade p (publicOf p (keyFrom packed (now (key .entry)) (now (words .entry)))) (now (message .entry)) (coinsOf explicit (now (seeds .entry)) (now (noise .entry)) (now («mask_seeds» .entry))) n (matrix p (vkSeed p (publicOf p (keyFrom packed (now (key .entry)) (now (words .entry)))))) (sharesOf p (keyFrom packed (now (key .entry)) (now (words .entry))))) (now (out .entry)) (now (work .entry)) ⌝ }
+    requires { ⌜ signNo p (keyFrom packed (now key) (now words)) n (now msg) (coinsOf explicit (now seeds) (now noise) (now masks)) (now out) (now work) ≡ 0 ⌝ }
+    ensures { λ r. ⌜ signing (r .status) (r .attempts) (now (out .exit)) (now (work .exit)) ≡ signedWith p (keyFrom packed (now (key .entry)) (now (words .entry))) n (now (msg .entry)) (coinsOf explicit (now (seeds .entry)) (now (noise .entry)) (now (masks .entry))) (now (out .entry)) (now (work .entry)) ⌝ }
 {
     let e = p.vk_bytes;
     if !load_shares(work, p, packed, key, words) {
@@ -195,11 +195,11 @@ fn sign_with(
         work,
         p,
         &key[0..e],
-        message,
+        msg,
         explicit,
         seeds,
         noise,
-        mask_seeds,
+        masks,
         n,
         out,
     );
@@ -214,16 +214,16 @@ fn sign_found(
     packed: bool,
     key: &[u8],
     words: &[u64],
-    message: &[u8],
+    msg: &[u8],
     explicit: bool,
     seeds: &[u8],
     noise: &[u64],
-    mask_seeds: &[u8],
+    masks: &[u8],
     out: &mut [u8],
     work: &mut [u64],
 ) -> Signed
     requires { ⌜ Tabled p ⌝ }
-    ensures { λ r. ⌜ signing (r .status) (r .attempts) (now (out .exit)) (now (work .exit)) ≡ leftBy (signBy (Selected.Found p) p (keyFrom packed (now (key .entry)) (now (words .entry))) attempts (now (message .entry)) (coinsOf explicit (now (seeds .entry)) (now (noise .entry)) (now («mask_seeds» .entry))) (now (out .entry)) (now (work .entry))) (now (out .entry)) (now (work .entry)) ⌝ }
+    ensures { λ r. ⌜ signing (r .status) (r .attempts) (now (out .exit)) (now (work .exit)) ≡ signedFound p (keyFrom packed (now (key .entry)) (now (words .entry))) attempts (now (msg .entry)) (coinsOf explicit (now (seeds .entry)) (now (noise .entry)) (now (masks .entry))) (now (out .entry)) (now (work .entry)) ⌝ }
 {
     let k = sign_no(
         p,
@@ -231,11 +231,11 @@ fn sign_found(
         key,
         words,
         attempts,
-        message,
+        msg,
         explicit,
         seeds,
         noise,
-        mask_seeds,
+        masks,
         out,
         work,
     );
@@ -247,11 +247,11 @@ fn sign_found(
             key,
             words,
             n,
-            message,
+            msg,
             explicit,
             seeds,
             noise,
-            mask_seeds,
+            masks,
             out,
             work,
         );
@@ -274,15 +274,15 @@ fn sign_any(
     packed: bool,
     key: &[u8],
     words: &[u64],
-    message: &[u8],
+    msg: &[u8],
     explicit: bool,
     seeds: &[u8],
     noise: &[u64],
-    mask_seeds: &[u8],
+    masks: &[u8],
     out: &mut [u8],
     work: &mut [u64],
 ) -> Signed
-    ensures { λ r. ⌜ signing (r .status) (r .attempts) (now (out .exit)) (now (work .exit)) ≡ signCall edition set shares (keyFrom packed (now (key .entry)) (now (words .entry))) attempts (now (message .entry)) (coinsOf explicit (now (seeds .entry)) (now (noise .entry)) (now («mask_seeds» .entry))) (now (out .entry)) (now (work .entry)) ⌝ }
+    ensures { λ r. ⌜ signing (r .status) (r .attempts) (now (out .exit)) (now (work .exit)) ≡ signCall edition set shares (keyFrom packed (now (key .entry)) (now (words .entry))) attempts (now (msg .entry)) (coinsOf explicit (now (seeds .entry)) (now (noise .entry)) (now (masks .entry))) (now (out .entry)) (now (work .entry)) ⌝ }
 {
     match lookup(set, shares, edition) {
         Selected::NoSet => Signed {
@@ -299,11 +299,11 @@ fn sign_any(
             packed,
             key,
             words,
-            message,
+            msg,
             explicit,
             seeds,
             noise,
-            mask_seeds,
+            masks,
             out,
             work,
         ),

@@ -1,7 +1,7 @@
 // The checks of signing behind the look-up (01: 3 to 9): the number of the first no, or 0.
 ghost use mathlib.Core.Path.{_≡_};
 ghost use Prim.Native.Nat.{_≤_};
-ghost use Rattle.signature.specs.Attempt.{keyFrom, coinsOf};
+ghost use Rattle.signature.specs.AttemptSteps.{keyFrom, coinsOf};
 ghost use Rattle.signature.specs.Checks.{firstNo, keyChecks};
 ghost use Rattle.signature.specs.SignCalls.{coinsGood, callChecks};
 ghost use Rattle.signature.specs.SignSteps.{signNo};
@@ -31,12 +31,12 @@ fn coins_good(
     explicit: bool,
     seeds: &[u8],
     noise: &[u64],
-    mask_seeds: &[u8],
+    masks: &[u8],
 ) -> bool
     requires { ⌜ Tabled p × (n ≤ 16) ⌝ }
-    ensures { λ r. ⌜ r ≡ coinsGood p n (coinsOf explicit (now (seeds .entry)) (now (noise .entry)) (now («mask_seeds» .entry))) ⌝ }
+    ensures { λ r. ⌜ r ≡ coinsGood p n (coinsOf explicit (now (seeds .entry)) (now (noise .entry)) (now (masks .entry))) ⌝ }
 {
-    if mask_seeds.len() != n * 32 {
+    if masks.len() != n * 32 {
         return false;
     }
     let c = (p.l + p.k) * p.shares;
@@ -53,16 +53,16 @@ fn coins_good(
 fn call_no(
     p: Params,
     attempts: u64,
-    message: &[u8],
+    msg: &[u8],
     explicit: bool,
     seeds: &[u8],
     noise: &[u64],
-    mask_seeds: &[u8],
+    masks: &[u8],
     out: &[u8],
     work: &[u64],
 ) -> u32
     requires { ⌜ Tabled p ⌝ }
-    ensures { λ r. ⌜ r ≡ firstNo (callChecks p attempts (now (message .entry)) (coinsOf explicit (now (seeds .entry)) (now (noise .entry)) (now («mask_seeds» .entry))) (now (out .entry)) (now (work .entry))) ⌝ }
+    ensures { λ r. ⌜ r ≡ firstNo (callChecks p attempts (now (msg .entry)) (coinsOf explicit (now (seeds .entry)) (now (noise .entry)) (now (masks .entry))) (now (out .entry)) (now (work .entry))) ⌝ }
 {
     if attempts < 1 {
         return 6;
@@ -70,7 +70,7 @@ fn call_no(
     if attempts > 16 {
         return 6;
     }
-    if !coins_good(p, attempts as usize, explicit, seeds, noise, mask_seeds) {
+    if !coins_good(p, attempts as usize, explicit, seeds, noise, masks) {
         return 7;
     }
     if out.len() != p.sig_bytes {
@@ -79,7 +79,7 @@ fn call_no(
     if work.len() != work_words(p) {
         return 8;
     }
-    if message.len() > 4096 {
+    if msg.len() > 4096 {
         return 9;
     }
     0
@@ -92,30 +92,20 @@ pub(crate) fn sign_no(
     key: &[u8],
     words: &[u64],
     attempts: u64,
-    message: &[u8],
+    msg: &[u8],
     explicit: bool,
     seeds: &[u8],
     noise: &[u64],
-    mask_seeds: &[u8],
+    masks: &[u8],
     out: &[u8],
     work: &[u64],
 ) -> u32
     requires { ⌜ Tabled p ⌝ }
-    ensures { λ r. ⌜ r ≡ signNo p (keyFrom packed (now (key .entry)) (now (words .entry))) attempts (now (message .entry)) (coinsOf explicit (now (seeds .entry)) (now (noise .entry)) (now («mask_seeds» .entry))) (now (out .entry)) (now (work .entry)) ⌝ }
+    ensures { λ r. ⌜ r ≡ signNo p (keyFrom packed (now (key .entry)) (now (words .entry))) attempts (now (msg .entry)) (coinsOf explicit (now (seeds .entry)) (now (noise .entry)) (now (masks .entry))) (now (out .entry)) (now (work .entry)) ⌝ }
 {
     let k = key_no(p, packed, key, words);
     if k != 0 {
         return k;
     }
-    call_no(
-        p,
-        attempts,
-        message,
-        explicit,
-        seeds,
-        noise,
-        mask_seeds,
-        out,
-        work,
-    )
+    call_no(p, attempts, msg, explicit, seeds, noise, masks, out, work)
 }

@@ -10,7 +10,7 @@ ghost use Rattle.hash.specs.declared.params.Selected.{Selected};
 ghost use Rattle.ring.specs.Words.{q, Below, Words};
 ghost use Rattle.ring.specs.Round.{residues};
 ghost use Rattle.sharing.specs.Region.{span};
-ghost use Rattle.signature.specs.Answers.{fieldsOf};
+ghost use Rattle.signature.specs.AnswerSteps.{fieldsOf};
 ghost use Rattle.signature.specs.Checks.{firstNo, sameBytes};
 ghost use Rattle.signature.specs.Form.{hashBytes};
 ghost use Rattle.signature.specs.Keys.{vkSeed, vkVector};

@@ -7,7 +7,6 @@ use lib.IntN.{ℤ}
 use Rattle.hash.specs.declared.params.Params.{Params}
 use Rattle.hash.proofs.Sets.{setOf}
 use Rattle.ring.specs.Round.{roundW}
-use Rattle.signature.specs.Bounds.{checkBounds}
 use Rattle.signature.specs.Challenge.{chalHash, chalPoly}
 use Rattle.signature.specs.Form.{write}
 use Rattle.signature.specs.Keys.{vkSeed, vkVector}
@@ -21,7 +20,7 @@ use Rattle.theorems.specs.Plain.{Totals, plainCommitment, plainResponse,
 module _ (p : Params) where
   challenged-set : (P : Public) (w hash : List ℕ) (z : List ℕ → List ℕ) (o : Option (List ℤ))
       → challenged p P w hash z o ≡ challenged (setOf p) P w hash z o
-  unfolding signedFields finished recovered checkBounds write
+  unfolding signedFields finished recovered write
   challenged-set P w hash z none = refl
   challenged-set P w hash z (some c) = refl
 

@@ -27,10 +27,9 @@ pub const CALLS: [&str; 5] = ["generating", "expanding", "refreshing", "signing"
 /// Whose permutations are counted.
 #[derive(Clone, Copy, PartialEq, Eq, Debug)]
 pub enum Maker {
-    /// Samples seeded shares twice in expanding and makes the matrix twice in an attempt at signing; the mask generator makes its
-    /// next block with the last word of the one before.
+    /// Samples seeded shares twice in expanding; the mask generator makes its next block with the last word of the one before.
     Unit,
-    /// Does these once, and makes no block of which it takes no word.
+    /// Samples them once, and makes no block of which it takes no word.
     Independent,
 }
 
@@ -45,7 +44,7 @@ impl Maker {
             self.masks(p.d, vector + noisy) + noise(p, p.ut) + matrix + seeded,
             passes * seeded,
             self.masks(p.d, vector),
-            self.masks(p.d, vector + noisy + 3 * vector) + noise(p, p.uw) + passes * matrix + challenge,
+            self.masks(p.d, vector + noisy + 3 * vector) + noise(p, p.uw) + matrix + challenge,
             matrix + challenge,
         ];
         counts.map(|count| count as u64)

@@ -1,5 +1,5 @@
-//! The C side: include/raccoon.h has every export and the sizes of the independent implementation, each export can be called through it, and
-//! the example in examples/ does what it says. Needs gcc.
+//! The C side: include/raccoon.h has every export and the sizes of the independent implementation, each export can be called through it, the
+//! example in examples/ does what it says, and calls take the stack that docs/GUIDE.md tells. Needs gcc.
 
 use compare::independent::raccoon::{Edition, Params};
 use compare::independent::ring::N;
@@ -127,4 +127,25 @@ fn header_without_warnings() {
             .unwrap();
         assert!(checked.status.success(), "{compiler} {standard}: {}", String::from_utf8_lossy(&checked.stderr));
     }
+}
+
+/// Each call takes no more stack than the guide's table says, and not much less; the header tells the same.
+#[test]
+fn stack_of_the_guide() {
+    let guide = text("docs/GUIDE.md");
+    let table: Vec<&str> = guide.lines().skip_while(|line| *line != "## Stack").take_while(|line| !line.starts_with("## Refusals")).collect();
+    let told = |call: &str| -> usize {
+        let row = table.iter().find(|line| line.contains(&format!("`{call}`"))).unwrap_or_else(|| panic!("no row of {call}"));
+        row.split('|').nth(2).unwrap().trim().parse().unwrap()
+    };
+    let measured = printed("host/compare/tests/stack.c");
+    assert_eq!(measured.lines().count(), 6, "{measured}");
+    for line in measured.lines() {
+        let (call, kib) = line.split_once(' ').unwrap();
+        let (told, kib) = (told(call), kib.parse::<usize>().unwrap());
+        assert!(kib <= told && told <= kib + 16, "{call} takes {kib} KiB, told are {told}");
+    }
+    let [sign, keygen, verify] = ["raccoon_sign", "raccoon_keygen", "raccoon_verify"].map(told);
+    let sentence = format!("signing takes up to {sign} KiB of it, generating {keygen}, verifying {verify}");
+    assert!(text("include/raccoon.h").contains(&sentence), "{sentence}");
 }

@@ -11,7 +11,7 @@ use mir.ValLaws.{toZ-ofZ}
 use Rattle.hash.specs.Lists.{pick}
 use Rattle.signature.specs.declared.bounds.Norm.the-variants.{Square, Over}
 use Rattle.signature.specs.Bounds.{within, squares}
-use Rattle.signature.specs.Answers.{normOf}
+use Rattle.signature.specs.AnswerSteps.{normOf}
 use Rattle.signature.proofs.Norms.{within-more, within-not, squares-more, square-le}
 use Rattle.signature.proofs.bounds.measure.Statement.{statement}
 use Rattle.signature.proofs.bounds.measure.Tie as tie

@@ -6,7 +6,7 @@ use lib.ListN.{length, getD, drop}
 use Rattle.hash.specs.Lists.{table}
 use Rattle.hash.proofs.Table.{filled-none}
 use mathlib.Core.Bool.{Bool}
-use Rattle.signature.specs.Challenge.{blockOf}
+use Rattle.signature.specs.ChallengeSteps.{blockOf}
 use Rattle.signature.proofs.ChalBytes.{byte-more, byte-all}
 use borrow.Author.Needs.{needs}
 use Rattle.signature.proofs.challenge.block_of.Statement.{statement}

@@ -2,7 +2,8 @@ use mathlib.Core.Path.{ap, _∙_}
 use Rattle.hash.specs.Lists.{table}
 use Rattle.hash.specs.Keccak.{State}
 use Rattle.hash.specs.Shake.{stream}
-use Rattle.signature.specs.Challenge.{challenge, chalHeld}
+use Rattle.signature.specs.Challenge.{challenge}
+use Rattle.signature.specs.ChallengeSteps.{chalHeld}
 use borrow.Author.Needs.{needs}
 use Rattle.signature.proofs.challenge.chal_poly.Statement.{statement}
 use Rattle.signature.proofs.challenge.chal_poly.Tie as tie

@@ -8,7 +8,7 @@ use Rattle.signature.proofs.ChalMap.{ones-take}
 use lib.Count.{ones-le}
 use mir.Val.{Fits}
 use mir.Syntax.{w64}
-use Rattle.signature.specs.Challenge.{onesOf}
+use Rattle.signature.specs.ChallengeSteps.{onesOf}
 use Rattle.signature.proofs.challenge.count.Statement.{statement}
 use Rattle.signature.proofs.challenge.count.Tie as tie
 

@@ -1,6 +1,6 @@
 use mathlib.Core.Path.{sym, ap, _∙_}
 use mathlib.Core.Bool.{Bool}
-use Rattle.signature.specs.Challenge.{drawsOf}
+use Rattle.signature.specs.ChallengeSteps.{drawsOf}
 use borrow.Author.Needs.{needs}
 use Rattle.signature.proofs.challenge.draws_of.Statement.{statement}
 use Rattle.signature.proofs.challenge.draws_of.Tie as tie

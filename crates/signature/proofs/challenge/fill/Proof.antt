@@ -3,7 +3,8 @@ use mathlib.Core.Path.{_≡_, sym, ap, _∙_}
 use mathlib.Core.Logic.{_⊎_, inl, inr, ⊎-elim}
 use native.Mathlib.Omega.{arith}
 use lib.ListN.{length, length-set}
-use Rattle.signature.specs.Challenge.{onesOf, draws, bytesOf, nextOf}
+use Rattle.signature.specs.Challenge.{draws}
+use Rattle.signature.specs.ChallengeSteps.{onesOf, bytesOf, nextOf}
 use Rattle.signature.proofs.ChalRun.{Held, Carried, run-start, carried-none, carried-drop, carried-put, through, stored-sign, full, gone}
 use Rattle.signature.proofs.ChalBytes.{stateOf, state-first, state-next, draws-are, draws-low}
 use borrow.Author.Needs.{needs}

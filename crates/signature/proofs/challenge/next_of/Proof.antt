@@ -1,6 +1,6 @@
 use mathlib.Core.Path.{sym, ap, _∙_}
 use mathlib.Core.Bool.{Bool}
-use Rattle.signature.specs.Challenge.{nextOf}
+use Rattle.signature.specs.ChallengeSteps.{nextOf}
 use borrow.Author.Needs.{needs}
 use Rattle.signature.proofs.challenge.next_of.Statement.{statement}
 use Rattle.signature.proofs.challenge.next_of.Tie as tie

@@ -11,7 +11,7 @@ use mir.ValLaws.{toZ-ofZ}
 use Rattle.signature.specs.declared.code.Got.the-variants.{Code}
 use Rattle.signature.specs.Bits.{bitString}
 use Rattle.signature.specs.Code.{runOf, magOf}
-use Rattle.signature.specs.Answers.{gotOf}
+use Rattle.signature.specs.AnswerSteps.{gotOf}
 use Rattle.signature.proofs.Strings.{length-fields}
 use Rattle.signature.proofs.Codes.{read-short, read-zero, read-cut, read-some, run-is, mag-is, mag-lt}
 use borrow.Author.Needs.{needs, sfits-of}

@@ -1,18 +1,18 @@
 use Rattle.signature.specs.MaskedSteps.{matrixIn}
 use mathlib.Core.Path.{_≡_, sym, ap, subst, _∙_}
 use mathlib.Core.List.{List}
-use Prim.Native.Nat.{ℕ, _+_, _-_, _*_, _^_, _<_}
+use Prim.Native.Nat.{ℕ, _+_, _-_, _*_}
 use native.Mathlib.Omega.{arith}
 use lib.Dec.{lit<}
 use lib.ListN.{length, take, drop}
-use Rattle.ring.specs.Words.{q, Below}
+use Rattle.ring.specs.Words.{q}
 use Rattle.ring.specs.Round.{residues}
 use Rattle.sharing.specs.Region.{span}
 use Rattle.sharing.proofs.Regions.{length-span, span-words}
-use Rattle.signature.specs.Answers.{FinishedAs}
+use Rattle.signature.specs.AnswerSteps.{FinishedAs}
 use Rattle.signature.specs.Form.{Fields}
-use Rattle.signature.specs.Keygen.{atT, atX}
 use Rattle.signature.specs.Keys.{vkVector}
+use Rattle.signature.specs.Layout.{atT, atX}
 use Rattle.signature.specs.Matrix.{matrix}
 use Rattle.signature.specs.Recover.{centredAll, recovered}
 use Rattle.signature.specs.Sign.{finished}
@@ -22,20 +22,23 @@ use borrow.Author.Needs.{needs}
 use Rattle.signature.proofs.fields.finish_with.Statement.{statement}
 use Rattle.signature.proofs.fields.finish_with.Tie as tie
 
+at-x-requires : tie.Need-at-x-requires
+at-x-requires c κs = let h = c .before .before .before .before .before .pre .0 .0 in (h .rows-low, h .columns-low, h .shares-low)
+
 centred-into-requires : tie.Need-centred-into-requires
 centred-into-requires c κs =
-    let a = c .before .before .before .before .before .before .before .before in
+    let a = c .before .before .before .before .before .before .before .before .before .before in
     let b = a .args in
     let p = b .p in
     let x = atX (p .k) (p .l) (p .shares) in
     let e : p .l * 512 ≡ x + p .l * 512 - x = omega arith in
     let w = span-words (b .work .now) x (p .l * 512) (room p (a .pre .0 .0) (length (b .work .now)) (a .pre .0 .1) .2) (a .pre .0 .2) in
-    subst (λ (j : ℕ). (length (b .z .now) ≡ length (take j (drop x (b .work .now)))) × Below q (take j (drop x (b .work .now))) × (0 < q) × (q < 2 ^ 62)) e
+    rw (c .before .before .before .before .at-x .ensures, ← e)
     (a .pre .1 .1 .1 ∙ sym (w .long), w .low, lit< tt, lit< tt)
 
 write-fields-requires : tie.Need-write-fields-requires
 write-fields-requires c κs =
-    let a = c .before .before .before .before .before .before .before .before .before .before .before .before .before .before .before .before .before .before .before in
+    let a = c .before .before .before .before .before .before .before .before .before .before .before .before .before .before .before .before .before .before .before .before .before in
     let b = a .args in
     let p = b .p in
     let T = a .pre .0 .0 in
@@ -43,7 +46,7 @@ write-fields-requires c κs =
     let x = atX (p .k) (p .l) (p .shares) in
     let z = span-words (b .work .now) x (p .l * 512) (R .2) (a .pre .0 .2) in
     let e : x + p .l * 512 - x ≡ p .l * 512 = omega arith in
-    let f = c .before .before .before .before .before .before .before .before .before .before .centred-into .ensures ∙ ap (λ (j : ℕ). centredAll q (take j (drop x (b .work .now)))) e in
+    let f = rw (c .before .before .before .before .before .before .before .before .before .before .before .before .before .before .before .at-x .ensures) at (c .before .before .before .before .before .before .before .before .before .before .centred-into .ensures) ∙ ap (λ (j : ℕ). centredAll q (take j (drop x (b .work .now)))) e in
     let v = span (b .work .now) x (p .l * 512) in
     let y = recovered p (matrixIn p (b .a .now)) v (residues q (b .c)) (vkVector p (b .vk .now)) in
     let w = span (b .work .now) (atT (p .l) (p .shares)) (p .k * 512) in
@@ -54,12 +57,12 @@ write-fields-requires c κs =
 
 returns : tie.Need-returns
 returns c =
-    let a = c .before .before .before .before .before .before .before .before .before .before .before .before .before .before .before .before .before .before .before .before .before .before in
+    let a = c .before .before .before .before .before .before .before .before .before .before .before .before .before .before .before .before .before .before .before .before .before .before .before .before in
     let b = a .args in
     let p = b .p in
     let x = atX (p .k) (p .l) (p .shares) in
     let e : x + p .l * 512 - x ≡ p .l * 512 = omega arith in
-    let f = c .before .before .before .before .before .before .before .before .before .before .before .before .before .centred-into .ensures ∙ ap (λ (j : ℕ). centredAll q (take j (drop x (b .work .now)))) e in
+    let f = rw (c .before .before .before .before .before .before .before .before .before .before .before .before .before .before .before .before .before .before .at-x .ensures) at (c .before .before .before .before .before .before .before .before .before .before .before .before .before .centred-into .ensures) ∙ ap (λ (j : ℕ). centredAll q (take j (drop x (b .work .now)))) e in
     let m = c .before .before .before .before .before .before .before .before .before .make-hint .ensures in
     let w = c .before .before .write-fields in (
       m .0,
@@ -71,8 +74,6 @@ returns c =
 
 pub finish-with-spec : {M : Type 1} → statement M
 finish-with-spec =
-    tie.close (tie.spec (λ c. search needs) (λ c. search needs) (λ c. search needs) (λ c. search needs)
-    (λ c. search needs) (λ c. search needs) (λ c. search needs) (λ c. search needs) (λ c. search needs)
-    (λ c. search needs) (λ c. search needs) (λ c. search needs) (λ c. search needs) (λ c. search needs)
+    tie.close (tie.spec at-x-requires (λ c. search needs) (λ c. search needs) (λ c. search needs)
     (λ c. search needs) (λ c. search needs) (λ c. search needs) centred-into-requires (λ c κs. search needs)
     write-fields-requires (λ c. search needs) (λ c. search needs) (λ c. search needs) (λ c. search needs) returns)

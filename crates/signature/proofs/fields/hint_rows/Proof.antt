@@ -21,7 +21,7 @@ use Rattle.signature.proofs.fields.hint_rows.Statement.{statement}
 use Rattle.signature.proofs.fields.hint_rows.Tie as tie
 
 abbrev Inv-loop : tie.InvT-loop
-Inv-loop work₀ row at wat a k l c t hint₀ i₀ work hint i = 
+Inv-loop work₀ row at wat a k l c t hint₀ i₀ work hint i =
     (i ≤ k) × (length work ≡ length work₀) × Below q work
     × Kept (row + 512) (length work₀) work₀ work × (length hint ≡ k * 512)
     × (take (i * 512) hint ≡ centredAll 31 (build i (hintRow l a (span work₀ at (l * 512)) c t (span work₀ wat (k * 512)))))
@@ -114,7 +114,7 @@ returns c =
     let e : l .i ≡ b .k = omega (arith, v .0, c .loop-test .left) in (
       (v .1, v .2, v .6, v .3),
       sym (take-all (b .k * 512) (l .hint) (omega (arith, v .4))) ∙ ap (λ n. take (n * 512) (l .hint)) (sym e) ∙ v .5
-      ∙ ap (λ n. centredAll 31 (build n (hintRow (b .l) (b .a .now) (span (b .work .now) (b .at) (b .l * 512)) (b .c) (b .t .now) (span (b .work .now) (b .wat) (b .k * 512))))) e,
+          ∙ ap (λ n. centredAll 31 (build n (hintRow (b .l) (b .a .now) (span (b .work .now) (b .at) (b .l * 512)) (b .c) (b .t .now) (span (b .work .now) (b .wat) (b .k * 512))))) e,
     )
 
 pub hint-rows-spec : {M : Type 1} → statement M

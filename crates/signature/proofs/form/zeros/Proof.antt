@@ -3,7 +3,7 @@ use mathlib.Core.Path.{_≡_, refl, sym, _∙_}
 use native.Mathlib.Omega.{arith}
 use lib.ListN.{length, drop}
 use Rattle.signature.specs.Bits.{bitString}
-use Rattle.signature.specs.Answers.{allZero}
+use Rattle.signature.specs.AnswerSteps.{allZero}
 use Rattle.signature.proofs.Strings.{length-fields}
 use Rattle.signature.proofs.Filled.{zero-next, one-next, zero-end}
 use borrow.Author.Needs.{needs}

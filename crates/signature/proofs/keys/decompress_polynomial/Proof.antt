@@ -4,7 +4,7 @@ use native.Mathlib.Omega.{arith}
 use Rattle.sharing.specs.Blocks.{build}
 use Rattle.sharing.specs.Region.{Wrote}
 use Rattle.sharing.proofs.Regions.{wrote-start, wrote-turn, wrote-value, wrote-end}
-use Rattle.signature.specs.Expanding.{expandedAt}
+use Rattle.signature.specs.ExpandSteps.{expandedAt}
 use Rattle.signature.proofs.Expanded.{words-few, share-in}
 use borrow.Author.Needs.{needs}
 use Rattle.signature.proofs.keys.decompress_polynomial.Statement.{statement}

@@ -17,7 +17,7 @@ use Rattle.signature.proofs.masked.image_explicit.Statement.{statement}
 use Rattle.signature.proofs.masked.image_explicit.Tie as tie
 
 abbrev Inv-loop : tie.InvT-loop
-Inv-loop s₀ row at to p a words k x₀ i₀ s x i = 
+Inv-loop s₀ row at to p a words k x₀ i₀ s x i =
     (i ≤ k)
     × Wrote (row + p .shares * 512) to (i * 512) (build i (imaged (p .shares) (p .l) 1 (explicitNoise (p .shares) words) x₀ a (span s₀ at (p .l * (p .shares * 512))))) s₀ s
     × (x ≡ skip masks (p .shares) (i * 1) x₀)

@@ -17,7 +17,7 @@ use Rattle.signature.proofs.masked.image_seeds.Statement.{statement}
 use Rattle.signature.proofs.masked.image_seeds.Tie as tie
 
 abbrev Inv-loop : tie.InvT-loop
-Inv-loop s₀ row at to p u a seeds k x₀ i₀ s x i = 
+Inv-loop s₀ row at to p u a seeds k x₀ i₀ s x i =
     (i ≤ k)
     × Wrote (row + p .shares * 512) to (i * 512) (build i (imaged (p .shares) (p .l) (p .rep) (seedNoise (p .shares) (p .rep) u (p .kappa / 8) seeds) x₀ a (span s₀ at (p .l * (p .shares * 512))))) s₀ s
     × (x ≡ skip masks (p .shares) (i * (p .rep)) x₀)

@@ -3,7 +3,7 @@ use native.Mathlib.Omega.{arith}
 use Rattle.sharing.specs.Blocks.{build}
 use Rattle.sharing.specs.Region.{span, Wrote}
 use Rattle.sharing.proofs.Regions.{wrote-start, wrote-end}
-use Rattle.signature.specs.Attempt.{responseShare}
+use Rattle.signature.specs.AttemptSteps.{responseShare}
 use Rattle.signature.proofs.Responses.{answer-turn}
 use borrow.Author.Needs.{needs}
 use Rattle.signature.proofs.respond.respond_at.Statement.{statement}

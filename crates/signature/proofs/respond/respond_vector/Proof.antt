@@ -5,7 +5,7 @@ use Rattle.sharing.specs.Blocks.{build}
 use Rattle.sharing.specs.Region.{span, Wrote}
 use Rattle.sharing.proofs.Lists.{inside}
 use Rattle.sharing.proofs.Regions.{span-words, wrote-value, wrote-start, wrote-end}
-use Rattle.signature.specs.Attempt.{responseAt}
+use Rattle.signature.specs.AttemptSteps.{responseAt}
 use Rattle.signature.proofs.Responses.{answers-turn, response-is}
 use borrow.Author.Needs.{needs}
 use Rattle.signature.proofs.respond.respond_vector.Statement.{statement}

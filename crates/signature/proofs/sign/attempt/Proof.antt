@@ -1,4 +1,4 @@
-use Rattle.signature.specs.Attempt.{coinsOf, keyIn}
+use Rattle.signature.specs.AttemptSteps.{coinsOf, keyIn}
 use Rattle.signature.specs.MaskedSteps.{matrixIn}
 use mathlib.Core.List.{List}
 use mathlib.Core.Path.{_≡_, ap, _∙_}
@@ -31,7 +31,7 @@ returns : tie.Need-returns
 returns c =
     let b = c .before .before .before .before .before .before .before .before .before .before .before .before .before .before .before .before .before .before .before .before .before .args in
     let p = b .p in
-    let T = coinsOf (b .explicit) (b .seeds .now) (b .noise .now) (b .mask-seeds .now) in
+    let T = coinsOf (b .explicit) (b .seeds .now) (b .noise .now) (b .masks .now) in
     let N = noiseAt p T (b .i) in
     let g = maskAt T (b .i) in
     let s = keyIn p (b .work .now) in
@@ -45,7 +45,7 @@ part-finish-end : tie.Need-part-finish-end
 part-finish-end c =
     let b = c .before .before .before .before .before .before .before .before .before .before .before .before .before .before .before .before .before .before .before .before .before .before .before .before .args in
     let p = b .p in
-    let T = coinsOf (b .explicit) (b .seeds .now) (b .noise .now) (b .mask-seeds .now) in
+    let T = coinsOf (b .explicit) (b .seeds .now) (b .noise .now) (b .masks .now) in
     let N = noiseAt p T (b .i) in
     let g = maskAt T (b .i) in
     let s = keyIn p (b .work .now) in
@@ -59,7 +59,7 @@ finish-requires : tie.Need-finish-requires
 finish-requires c κs =
     let b = c .before .before .before .before .before .before .before .before .before .before .before .before .before .before .before .before .before .before .before .before .before .before .before .before .before .before .args in
     let p = b .p in
-    let T = coinsOf (b .explicit) (b .seeds .now) (b .noise .now) (b .mask-seeds .now) in
+    let T = coinsOf (b .explicit) (b .seeds .now) (b .noise .now) (b .masks .now) in
     let N = noiseAt p T (b .i) in
     let g = maskAt T (b .i) in
     let s = keyIn p (b .work .now) in
@@ -76,7 +76,7 @@ returns-2 : tie.Need-returns-2
 returns-2 c =
     let b = c .before .before .before .before .before .before .before .before .before .before .before .before .before .before .before .before .before .before .before .before .before .before .before .before .before .before .before .before .before .before .before .before .args in
     let p = b .p in
-    let T = coinsOf (b .explicit) (b .seeds .now) (b .noise .now) (b .mask-seeds .now) in
+    let T = coinsOf (b .explicit) (b .seeds .now) (b .noise .now) (b .masks .now) in
     let N = noiseAt p T (b .i) in
     let g = maskAt T (b .i) in
     let s = keyIn p (b .work .now) in
@@ -96,7 +96,7 @@ returns-3 : tie.Need-returns-3
 returns-3 c =
     let b = c .before .before .before .before .before .before .before .before .before .before .before .before .before .before .before .before .before .before .before .before .before .before .before .before .before .before .before .before .before .before .before .before .args in
     let p = b .p in
-    let T = coinsOf (b .explicit) (b .seeds .now) (b .noise .now) (b .mask-seeds .now) in
+    let T = coinsOf (b .explicit) (b .seeds .now) (b .noise .now) (b .masks .now) in
     let N = noiseAt p T (b .i) in
     let g = maskAt T (b .i) in
     let s = keyIn p (b .work .now) in

@@ -1,4 +1,4 @@
-use Rattle.signature.specs.Attempt.{coinsOf, keyIn}
+use Rattle.signature.specs.AttemptSteps.{coinsOf, keyIn}
 use Rattle.signature.specs.MaskedSteps.{matrixIn}
 use mathlib.Core.List.{List}
 use mathlib.Core.Path.{_≡_, refl, ap, _∙_}
@@ -14,13 +14,13 @@ use Rattle.signature.proofs.sign.attempt_all.Statement.{statement}
 use Rattle.signature.proofs.sign.attempt_all.Tie as tie
 
 abbrev Inv-loop : tie.InvT-loop
-Inv-loop work₀ p vk a mu explicit seeds noise mask-seeds n out₀ i₀ work out i = 
+Inv-loop work₀ p vk a mu explicit seeds noise masks n out₀ i₀ work out i =
     (i ≤ n) × (length work ≡ length work₀) × Below q work × (out ≡ out₀)
-    × (signFrom p (publicBy p vk mu (matrixIn p a)) (coinsOf explicit seeds noise mask-seeds) n 0 (keyIn p work₀)
-    ≡ signFrom p (publicBy p vk mu (matrixIn p a)) (coinsOf explicit seeds noise mask-seeds) (n - i) i (keyIn p work))
+    × (signFrom p (publicBy p vk mu (matrixIn p a)) (coinsOf explicit seeds noise masks) n 0 (keyIn p work₀)
+    ≡ signFrom p (publicBy p vk mu (matrixIn p a)) (coinsOf explicit seeds noise masks) (n - i) i (keyIn p work))
 
 abbrev μ-loop : tie.MeasureT-loop
-μ-loop work₀ p vk a mu explicit seeds noise mask-seeds n out₀ i₀ work out i = n - i
+μ-loop work₀ p vk a mu explicit seeds noise masks n out₀ i₀ work out i = n - i
 
 loop-holds : tie.Need-loop-holds Inv-loop μ-loop
 loop-holds c =
@@ -28,14 +28,14 @@ loop-holds c =
     let b = a .args in
     let p = b .p in
     let e : b .n ≡ b .n - 0 = omega arith in
-    (omega arith, refl, a .pre .0 .2, refl, ap (λ (m : ℕ). signFrom p (publicBy p (b .vk .now) (b .mu .now) (matrixIn p (b .a .now))) (coinsOf (b .explicit) (b .seeds .now) (b .noise .now) (b .mask-seeds .now)) m 0 (keyIn p (b .work .now))) e)
+    (omega arith, refl, a .pre .0 .2, refl, ap (λ (m : ℕ). signFrom p (publicBy p (b .vk .now) (b .mu .now) (matrixIn p (b .a .now))) (coinsOf (b .explicit) (b .seeds .now) (b .noise .now) (b .masks .now)) m 0 (keyIn p (b .work .now))) e)
 
 attempt-requires : tie.Need-attempt-requires Inv-loop μ-loop
 attempt-requires c κs =
     let a = c .before .before .before .before .before .before .before .before .before .before .before .before in
     let b = a .args in
     let i = c .before .before .before .loop .inv in
-    let T = coinsOf (b .explicit) (b .seeds .now) (b .noise .now) (b .mask-seeds .now) in
+    let T = coinsOf (b .explicit) (b .seeds .now) (b .noise .now) (b .masks .now) in
     let w = coins-within (b .p) (b .n) (c .before .before .before .loop .i) (c .before .before .loop-test .taken) (a .pre .1 .1 .0) T (a .pre .1 .1 .1) in
     ((a .pre .0 .0, i .1 ∙ a .pre .0 .1, i .2, a .pre .0 .3), ((a .pre .1 .0 .0, a .pre .1 .0 .1, ap (λ (l : List ℕ). length l) (i .3) ∙ a .pre .1 .0 .2), w))
 
@@ -58,7 +58,7 @@ returns c =
     let l = c .before .before .before .before .before .before .before .before .before .before .before .loop in
     let i = l .inv in
     let v = c .before .before .before .before .before .before .before .attempt .ensures in
-    let T = coinsOf (b .explicit) (b .seeds .now) (b .noise .now) (b .mask-seeds .now) in
+    let T = coinsOf (b .explicit) (b .seeds .now) (b .noise .now) (b .masks .now) in
     let P = publicBy p (b .vk .now) (b .mu .now) (matrixIn p (b .a .now)) in
     let r = c .reported .ensures in
     (v .0 .0 ∙ i .1, told-as _ (r .0) (r .1) (all-pass p P T (b .n) (l .i) _ _ (b .out .now) (i .4) (c .before .before .before .before .before .before .before .before .before .before .loop-test .taken) _ _ _ _ (i .3) (v .1) (c .before .enum-told .given .1)))
@@ -73,7 +73,7 @@ loop-again c =
     let l = c .before .before .before .before .before .before .before .before .before .before .loop in
     let i = l .inv in
     let v = c .before .before .before .before .before .before .attempt .ensures in
-    let T = coinsOf (b .explicit) (b .seeds .now) (b .noise .now) (b .mask-seeds .now) in
+    let T = coinsOf (b .explicit) (b .seeds .now) (b .noise .now) (b .masks .now) in
     let P = publicBy p (b .vk .now) (b .mu .now) (matrixIn p (b .a .now)) in
     let n = all-next p P T (b .n) (l .i) _ _ (b .out .now) (i .4) (c .before .before .before .before .before .before .before .before .before .loop-test .taken) _ _ _ _ (i .3) (v .1) (c .enum-told2 .given .1) in
     (omega (arith, c .before .before .before .before .before .before .before .before .before .loop-test .taken), v .0 .0 ∙ i .1, v .0 .1, n .0, n .1)
@@ -97,7 +97,7 @@ returns-2 c =
     let l = c .before .before .before .before .before .before .before .before .before .before .before .loop in
     let i = l .inv in
     let v = c .before .before .before .before .before .before .before .attempt .ensures in
-    let T = coinsOf (b .explicit) (b .seeds .now) (b .noise .now) (b .mask-seeds .now) in
+    let T = coinsOf (b .explicit) (b .seeds .now) (b .noise .now) (b .masks .now) in
     let P = publicBy p (b .vk .now) (b .mu .now) (matrixIn p (b .a .now)) in
     let r = c .reported2 .ensures in
     (v .0 .0 ∙ i .1, told-as _ (r .0) (r .1) (all-stuck p P T (b .n) (l .i) _ _ (b .out .now) (i .4) (c .before .before .before .before .before .before .before .before .before .before .loop-test .taken) _ _ _ _ (i .3) (v .1) (c .before .enum-told3 .given .1)))
@@ -115,7 +115,7 @@ returns-3 c =
     let p = b .p in
     let l = c .before .before .loop in
     let i = l .inv in
-    let T = coinsOf (b .explicit) (b .seeds .now) (b .noise .now) (b .mask-seeds .now) in
+    let T = coinsOf (b .explicit) (b .seeds .now) (b .noise .now) (b .masks .now) in
     let P = publicBy p (b .vk .now) (b .mu .now) (matrixIn p (b .a .now)) in
     let z : b .n - l .i ≡ 0 = omega (arith, c .before .loop-test .left) in
     let r = c .reported3 .ensures in

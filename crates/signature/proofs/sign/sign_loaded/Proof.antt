@@ -4,9 +4,8 @@ use Prim.Native.Nat.{ℕ, _/_}
 use native.Mathlib.Omega.{arith}
 use lib.ListN.{replicate}
 use borrow.Author.Tests.{not-true, not-false}
-use Rattle.hash.specs.Lists.{zeros}
 use Rattle.ring.proofs.Sums.{words-zeros}
-use Rattle.signature.specs.Attempt.{coinsOf, keyIn}
+use Rattle.signature.specs.AttemptSteps.{coinsOf, keyIn}
 use Rattle.signature.specs.Keys.{vkSeed}
 use Rattle.signature.specs.Matrix.{matrix, filled}
 use Rattle.signature.proofs.AttemptEnds.{told-as, matrix-none, matrix-made}
@@ -33,9 +32,9 @@ returns c =
     let p = b .p in
     let r = c .reported .ensures in
     let z = c .before .before .before .expand-matrix .ensures .0 .0 in
-    let T = coinsOf (b .explicit) (b .seeds .now) (b .noise .now) (b .mask-seeds .now) in
+    let T = coinsOf (b .explicit) (b .seeds .now) (b .noise .now) (b .masks .now) in
     let no = ap (λ (l : List ℕ). filled (matrix p l)) (sym (seed-front p (b .vk .now))) ∙ sym z ∙ not-true _ (c .before .if1 .taken) in
-    (refl, told-as _ (r .0) (r .1) (matrix-none p (b .vk .now) (b .message .now) T (b .n) (keyIn p (b .work .now)) (b .out .now) (matrix p (vkSeed p (b .vk .now))) no))
+    (refl, told-as _ (r .0) (r .1) (matrix-none p (b .vk .now) (b .msg .now) T (b .n) (keyIn p (b .work .now)) (b .out .now) (matrix p (vkSeed p (b .vk .now))) no))
 
 part-mu-end : tie.Need-part-mu-end
 part-mu-end c =
@@ -46,7 +45,7 @@ part-attempt-all-end : tie.Need-part-attempt-all-end
 part-attempt-all-end c =
     let a = c .before .before .before .before .before .before .before .before .before .before .before .before .before .before .before .before .before .before .before .before in
     let m = c .before .before .before .before .bind in
-    bound-in (a .args .p .kappa / 4) (replicate 64 0) (m .last .1 .1 .0) (a .args .vk .now) (a .args .message .now) (a .pre .0 .0 .hash-low) (m .ensures)
+    bound-in (a .args .p .kappa / 4) (replicate 64 0) (m .last .1 .1 .0) (a .args .vk .now) (a .args .msg .now) (a .pre .0 .0 .hash-low) (m .ensures)
 
 attempt-all-requires : tie.Need-attempt-all-requires
 attempt-all-requires c κs =
@@ -62,11 +61,11 @@ returns-2 c =
     let x = c .before .before .before .before .before .before .before .before .before .before .before .before .before .before .before .expand-matrix .ensures in
     let m = c .before .before .before .before .before .before .before .before .before .before .before .bind in
     let r = c .before .before .before .before .attempt-all .ensures in
-    let T = coinsOf (b .explicit) (b .seeds .now) (b .noise .now) (b .mask-seeds .now) in
+    let T = coinsOf (b .explicit) (b .seeds .now) (b .noise .now) (b .masks .now) in
     let e = seed-front p (b .vk .now) in
-    let mu = bound-is (p .kappa / 4) (replicate 64 0) (m .last .1 .1 .0) (b .vk .now) (b .message .now) (a .pre .0 .0 .hash-low) (m .ensures) in
+    let mu = bound-is (p .kappa / 4) (replicate 64 0) (m .last .1 .1 .0) (b .vk .now) (b .msg .now) (a .pre .0 .0 .hash-low) (m .ensures) in
     let yes = ap (λ (l : List ℕ). filled (matrix p l)) (sym e) ∙ sym (x .0 .0) ∙ not-false _ (c .before .before .before .before .before .before .before .before .before .before .before .before .before .if1 .left) in
-    (r .0, matrix-made p (b .vk .now) (b .message .now) T (b .n) (keyIn p (b .work .now)) (b .out .now) (matrix p (vkSeed p (b .vk .now))) _ _ _ yes (λ (A : List ℕ) h. x .1 A (ap (matrix p) e ∙ h)) mu (r .1))
+    (r .0, matrix-made p (b .vk .now) (b .msg .now) T (b .n) (keyIn p (b .work .now)) (b .out .now) (matrix p (vkSeed p (b .vk .now))) _ _ _ yes (λ (A : List ℕ) h. x .1 A (ap (matrix p) e ∙ h)) mu (r .1))
 
 pub sign-loaded-spec : {M : Type 1} → statement M
 sign-loaded-spec =

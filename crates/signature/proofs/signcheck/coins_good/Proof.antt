@@ -10,7 +10,7 @@ use Rattle.signature.proofs.signcheck.coins_good.Tie as tie
 returns : tie.Need-returns
 returns c =
     let a = c .before .before .before .before .args in
-    coins-masks (a .p) (a .n) (a .seeds .now) (a .noise .now) (a .mask-seeds .now) (a .explicit) (c .if1 .taken)
+    coins-masks (a .p) (a .n) (a .seeds .now) (a .noise .now) (a .masks .now) (a .explicit) (c .if1 .taken)
 
 mul-c : tie.Need-mul-c
 mul-c c =
@@ -30,12 +30,12 @@ mul-if3-2 c =
 returns-2 : tie.Need-returns-2
 returns-2 c =
     let a = c .before .before .before .before .before .before .before .before .args in
-    coins-noise (a .p) (a .n) (a .seeds .now) (a .noise .now) (a .mask-seeds .now) (a .explicit) (c .before .if2 .taken) (c .if3 .taken)
+    coins-noise (a .p) (a .n) (a .seeds .now) (a .noise .now) (a .masks .now) (a .explicit) (c .before .if2 .taken) (c .if3 .taken)
 
 returns-3 : tie.Need-returns-3
 returns-3 c =
     let a = c .before .before .before .before .before .before .before .before .before .args in
-    c .all-below .ensures ∙ coins-words (a .p) (a .n) (a .seeds .now) (a .noise .now) (a .mask-seeds .now) (c .before .before .before .before .before .if1 .left) (a .explicit) (c .before .before .if2 .taken) (c .before .if3 .left)
+    c .all-below .ensures ∙ coins-words (a .p) (a .n) (a .seeds .now) (a .noise .now) (a .masks .now) (c .before .before .before .before .before .if1 .left) (a .explicit) (c .before .before .if2 .taken) (c .before .if3 .left)
 
 mul-result : tie.Need-mul-result
 mul-result c =
@@ -55,7 +55,7 @@ mul-result-3 c =
 returns-4 : tie.Need-returns-4
 returns-4 c =
     let a = c .before .before .before .before .before .before .before .before .before .args in
-    coins-seeds (a .p) (a .n) (a .seeds .now) (a .noise .now) (a .mask-seeds .now) (c .before .before .before .before .before .if1 .left) (a .explicit) (c .before .before .if2 .left)
+    coins-seeds (a .p) (a .n) (a .seeds .now) (a .noise .now) (a .masks .now) (c .before .before .before .before .before .if1 .left) (a .explicit) (c .before .before .if2 .left)
 
 pub coins-good-spec : {M : Type 1} → statement M
 coins-good-spec =

@@ -1,6 +1,6 @@
 use mathlib.Core.Bool.{Bool}
 use mathlib.Core.Path.{sym, ap, _∙_}
-use Rattle.signature.specs.Attempt.{keyFrom}
+use Rattle.signature.specs.AttemptSteps.{keyFrom}
 use Rattle.signature.specs.Checks.{firstNo, keyChecks}
 use borrow.Author.Needs.{needs}
 use Rattle.signature.proofs.signcheck.key_no.Statement.{statement}

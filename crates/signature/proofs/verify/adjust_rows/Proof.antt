@@ -1,5 +1,4 @@
 use Rattle.signature.specs.MatrixSteps.{rowMade}
-use Rattle.hash.specs.Lists.{zeros}
 use Rattle.sharing.specs.Blocks.{block, build}
 use Rattle.sharing.proofs.Lists.{inside}
 use mathlib.Core.Path.{_≡_, refl, sym, ap, subst, _∙_}

@@ -10,7 +10,7 @@ use lib.Seq.{length-take-le}
 use borrow.Author.Tests.{not-true, not-false}
 use borrow.Rule.Slice.PartMut.{midOf, putMid, mid-len}
 use Rattle.hash.specs.Lists.{pick}
-use Rattle.signature.specs.Answers.{fieldsOf, parsed}
+use Rattle.signature.specs.AnswerSteps.{fieldsOf, parsed}
 use Rattle.signature.specs.Bits.{bitString}
 use Rattle.signature.specs.Bounds.{checkBounds}
 use Rattle.signature.specs.Checks.{firstNo}
@@ -19,7 +19,7 @@ use Rattle.signature.specs.Verify.{hashChecks}
 use Rattle.signature.specs.VerifySteps.{fieldChecks, formChecks}
 use Rattle.signature.proofs.Canonical.{parsed-small}
 use Rattle.signature.proofs.Fronts.{front-in, front-is}
-use Rattle.signature.proofs.Proper.{bytes-of, status-14, status-read, sizes-read, read-yes, read-no, bounds-is, bounds-small, small-part, bounded-part, hash-same, bounds-parts}
+use Rattle.signature.proofs.Proper.{bytes-of, status-14, status-read, sizes-read, read-yes, read-no, bounds-small, small-part, bounded-part, hash-same, bounds-parts}
 use Rattle.signature.proofs.Strings.{length-fields, fields-bits, bits-drop}
 use borrow.Author.Needs.{needs}
 use Rattle.signature.proofs.verify.verify_fields.Statement.{statement}
@@ -142,7 +142,7 @@ returns-2 c = let a = c .before .before .before .before .before .before .before 
     let p = b .p in
     let g = got (c .before .before .before .before .before .before) in
     let e : checkBounds p (fieldsOf (take (p .kappa / 4) (b .sig .now)) (c .before .before .before .before .before .before .before .before .before .read .last .1 .1 .0) (c .before .before .before .before .before .before .before .before .before .read .last .1 .1 .1 .0)) ≡ false =
-    sym (bounds-is p (take (p .kappa / 4) (b .sig .now)) (c .before .before .before .before .before .before .before .before .before .read .last .1 .1 .0) (c .before .before .before .before .before .before .before .before .before .read .last .1 .1 .1 .0)) ∙ sym (bounds-parts (p .«hint_limit») (p .binf) (p .b22) (hint-is (c .before .before .before .before .before .before)) (z-is (c .before .before .before .before .before .before))) ∙ sym (c .before .check-bounds .ensures) ∙ not-true _ (c .if2 .taken) in
+    sym (bounds-parts (p .«hint_limit») (p .binf) (p .b22) (hint-is (c .before .before .before .before .before .before)) (z-is (c .before .before .before .before .before .before))) ∙ sym (c .before .check-bounds .ensures) ∙ not-true _ (c .if2 .taken) in
     sym (read-status (c .before .before .before .before .before .before) ∙ ap (λ (t : Bool). pick t (firstNo (hashChecks p (b .vk .now) (b .msg .now) (fieldsOf (take (p .kappa / 4) (b .sig .now)) (c .before .before .before .before .before .before .before .before .before .read .last .1 .1 .0) (c .before .before .before .before .before .before .before .before .before .read .last .1 .1 .1 .0)))) 15) e)
 
 sub-verify-hash : tie.Need-sub-verify-hash
@@ -196,7 +196,7 @@ returns-3 c = let a = c .before .before .before .before .before .before .before 
     let Z = c .before .before .before .before .before .before .before .before .before .before .before .before .before .before .before .read .last .1 .1 .1 .0 in
     let f = fieldsOf (take (p .kappa / 4) (b .sig .now)) H Z in
     let e : checkBounds p f ≡ true =
-    sym (bounds-is p (take (p .kappa / 4) (b .sig .now)) H Z) ∙ sym (bounds-parts (p .«hint_limit») (p .binf) (p .b22) (hint-is (c .before .before .before .before .before .before .before .before .before .before .before .before)) (z-is (c .before .before .before .before .before .before .before .before .before .before .before .before))) ∙ sym (c .before .before .before .before .before .before .before .check-bounds .ensures) ∙ not-false _ (c .before .before .before .before .before .before .if2 .left) in
+    sym (bounds-parts (p .«hint_limit») (p .binf) (p .b22) (hint-is (c .before .before .before .before .before .before .before .before .before .before .before .before)) (z-is (c .before .before .before .before .before .before .before .before .before .before .before .before))) ∙ sym (c .before .before .before .before .before .before .before .check-bounds .ensures) ∙ not-false _ (c .before .before .before .before .before .before .if2 .left) in
     c .verify-hash .ensures ∙ hash-same p (b .vk .now) (b .msg .now) (ap (λ (n : ℕ). take n (b .sig .now)) o) (hint-is (c .before .before .before .before .before .before .before .before .before .before .before .before)) (z-is (c .before .before .before .before .before .before .before .before .before .before .before .before))
     ∙ sym (read-status (c .before .before .before .before .before .before .before .before .before .before .before .before) ∙ ap (λ (t : Bool). pick t (firstNo (hashChecks p (b .vk .now) (b .msg .now) f)) 15) e)
 

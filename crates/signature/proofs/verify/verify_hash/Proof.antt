@@ -11,8 +11,9 @@ use Rattle.hash.specs.Lists.{pick}
 use Rattle.ring.specs.Words.{q}
 use Rattle.ring.specs.Round.{residues}
 use Rattle.ring.specs.Uniform.{heldOf}
-use Rattle.signature.specs.Answers.{fieldsOf}
-use Rattle.signature.specs.Challenge.{chalPoly, chalHeld}
+use Rattle.signature.specs.AnswerSteps.{fieldsOf}
+use Rattle.signature.specs.Challenge.{chalPoly}
+use Rattle.signature.specs.ChallengeSteps.{chalHeld}
 use Rattle.signature.specs.Checks.{sameBytes}
 use Rattle.signature.specs.Keys.{vkSeed, vkVector}
 use Rattle.signature.specs.Matrix.{matrix}

@@ -1,7 +1,6 @@
--- Expanding a key (01: opening; 000, Algorithm 15): the sizes of a record of the table, and the shares one by one.
-use mathlib.Core.Path.{_≡_}
+-- Steps (what the code leaves on its way; no call's contract reaches these): expanding a key (01: opening; 000, Algorithm 15), share by share.
 use mathlib.Core.List.{List}
-use Prim.Native.Nat.{ℕ, _+_, _-_, _*_, _≤_}
+use Prim.Native.Nat.{ℕ, _+_, _-_, _*_}
 use Rattle.hash.specs.declared.params.Params.{Params}
 use Rattle.ring.specs.Uniform.{heldOf}
 use Rattle.sharing.specs.Blocks.{build}

@@ -1,8 +1,8 @@
--- The work buffer of key generation (01: memory), in words: zero encoding d * 512, row d * 512, room of two more sharings, room of eight
--- polynomials (4096), s, room for r, t, x.
+-- Steps (what the code leaves on its way; no call's contract reaches these): key generation (000, Algorithm 1) on the work buffer, laid out as
+-- Layout.antt says.
 use mathlib.Core.Path.{_≡_}
 use mathlib.Core.List.{List, _++_}
-use Prim.Native.Nat.{ℕ, suc, _+_, _*_, _≤_}
+use Prim.Native.Nat.{ℕ, suc, _+_, _*_}
 use Rattle.hash.specs.declared.params.Params.{Params}
 use Rattle.ring.specs.Round.{roundT}
 use Rattle.sharing.specs.Blocks.{block, totals}
@@ -10,19 +10,8 @@ use Rattle.sharing.specs.Region.{span, Wrote}
 use Rattle.sharing.specs.declared.masks.MaskGen.{MaskGen}
 use Rattle.signature.specs.Bits.{repack}
 use Rattle.signature.specs.Keys.{vkSeed, sharePart, keyShares, keyVector}
+use Rattle.signature.specs.Layout.{atS, atT, atX}
 use Rattle.signature.specs.Masked.{seeded, maskedImage}
-
-abbrev pub atRoom : ℕ → ℕ
-atRoom d = 4 * (d * 512)
-
-abbrev pub atS : ℕ → ℕ
-atS d = 4 * (d * 512) + 4096
-
-abbrev pub atT : ℕ → ℕ → ℕ
-atT l d = atS d + l * (d * 512) + l * (d * 512)
-
-abbrev pub atX : ℕ → ℕ → ℕ → ℕ
-atX k l d = atT l d + k * 512
 
 -- lines 5 to 8, W being the shares of all rows of t with their noise: those of the last row, behind the zero encoding; t, rounded, at `to`
 pub record Rounded (p : Params) (to : ℕ) (W xs ys : List ℕ) : Type 0 where

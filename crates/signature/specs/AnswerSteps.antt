@@ -1,10 +1,10 @@
--- What the modules `code`, `form` and `bounds` answer, in terms of the definitions of Code, Form and Bounds.
+-- Steps (what the code leaves on its way; no call's contract reaches these): what the modules `code`, `form`, `bounds` and `fields`
+-- answer, in terms of the definitions of Code, Form, Bounds and Sign.
 use mathlib.Core.Path.{_≡_}
 use mathlib.Core.Bool.{Bool, true, false}
 use mathlib.Core.List.{List, [], _∷_}
 use mathlib.Core.Option.{Option, some, none}
-use Prim.Native.Nat.{ℕ, zero, suc, _+_, _*_, _^_}
-use lib.Dec.{leb}
+use Prim.Native.Nat.{ℕ, zero, suc, _+_}
 use lib.IntN.{ℤ}
 use lib.ListN.{drop}
 use Rattle.hash.specs.Lists.{pick}
@@ -58,10 +58,6 @@ ReadOf (some x) r h z = (r ≡ true) × (h ≡ x .0) × (z ≡ x .1)
 -- of one list: the sum of squares, or that a number is above the limit
 unfoldable pub normOf : ℕ → ℕ → List ℤ → Norm
 normOf most v zs = pick (within most zs) (Norm.Square (squares v zs)) Norm.Over
-
--- `checkBounds` over the hint's limit, B_inf and 2^-64 B_2^2
-unfoldable pub boundsOf : ℕ → ℕ → ℕ → List ℤ → List ℤ → Bool
-boundsOf limit most all h z = pick (within limit h) (pick (within most z) (leb (2 ^ 24 * squares 0 h + squares 32 z) all) false) false
 
 -- ---- the end of an attempt
 

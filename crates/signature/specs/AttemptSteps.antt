@@ -1,5 +1,5 @@
--- Steps (what the code leaves on its way; no call's contract reaches these): one attempt of signing (000, Algorithm 2) on the work buffer. It is
--- laid out as in key generation: r, and then the shares of z, lie where Keygen.antt leaves room for r; w lies in the place of t, z in that of x.
+-- Steps (what the code leaves on its way; no call's contract reaches these): one attempt of signing (000, Algorithm 2) on the work buffer, laid out
+-- as Layout.antt says.
 use mathlib.Core.Path.{_≡_}
 use mathlib.Core.Bool.{Bool, true, false}
 use mathlib.Core.List.{List}
@@ -17,8 +17,9 @@ use Rattle.sharing.specs.Region.{span}
 use Rattle.sharing.specs.Encoding.{skip, refreshed}
 use Rattle.sharing.specs.Masks.{masks}
 use Rattle.sharing.specs.declared.masks.MaskGen.{MaskGen}
-use Rattle.signature.specs.Challenge.{chalHash, chalPoly, chalHeld}
-use Rattle.signature.specs.Keygen.{atS, atT, atX}
+use Rattle.signature.specs.Challenge.{chalHash, chalPoly}
+use Rattle.signature.specs.ChallengeSteps.{chalHeld}
+use Rattle.signature.specs.Layout.{atS, atR, atT, atX}
 use Rattle.signature.specs.Masked.{Noise, maskedNoise, maskedImage}
 use Rattle.signature.specs.MaskedSteps.{transformed, untransformed}
 use Rattle.signature.specs.declared.challenge.Challenged.{Challenged}
@@ -40,9 +41,6 @@ pub record Within (p : Params) (T : Coins) (a : ℕ) : Type 0 where
   pub noise-low : T .explicit ≡ true → Below q (T .noise)
   pub few : a ≤ 16
   pub masks-long : a * 32 + 32 ≤ length (T .masks)
-
-abbrev pub atR : ℕ → ℕ → ℕ
-atR l d = atS d + l * (d * 512)
 
 -- the key's shares in the work buffer
 abbrev pub keyIn : Params → List ℕ → List ℕ
