@@ -133,7 +133,8 @@ fn header_without_warnings() {
 #[test]
 fn stack_of_the_guide() {
     let guide = text("docs/GUIDE.md");
-    let table: Vec<&str> = guide.lines().skip_while(|line| *line != "## Stack").take_while(|line| !line.starts_with("## Refusals")).collect();
+    let table: Vec<&str> =
+        guide.lines().skip_while(|line| *line != "## Stack").take_while(|line| !line.starts_with("## Refusals")).collect();
     let told = |call: &str| -> usize {
         let row = table.iter().find(|line| line.contains(&format!("`{call}`"))).unwrap_or_else(|| panic!("no row of {call}"));
         row.split('|').nth(2).unwrap().trim().parse().unwrap()
