@@ -1,4 +1,5 @@
--- rho and pi inside the state, lane by lane (02, #104): 24 moves along one walk, with one spare lane, held outside of the state.
+-- Steps (what the code leaves on its way; no call's contract reaches these): rho and pi inside the state, lane by lane (02, #104): 24 moves
+-- along one walk, with one spare lane, held outside of the state.
 use Prim.Native.Nat.{ℕ, _+_, _*_, _%_}
 use mathlib.Core.Path.{_≡_}
 use mathlib.Core.Bool.{Bool}

@@ -35,5 +35,5 @@ written zero result out = result
 written (suc n) result out = out
 
 -- a sampler's status, and what its result buffer holds afterwards
-abbrev pub answered : {A : Type 0} → ℕ → Option (List A) → List A → ℕ × List A
-answered n f out = (n, written n (heldOr f []) out)
+abbrev pub sampleLeaves : {A : Type 0} → ℕ → Option (List A) → List A → ℕ × List A
+sampleLeaves n f out = (n, written n (heldOr f []) out)

@@ -1,5 +1,5 @@
--- Inside the layer: residues modulo p returned loosely (02, #109), congruent to the least one and below so many primes, and how many these are at
--- each level of the transform. No layer above cites this file.
+-- Steps (what the code leaves on its way; no call's contract reaches these): residues modulo p returned loosely (02, #109), congruent to the
+-- least one and below so many primes, and how many these are at each level of the transform. No layer above cites this file.
 use mathlib.Core.Path.{_≡_}
 use mathlib.Core.List.{List}
 use Prim.Native.Nat.{ℕ, _+_, _*_, _-_, _%_, _/_, _^_, _<_, _≤_}

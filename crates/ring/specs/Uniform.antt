@@ -10,7 +10,7 @@ use Rattle.hash.specs.Lists.{pick}
 use Rattle.hash.specs.Shake.{shake256}
 use Rattle.hash.specs.Endian.{le}
 use Rattle.ring.specs.Words.{q}
-use Rattle.ring.specs.Checks.{firstNo, polynomialSized, filled, answered}
+use Rattle.ring.specs.Checks.{firstNo, polynomialSized, filled, sampleLeaves}
 use Rattle.ring.specs.declared.uniform.Sampled.{Sampled}
 
 -- draw number n of the bytes s: the low 49 bits of seven bytes, the lowest first
@@ -40,12 +40,12 @@ unfoldable pub sampleQ : List ℕ → List ℕ → Option (List ℕ)
 sampleQ hdr seed = uniform (shake256 (hdr ++ seed) 5439)
 
 -- the sampler over lent bytes: checks 8 and 10
-abbrev pub sampledNo : List ℕ → List ℕ → ℕ
-sampledNo s out = firstNo ((8, polynomialSized out) ∷ (10, filled (uniform s)) ∷ [])
+abbrev pub uniformChecks : List ℕ → List ℕ → List (ℕ × Bool)
+uniformChecks s out = (8, polynomialSized out) ∷ (10, filled (uniform s)) ∷ []
 
 -- its status, and what out holds afterwards
 unfoldable pub sampledOf : List ℕ → List ℕ → ℕ × List ℕ
-sampledOf s out = answered (sampledNo s out) (uniform s) out
+sampledOf s out = sampleLeaves (firstNo (uniformChecks s out)) (uniform s) out
 
 -- the answer of SampleQ: a polynomial, or zero where there is none
 unfoldable pub heldOf : Option (List ℕ) → Sampled

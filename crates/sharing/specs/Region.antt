@@ -1,4 +1,4 @@
--- Regions of a work buffer, and what a step does to them.
+-- Steps (what the code leaves on its way; no call's contract reaches these): regions of a work buffer, and what a step does to them.
 use mathlib.Core.Path.{_≡_}
 use mathlib.Core.List.{List, _++_}
 use Prim.Native.Nat.{ℕ, _+_, _≤_}

@@ -19,10 +19,9 @@ use Rattle.sharing.specs.Encoding.{skip, refreshed}
 use Rattle.sharing.specs.Masks.{masks}
 use Rattle.sharing.specs.declared.masks.MaskGen.{MaskGen}
 use Rattle.signature.specs.AttemptSteps.{keyIn, Begun, LastRow, Committed, Responded, Answered, commitmentOf, hashOf}
-use Rattle.signature.specs.Bounds.{checkBounds}
 use Rattle.signature.specs.Challenge.{headed, ordered, challenge, chalHash, chalPoly}
 use Rattle.signature.specs.ChallengeSteps.{chalHeld}
-use Rattle.signature.specs.Form.{Fields, write}
+use Rattle.signature.specs.Form.{Fields}
 use Rattle.signature.specs.Layout.{atS, atR, atT, atX}
 use Rattle.signature.specs.Masked.{Noise, maskedNoise}
 use Rattle.signature.specs.Outcome.{answer}
@@ -153,21 +152,7 @@ module _ (p : Params) (P : Public) (N : Noise) (g : MaskGen) (s : List ℕ) wher
   unfolding attempted concluded
   attempt-on c e = ap at-challenge e
 
-module _ (p : Params) (f : Fields) where
-  -- over the bounds, too long, or a signature
-  pub over-bounds : checkBounds p f ≡ false → finished p f ≡ over
-  unfolding finished
-  over-bounds e = simp e
-
-  pub over-length : checkBounds p f ≡ true → write p f ≡ none → finished p f ≡ over
-  unfolding finished
-  over-length e h = simp (e, h)
-
-  pub signature-made : (b : List ℕ) → checkBounds p f ≡ true → write p f ≡ some b → finished p f ≡ made b
-  unfolding finished
-  signature-made b e h = simp (e, h)
-
--- .. by what lines 4 to 16 left: o is the challenge, ys the work buffer
+-- by what lines 4 to 16 left: o is the challenge, ys the work buffer
 chal-none : (o : Option (List ℤ)) → chalHeld o .ok ≡ false → o ≡ none
 unfolding chalHeld
 chal-none none e = refl
@@ -204,9 +189,6 @@ module _ (p : Params) (P : Public) (N : Noise) (g : MaskGen) (s hash ys : List �
         (sym (u .hash-is))
         ∙ ap (λ (Z : List ℕ). finished p (signedFields p P (span ys (atT (p .l) (p .shares)) (p .k * 512)) hash Z (o .poly)))
         (sym (u .response (o .poly) chal-is))
-
-    pub left-shares : span ys (atR (p .l) (p .shares)) (p .l * (p .shares * 512)) ≡ refreshedResponse p N g (P .matrix) s (residues q (o .poly)) .shares
-    left-shares = u .shares (o .poly) chal-is
 
     pub left-key : keyIn p ys ≡ refreshedKey p N g (P .matrix) s .shares
     left-key = u .key (o .poly) chal-is

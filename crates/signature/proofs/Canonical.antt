@@ -21,7 +21,7 @@ use Rattle.signature.specs.Code.{negOf, signs, codeOf, code, codes, code
 use Rattle.signature.specs.Form.{Fields, hashBytes, formBits, bitCount, write, read}
 use Rattle.signature.specs.AnswerSteps.{fieldsOf, allZero, parsed}
 use Rattle.signature.proofs.Strings.{Bits, bits-drop, bits-join, are-bits, fields-bits, length-bits, length-fields}
-use Rattle.signature.proofs.Packing.{val-bits, chop-fields, fields-append, length-chop, chop-lt, fields-chop, bytes-lt, lt-bytes}
+use Rattle.signature.proofs.Packing.{val-bits, chop-fields, fields-append, length-chop, fields-chop, bytes-lt}
 use Rattle.signature.proofs.Codes.{neg-lt, code-length}
 use Rattle.signature.proofs.Lists.{codes-room}
 use Rattle.signature.proofs.Whole.{trips, canons}
@@ -113,9 +113,6 @@ module _ (p : Params) (f : Fields) (b : List ℕ) where
 
   withFill-are : Bits (withFill f (p .«sig_bytes»))
   withFill-are = bits-join (formBits f) (replicate (8 * p .«sig_bytes» - bitCount f) 0) (form-are f) (bits-replicate (8 * p .«sig_bytes» - bitCount f) 0 (lit< tt))
-
-  pub write-bytes : write p f ≡ some b → Bytes b
-  write-bytes e = rw ((write-some e) .1) (lt-bytes (chop 8 (p .«sig_bytes») (withFill f (p .«sig_bytes»))) (chop-lt 8 (p .«sig_bytes») (withFill f (p .«sig_bytes»)) withFill-are))
 
   -- the bits of what is written
   pub write-bits : write p f ≡ some b → bitString 8 b ≡ withFill f (p .«sig_bytes»)

@@ -120,10 +120,6 @@ module _ (p : Params) (hash : List ℕ) (c : List ℤ) (is : chalPoly p hash ≡
   chalPoly-small = challenge-small (p .edition) (p .omega) (shake256 (headed 99 (p .omega) ++ hash) 2176) c (chalPoly-is p hash ∙ is)
 
 module _ (p : Params) (w mu : List ℕ) where
-  pub chalHash-is : shake256 (headed 104 (p .k) ++ ordered (p .edition) w mu) (p .kappa / 4) ≡ chalHash p w mu
-  unfolding chalHash
-  chalHash-is = refl
-
   pub chalHash-length : length (chalHash p w mu) ≡ p .kappa / 4
   unfolding chalHash
   chalHash-length = output-length (headed 104 (p .k) ++ ordered (p .edition) w mu) (p .kappa / 4)

@@ -140,9 +140,6 @@ module _ (k l : ℕ) (seed A : List ℕ) (e : matrixOf k l seed ≡ some A) wher
       ap (block 512 m) (row i hi .whole) ∙ block-build 512 l m (rowEntry seed i) (λ (j : ℕ) (h : j < l). entry-words i j hi h .long) hm in
       sym b ∙ ap (block 512 m) (sym a) ∙ block-of 512 l i m A hm
 
-  pub matrix-at : (i m : ℕ) → i < k → m < l → matrixAt seed i m ≡ some (block 512 (i * l + m) A)
-  matrix-at i m hi hm = row i hi .here m hm ∙ ap some (entry-is i m hi hm)
-
   pub matrix-entry-words : (i m : ℕ) → i < k → m < l → Words 512 (block 512 (i * l + m) A)
   matrix-entry-words i m hi hm = rw (← entry-is i m hi hm) (entry-words i m hi hm)
 

@@ -119,10 +119,3 @@ image-product d k l M xs h b w =
     (λ (i : ℕ) (o : i < k).
     row-shares d l (block (l * 512) i M) (λ (m : ℕ). block 512 (i * l + m) A) xs (λ (m : ℕ) (n : m < l). entry-held k l M h b i m o n)
     (λ (m : ℕ) (n : m < l). entry-words k l M h b i m o n) w)
-
--- the vector of sharings, transformed in place, read as sharings
-pub transformed-there : (l d at : ℕ) (s₀ s : List ℕ) → Wrote 0 at (l * d * 512) (transformed (l * d) (span s₀ at (l * d * 512))) s₀ s
-    → span s at (l * (d * 512)) ≡ transformed (l * d) (span s₀ at (l * (d * 512)))
-transformed-there l d at s₀ s u =
-    let n : l * d * 512 ≡ l * (d * 512) = omega arith in
-    ap (λ (m : ℕ). span s at m) (sym n) ∙ u .new ∙ ap (λ (m : ℕ). transformed (l * d) (span s₀ at m)) n

@@ -97,13 +97,6 @@ pub length-repack : (v w n : ℕ) (xs : List ℕ) → length (repack v w n xs) �
 unfolding repack
 length-repack v w n xs = length-chop w n (bitString v xs)
 
-pub repack-lt : (v w n : ℕ) (xs : List ℕ) (i : ℕ) → getD (repack v w n xs) i 0 < 2 ^ w
-unfolding repack
-repack-lt v w n xs i = chop-lt w n (bitString v xs) (fields-bits v xs) i
-
-pub repack-bytes : (v n : ℕ) (xs : List ℕ) → Bytes (repack v 8 n xs)
-repack-bytes v n xs = lt-bytes (repack v 8 n xs) (repack-lt v 8 n xs)
-
 -- numbers of v bits as m numbers of w bits, and those as numbers of v bits again
 round : (v w m n : ℕ) (xs : List ℕ) → ((i : ℕ) → getD xs i 0 < 2 ^ v) → n * v ≡ m * w → n ≡ length xs → repack w v n (repack v w m xs) ≡ xs
 unfolding repack
@@ -113,6 +106,3 @@ round v w m n xs h e k =
 
 pub repack-trip : (w m n : ℕ) (xs : List ℕ) → ((i : ℕ) → getD xs i 0 < 2 ^ w) → n * w ≡ m * 8 → n ≡ length xs → repack 8 w n (repack w 8 m xs) ≡ xs
 repack-trip w m n xs h e k = round w 8 m n xs h e k
-
-pub repack-back : (w m n : ℕ) (bs : List ℕ) → Bytes bs → n * w ≡ m * 8 → m ≡ length bs → repack w 8 m (repack 8 w n bs) ≡ bs
-repack-back w m n bs b e k = round 8 w n m bs (bytes-lt bs b) (sym e) k

@@ -102,7 +102,6 @@ pub record Signable (p : Params) (key : Key) (n : ℕ) (T : Coins) (out work : L
   pub sized : keySized p key ≡ true
   pub good : keyGood p key ≡ true
   pub low : sharesGood p key ≡ true
-  pub some-attempt : 1 ≤ n
   pub most : n ≤ 16
   pub coins : coinsGood p n T ≡ true
   pub out-long : length out ≡ p .«sig_bytes»
@@ -118,7 +117,6 @@ signable p key n msg T out work e =
       sized = a .sized;
       good = a .good;
       low = a .shares;
-      some-attempt = leb-true 1 n (b .0);
       most = leb-true n 16 (b .1);
       coins = a .coins;
       out-long = s .0;

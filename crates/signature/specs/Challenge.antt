@@ -1,4 +1,5 @@
 -- ChalHash and ChalPoly (000, Algorithms 9 and 10; 01, "Streams and shares"). The edition decides the order of w and mu, and which bit means -1.
+use mathlib.Core.Bool.{Bool}
 use mathlib.Core.List.{List, [], _∷_, _++_}
 use mathlib.Core.Option.{Option, some, none}
 use Prim.Native.Nat.{ℕ, zero, suc, min, _+_, _*_, _/_, _%_}
@@ -11,7 +12,7 @@ use Rattle.hash.specs.Shake.{shake256}
 use Rattle.hash.specs.declared.params.Edition.{Edition}
 use Rattle.hash.specs.declared.params.Params.{Params}
 use Rattle.hash.specs.declared.params.Selected.{Selected}
-use Rattle.ring.specs.Checks.{firstNo, polynomialSized, filled, answered}
+use Rattle.ring.specs.Checks.{firstNo, polynomialSized, filled, sampleLeaves}
 use Rattle.signature.specs.Outcome.{setKnown, foundIn}
 
 -- ---- Algorithm 10 over a stream of bytes
@@ -77,12 +78,12 @@ chalHash p w mu = shake256 (headed 104 (p .k) ++ ordered (p .edition) w mu) (p .
 
 -- ---- the sampler over lent bytes: s is the look-up's answer, with any share count, on which nothing here depends; p is the record found in it
 
-abbrev pub sampledNo : Selected → Params → List ℕ → List ℤ → ℕ
-sampledNo s p bytes out = firstNo ((1, setKnown s) ∷ (8, polynomialSized out) ∷ (11, filled (challenge (p .edition) (p .omega) bytes)) ∷ [])
+abbrev pub challengeChecks : Selected → Params → List ℕ → List ℤ → List (ℕ × Bool)
+challengeChecks s p bytes out = (1, setKnown s) ∷ (8, polynomialSized out) ∷ (11, filled (challenge (p .edition) (p .omega) bytes)) ∷ []
 
 -- the status, and what out holds afterwards
 unfoldable pub sampledChallenge : ℕ → List ℕ → List ℤ → ℕ × List ℤ
 sampledChallenge set bytes out =
     let s = lookupOf set 1 Edition.Printed in
     let p = foundIn s in
-    answered (sampledNo s p bytes out) (challenge (p .edition) (p .omega) bytes) out
+    sampleLeaves (firstNo (challengeChecks s p bytes out)) (challenge (p .edition) (p .omega) bytes) out

@@ -54,7 +54,7 @@ pub(crate) fn write(hash: &[u8], hint: &[i64], response: &[i64], out: &mut [u8])
 }
 
 // Whether every bit from `at` on is 0.
-fn zeros(buf: &[u8], at: usize) -> bool
+fn all_zero(buf: &[u8], at: usize) -> bool
     requires { ⌜ length (now buf) < 2 ^ 17 ⌝ }
     ensures { λ r. ⌜ r ≡ allZero (drop at (bitString 8 (now (buf .entry)))) ⌝ }
 {
@@ -80,5 +80,5 @@ pub(crate) fn read(sig: &[u8], hash_bytes: usize, hint: &mut [i64], response: &m
     let Next::At(b) = code::get_codes(sig, a, 40, response) else {
         return false;
     };
-    zeros(sig, b)
+    all_zero(sig, b)
 }

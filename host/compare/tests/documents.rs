@@ -1,6 +1,6 @@
 //! The documents name what is there: each file, each must-fail edit and each name in backquotes of docs/TRACE.md stands in the sources,
-//! docs/MUST_FAIL.md lists each must-fail edit, the theorems that docs/STATEMENT.md quotes are the theorems' own text, and links lead
-//! somewhere.
+//! docs/MUST_FAIL.md lists each must-fail edit, the theorems that docs/STATEMENT.md quotes are the theorems' own text, README lists the
+//! definitions that contracts reach, and links lead somewhere.
 
 use std::collections::BTreeSet;
 use std::fs;
@@ -155,4 +155,53 @@ fn links_lead_somewhere() {
         }
     }
     assert!(links > 10, "only {links} links were found");
+}
+
+/// The modules of specs/ that a source uses, as crate and name.
+fn specs_used(source: &str) -> BTreeSet<(String, String)> {
+    let uses =
+        source.lines().filter_map(|line| line.trim_start_matches("ghost ").split_once("use Rattle·")).map(|(_, path)| path);
+    let module = |path: &str| {
+        let (name, rest) = path.split_once(".specs.")?;
+        let module = rest.trim_start_matches("specs.").split('.').next()?;
+        Some((name.trim_end_matches("·specs").to_string(), module.to_string()))
+    };
+    uses.filter_map(module).collect()
+}
+
+/// Each file of definitions is in README's list of what a reader has to believe or is headed as steps, and nothing in the list, and no
+/// contract of an export, uses steps.
+#[test]
+fn what_a_reader_has_to_believe() {
+    let readme = text("README.md");
+    let rows = readme
+        .lines()
+        .skip_while(|line| *line != "## What a reader has to believe")
+        .skip(1)
+        .take_while(|line| !line.starts_with("## "));
+    let cells = rows.filter(|line| line.starts_with("| ")).skip(1).map(|line| line.split('|').nth(2).unwrap());
+    let mut believed = BTreeSet::new();
+    for part in cells.flat_map(|cell| cell.split(';')) {
+        let quotes: Vec<&str> = part.split('`').skip(1).step_by(2).collect();
+        let names = quotes[1..].iter().map(|quote| quote.trim_start_matches("specs/").trim_end_matches(".antt"));
+        believed.extend(names.map(|name| (quotes[0].to_string(), name.to_string())));
+    }
+    let mut steps = BTreeSet::new();
+    for name in ["hash", "ring", "sharing", "signature", "theorems"] {
+        let mut found = Vec::new();
+        files(&format!("crates/{name}/specs"), &mut found);
+        for path in found.iter().filter(|path| !path.ends_with("/Lib.antt")) {
+            let module = path.rsplit('/').next().unwrap().trim_end_matches(".antt").to_string();
+            let is_step = text(path).starts_with("-- Steps (");
+            assert_ne!(is_step, believed.contains(&(name.to_string(), module.clone())), "{path}");
+            if is_step {
+                steps.insert((name.to_string(), module));
+            }
+        }
+    }
+    assert!(believed.len() > 30 && steps.len() > 12, "{} and {} files", believed.len(), steps.len());
+    let lists = believed.iter().map(|(name, module)| format!("crates/{name}/specs/{module}.antt"));
+    for path in lists.chain(["crates/capi/src/lib.rt".to_string()]) {
+        assert_eq!(specs_used(&text(&path)).intersection(&steps).next(), None, "{path} uses steps");
+    }
 }

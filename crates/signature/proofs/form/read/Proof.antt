@@ -49,7 +49,7 @@ returns-3 c =
     let m = length (a .response .now) in
     let k = c .before .before .before .before .before .before .before .before .a .given .0 .0 in
     let g = next-at k (c .before .before .before .before .before .get-codes2 .last .1 .1 .1 .0) (readCodes 40 m (drop k F)) _ (c .before .before .b .given .0 .0) (c .before .before .before .before .before .get-codes2 .ensures) (c .before .before .b .given .1) in
-    read-both (length (a .hint .now)) m F (8 * a .hash-bytes) _ (f .0) k (f .1) (f .2) _ (g .0) _ _ (g .1) (g .2) (c .zeros .ensures)
+    read-both (length (a .hint .now)) m F (8 * a .hash-bytes) _ (f .0) k (f .1) (f .2) _ (g .0) _ _ (g .1) (g .2) (c .all-zero .ensures)
 
 pub read-spec : {M : Type 1} → statement M
 read-spec =

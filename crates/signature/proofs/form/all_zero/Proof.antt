@@ -7,8 +7,8 @@ use Rattle.signature.specs.AnswerSteps.{allZero}
 use Rattle.signature.proofs.Strings.{length-fields}
 use Rattle.signature.proofs.Filled.{zero-next, one-next, zero-end}
 use borrow.Author.Needs.{needs}
-use Rattle.signature.proofs.form.zeros.Statement.{statement}
-use Rattle.signature.proofs.form.zeros.Tie as tie
+use Rattle.signature.proofs.form.all_zero.Statement.{statement}
+use Rattle.signature.proofs.form.all_zero.Tie as tie
 
 abbrev Inv-loop : tie.InvT-loop
 Inv-loop buf at k₀ k = allZero (drop at (bitString 8 buf)) ≡ allZero (drop k (bitString 8 buf))
@@ -37,7 +37,7 @@ returns-2 c =
     let b = c .before .before .before .args .buf .now in
     sym (l .inv ∙ zero-end (bitString 8 b) (l .k) (omega (arith, length-fields 8 b)))
 
-pub zeros-spec : {M : Type 1} → statement M
-zeros-spec =
+pub all-zero-spec : {M : Type 1} → statement M
+all-zero-spec =
     tie.close (tie.spec Inv-loop μ-loop loop-holds (λ c. search needs) (λ c κs. search needs) returns
     (λ c. search needs) (λ c. search needs) loop-again returns-2)
