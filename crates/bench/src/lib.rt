@@ -42,7 +42,8 @@ pub extern "C" fn bench_shake256(m: &[u8], out: &mut [u8])
 // The transform of f, where its words are below q; else f stays, and the answer is false.
 #[no_mangle]
 pub extern "C" fn bench_ntt(f: &mut [u64; 512]) -> bool
-    ensures { λ r. ⌜ (r ≡ allBelow q (now (f .entry))) × (now (f .exit) ≡ pick (allBelow q (now (f .entry))) (ntt (now (f .entry))) (now (f .entry))) ⌝ }
+    ensures { λ r. ⌜ (r ≡ allBelow q (now (f .entry)))
+        × (now (f .exit) ≡ pick (allBelow q (now (f .entry))) (ntt (now (f .entry))) (now (f .entry))) ⌝ }
 {
     if !ring::poly::all_below(f, 549824583172097) {
         return false;
@@ -54,7 +55,8 @@ pub extern "C" fn bench_ntt(f: &mut [u64; 512]) -> bool
 // f times g in the ring, by the transform, into f, where the words of both are below q; else f stays, and the answer is false.
 #[no_mangle]
 pub extern "C" fn bench_product(f: &mut [u64; 512], g: &[u64; 512]) -> bool
-    ensures { λ r. ⌜ (r ≡ pick (allBelow q (now (f .entry))) (allBelow q (now (g .entry))) false) × (now (f .exit) ≡ pick r (mul (now (f .entry)) (now (g .entry))) (now (f .entry))) ⌝ }
+    ensures { λ r. ⌜ (r ≡ pick (allBelow q (now (f .entry))) (allBelow q (now (g .entry))) false)
+        × (now (f .exit) ≡ pick r (mul (now (f .entry)) (now (g .entry))) (now (f .entry))) ⌝ }
 {
     if !ring::poly::all_below(f, 549824583172097) {
         return false;
@@ -71,7 +73,8 @@ pub extern "C" fn bench_product(f: &mut [u64; 512], g: &[u64; 512]) -> bool
 // A uniform polynomial of a header and a seed, or zero where its draws run out.
 #[no_mangle]
 pub extern "C" fn bench_sample_q(header: &[u8; 8], seed: &[u8], out: &mut [u64; 512]) -> bool
-    ensures { λ r. ⌜ (r ≡ heldOf (sampleQ (now (header .entry)) (now (seed .entry))) .ok) × (now (out .exit) ≡ heldOf (sampleQ (now (header .entry)) (now (seed .entry))) .poly) ⌝ }
+    ensures { λ r. ⌜ (r ≡ heldOf (sampleQ (now (header .entry)) (now (seed .entry))) .ok)
+        × (now (out .exit) ≡ heldOf (sampleQ (now (header .entry)) (now (seed .entry))) .poly) ⌝ }
 {
     let s = ring::uniform::sample_q(header, seed);
     let p = s.poly;

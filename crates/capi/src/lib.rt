@@ -1,11 +1,12 @@
 // The unit's calls for C: one export for each call of paper 01, with the contract of the function behind it.
 ghost use mathlib.Core.Path.{_≡_};
-ghost use mathlib.Core.Bool.{true, false};
 ghost use Rattle.hash.specs.declared.params.Edition.{Edition};
 ghost use Rattle.ring.specs.Uniform.{sampledOf};
 ghost use Rattle.signature.specs.Challenge.{sampledChallenge};
+ghost use Rattle.signature.specs.ExpandedKey.{expandedIn};
 ghost use Rattle.signature.specs.KeyCalls.{keygenCall, expandCall, refreshCall};
 ghost use Rattle.signature.specs.Outcome.{outcome, signing};
+ghost use Rattle.signature.specs.Sign.{fromSeeds, fromNoise};
 ghost use Rattle.signature.specs.SignCalls.{packed, expanded, signCall};
 ghost use Rattle.signature.specs.Verify.{verifyCall};
 use signature::sign::Signed;
@@ -20,7 +21,9 @@ pub extern "C" fn raccoon_keygen(
     key_out: &mut [u8],
     work: &mut [u64],
 ) -> u32
-    ensures { λ r. ⌜ outcome r (now («key_out» .exit)) (now (work .exit)) ≡ keygenCall Edition.Printed set shares (now (seeds .entry)) (now («mask_seed» .entry)) (now («key_out» .entry)) (now (work .entry)) ⌝ }
+    ensures { λ r. ⌜ outcome r (now («key_out» .exit)) (now (work .exit))
+        ≡ keygenCall Edition.Printed set shares (now (seeds .entry)) (now («mask_seed» .entry)) (now («key_out» .entry))
+        (now (work .entry)) ⌝ }
 {
     signature::keygen::keygen(
         set as u64,
@@ -43,7 +46,8 @@ pub extern "C" fn raccoon_kat_keygen(
     key_out: &mut [u8],
     work: &mut [u64],
 ) -> u32
-    ensures { λ r. ⌜ outcome r (now («key_out» .exit)) (now (work .exit)) ≡ keygenCall Edition.Kat set shares (now (seeds .entry)) (now («mask_seed» .entry)) (now («key_out» .entry)) (now (work .entry)) ⌝ }
+    ensures { λ r. ⌜ outcome r (now («key_out» .exit)) (now (work .exit))
+        ≡ keygenCall Edition.Kat set shares (now (seeds .entry)) (now («mask_seed» .entry)) (now («key_out» .entry)) (now (work .entry)) ⌝ }
 {
     signature::keygen::keygen(
         set as u64,
@@ -65,7 +69,8 @@ pub extern "C" fn raccoon_expand_key(
     bytes_out: &mut [u8],
     words_out: &mut [u64],
 ) -> u32
-    ensures { λ r. ⌜ outcome r (now («bytes_out» .exit)) (now («words_out» .exit)) ≡ expandCall Edition.Printed set shares (now (key .entry)) (now («bytes_out» .entry)) (now («words_out» .entry)) ⌝ }
+    ensures { λ r. ⌜ outcome r (now («bytes_out» .exit)) (now («words_out» .exit))
+        ≡ expandCall Edition.Printed set shares (now (key .entry)) (now («bytes_out» .entry)) (now («words_out» .entry)) ⌝ }
 {
     signature::keys::expand_key(
         set as u64,
@@ -86,7 +91,8 @@ pub extern "C" fn raccoon_kat_expand_key(
     bytes_out: &mut [u8],
     words_out: &mut [u64],
 ) -> u32
-    ensures { λ r. ⌜ outcome r (now («bytes_out» .exit)) (now («words_out» .exit)) ≡ expandCall Edition.Kat set shares (now (key .entry)) (now («bytes_out» .entry)) (now («words_out» .entry)) ⌝ }
+    ensures { λ r. ⌜ outcome r (now («bytes_out» .exit)) (now («words_out» .exit))
+        ≡ expandCall Edition.Kat set shares (now (key .entry)) (now («bytes_out» .entry)) (now («words_out» .entry)) ⌝ }
 {
     signature::keys::expand_key(
         set as u64,
@@ -109,7 +115,9 @@ pub extern "C" fn raccoon_refresh_key(
     bytes_out: &mut [u8],
     words_out: &mut [u64],
 ) -> u32
-    ensures { λ r. ⌜ outcome r (now («bytes_out» .exit)) (now («words_out» .exit)) ≡ refreshCall set shares (record { vk = now (bytes .entry); words = now (words .entry) }) (now («mask_seed» .entry)) (now («bytes_out» .entry)) (now («words_out» .entry)) ⌝ }
+    ensures { λ r. ⌜ outcome r (now («bytes_out» .exit)) (now («words_out» .exit))
+        ≡ refreshCall set shares (expandedIn (now (bytes .entry)) (now (words .entry))) (now («mask_seed» .entry))
+        (now («bytes_out» .entry)) (now («words_out» .entry)) ⌝ }
 {
     signature::keys::refresh_key(
         set as u64,
@@ -135,7 +143,9 @@ pub extern "C" fn raccoon_sign(
     signature_out: &mut [u8],
     work: &mut [u64],
 ) -> Signed
-    ensures { λ r. ⌜ signing (r .status) (r .attempts) (now («signature_out» .exit)) (now (work .exit)) ≡ signCall Edition.Printed set shares (packed (now (key .entry))) attempts (now (message .entry)) (record { explicit = false; noise = now («noise_seeds» .entry); masks = now («mask_seeds» .entry) }) (now («signature_out» .entry)) (now (work .entry)) ⌝ }
+    ensures { λ r. ⌜ signing (r .status) (r .attempts) (now («signature_out» .exit)) (now (work .exit))
+        ≡ signCall Edition.Printed set shares (packed (now (key .entry))) attempts (now (message .entry))
+        (fromSeeds (now («noise_seeds» .entry)) (now («mask_seeds» .entry))) (now («signature_out» .entry)) (now (work .entry)) ⌝ }
 {
     let answer = signature::sign::sign(
         set as u64,
@@ -165,7 +175,9 @@ pub extern "C" fn raccoon_kat_sign(
     signature_out: &mut [u8],
     work: &mut [u64],
 ) -> Signed
-    ensures { λ r. ⌜ signing (r .status) (r .attempts) (now («signature_out» .exit)) (now (work .exit)) ≡ signCall Edition.Kat set shares (packed (now (key .entry))) attempts (now (message .entry)) (record { explicit = false; noise = now («noise_seeds» .entry); masks = now («mask_seeds» .entry) }) (now («signature_out» .entry)) (now (work .entry)) ⌝ }
+    ensures { λ r. ⌜ signing (r .status) (r .attempts) (now («signature_out» .exit)) (now (work .exit))
+        ≡ signCall Edition.Kat set shares (packed (now (key .entry))) attempts (now (message .entry))
+        (fromSeeds (now («noise_seeds» .entry)) (now («mask_seeds» .entry))) (now («signature_out» .entry)) (now (work .entry)) ⌝ }
 {
     signature::sign::sign(
         set as u64,
@@ -195,7 +207,10 @@ pub extern "C" fn raccoon_sign_expanded(
     signature_out: &mut [u8],
     work: &mut [u64],
 ) -> Signed
-    ensures { λ r. ⌜ signing (r .status) (r .attempts) (now («signature_out» .exit)) (now (work .exit)) ≡ signCall Edition.Printed set shares (expanded (record { vk = now (bytes .entry); words = now (words .entry) })) attempts (now (message .entry)) (record { explicit = false; noise = now («noise_seeds» .entry); masks = now («mask_seeds» .entry) }) (now («signature_out» .entry)) (now (work .entry)) ⌝ }
+    ensures { λ r. ⌜ signing (r .status) (r .attempts) (now («signature_out» .exit)) (now (work .exit))
+        ≡ signCall Edition.Printed set shares (expanded (expandedIn (now (bytes .entry)) (now (words .entry)))) attempts
+        (now (message .entry)) (fromSeeds (now («noise_seeds» .entry)) (now («mask_seeds» .entry))) (now («signature_out» .entry))
+        (now (work .entry)) ⌝ }
 {
     signature::sign::sign_expanded(
         set as u64,
@@ -225,7 +240,9 @@ pub extern "C" fn raccoon_sign_explicit(
     signature_out: &mut [u8],
     work: &mut [u64],
 ) -> Signed
-    ensures { λ r. ⌜ signing (r .status) (r .attempts) (now («signature_out» .exit)) (now (work .exit)) ≡ signCall Edition.Printed set shares (packed (now (key .entry))) attempts (now (message .entry)) (record { explicit = true; noise = now («noise_words» .entry); masks = now («mask_seeds» .entry) }) (now («signature_out» .entry)) (now (work .entry)) ⌝ }
+    ensures { λ r. ⌜ signing (r .status) (r .attempts) (now («signature_out» .exit)) (now (work .exit))
+        ≡ signCall Edition.Printed set shares (packed (now (key .entry))) attempts (now (message .entry))
+        (fromNoise (now («noise_words» .entry)) (now («mask_seeds» .entry))) (now («signature_out» .entry)) (now (work .entry)) ⌝ }
 {
     signature::sign::sign_explicit(
         set as u64,
@@ -255,7 +272,10 @@ pub extern "C" fn raccoon_sign_expanded_explicit(
     signature_out: &mut [u8],
     work: &mut [u64],
 ) -> Signed
-    ensures { λ r. ⌜ signing (r .status) (r .attempts) (now («signature_out» .exit)) (now (work .exit)) ≡ signCall Edition.Printed set shares (expanded (record { vk = now (bytes .entry); words = now (words .entry) })) attempts (now (message .entry)) (record { explicit = true; noise = now («noise_words» .entry); masks = now («mask_seeds» .entry) }) (now («signature_out» .entry)) (now (work .entry)) ⌝ }
+    ensures { λ r. ⌜ signing (r .status) (r .attempts) (now («signature_out» .exit)) (now (work .exit))
+        ≡ signCall Edition.Printed set shares (expanded (expandedIn (now (bytes .entry)) (now (words .entry)))) attempts
+        (now (message .entry)) (fromNoise (now («noise_words» .entry)) (now («mask_seeds» .entry))) (now («signature_out» .entry))
+        (now (work .entry)) ⌝ }
 {
     signature::sign::sign_expanded_explicit(
         set as u64,

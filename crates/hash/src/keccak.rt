@@ -102,7 +102,10 @@ fn move_lane(mut s: [[u64; 5]; 5], spare: &mut u64, x: usize, y: usize) -> [[u64
     requires { ⌜ x < 5 ⌝ }
     requires { ⌜ y < 5 ⌝ }
     ensures { λ r. ⌜ (r ≡ moveLane s x y (now (spare .entry))) × (now (spare .exit) ≡ lane s y (ahead x y)) ⌝ }
-    ensures { λ r. ⌜ ((A : State) (i : ℕ) → lane moveNumbers x y ≡ i → Moving A i x y s (now (spare .entry)) → Moving A (suc i) y (ahead x y) r (now (spare .exit))) ⌝ }
+    ensures { λ r. ⌜ ((A : State) (i : ℕ)
+        → lane moveNumbers x y ≡ i
+        → Moving A i x y s (now (spare .entry))
+        → Moving A (suc i) y (ahead x y) r (now (spare .exit))) ⌝ }
 {
     let to = (2 * x + 3 * y) % 5;
     let offset = OFFSETS[y][x];

@@ -244,7 +244,8 @@ pub fn begin(header: &[u8; 8], seed: &[u8]) -> [[u64; 5]; 5]
 
 // The stream that the state gives, as much as out holds, and the state that gave its last block: permuted, it gives the next.
 pub fn squeeze(a: [[u64; 5]; 5], out: &mut [u8]) -> [[u64; 5]; 5]
-    ensures { λ r. ⌜ (now (out .exit) ≡ table (stream a) (length (now (out .entry)))) × (r ≡ after ((length (now (out .entry)) - 1) / 136) a) ⌝ }
+    ensures { λ r. ⌜ (now (out .exit) ≡ table (stream a) (length (now (out .entry))))
+        × (r ≡ after ((length (now (out .entry)) - 1) / 136) a) ⌝ }
 {
     let mut s = a;
     let mut i: usize = 0;

@@ -136,7 +136,8 @@ fn zeta(second: bool, z: &[u64; 512], k: usize) -> u64
 // A block of the transform: a butterfly at each place of its halves.
 fn split(second: bool, a: &mut [u64], h: usize, w: u64)
     requires { ⌜ (length (now a) ≡ 2 * h) × (w < prime second) × Below (32 * prime second) (now a) ⌝ }
-    ensures { λ _. ⌜ Stepped (prime second) (halves (up (prime second) w) (down (prime second) w) h) (λ (m : ℕ). m + 2 * prime second) (now (a .entry)) (now (a .exit)) ⌝ }
+    ensures { λ _. ⌜ Stepped (prime second) (halves (up (prime second) w) (down (prime second) w) h) (λ (m : ℕ). m + 2 * prime second)
+        (now (a .entry)) (now (a .exit)) ⌝ }
 {
     let mut i = 0;
     while i < h {
@@ -150,7 +151,8 @@ fn split(second: bool, a: &mut [u64], h: usize, w: u64)
 // A block of the inverse.
 fn merge(second: bool, a: &mut [u64], h: usize, w: u64)
     requires { ⌜ (length (now a) ≡ 2 * h) × (w < prime second) × Below (16 * prime second) (now a) ⌝ }
-    ensures { λ _. ⌜ Stepped (prime second) (halves (join (prime second)) (part (prime second) w) h) (λ (m : ℕ). 2 * m) (now (a .entry)) (now (a .exit)) ⌝ }
+    ensures { λ _. ⌜ Stepped (prime second) (halves (join (prime second)) (part (prime second) w) h) (λ (m : ℕ). 2 * m) (now (a .entry))
+        (now (a .exit)) ⌝ }
 {
     let mut i = 0;
     while i < h {
@@ -176,7 +178,8 @@ fn scaled(second: bool, a: &mut [u64], s: u64)
 // A level of the inverse, to blocks of 2^d entries; the sums of the fifth are reduced, as products with 1.
 fn level(second: bool, a: &mut [u64], h: usize, w: u64, d: usize)
     requires { ⌜ (length (now a) ≡ 2 * h) × (w < prime second) × (0 < d) × (d ≤ 9) × Below (backRange (d - 1) * prime second) (now a) ⌝ }
-    ensures { λ _. ⌜ LooseList (prime second) (backRange d) (halves (join (prime second)) (part (prime second) w) h (mods (prime second) (now (a .entry)))) (now (a .exit)) ⌝ }
+    ensures { λ _. ⌜ LooseList (prime second) (backRange d)
+        (halves (join (prime second)) (part (prime second) w) h (mods (prime second) (now (a .entry)))) (now (a .exit)) ⌝ }
 {
     merge(second, a, h, w);
     if d == 5 {
@@ -187,7 +190,8 @@ fn level(second: bool, a: &mut [u64], h: usize, w: u64, d: usize)
 // The last two levels of the transform, a block of four at node k.
 fn last(second: bool, z: &[u64; 512], a: &mut [u64], k: usize)
     requires { ⌜ (now z ≡ powers second) × Block (forthRange 2 * prime second) 2 k (now a) ⌝ }
-    ensures { λ _. ⌜ LooseList (prime second) (forthRange 0) (fwd (prime second) (zeta second) 2 k (mods (prime second) (now (a .entry)))) (now (a .exit)) ⌝ }
+    ensures { λ _. ⌜ LooseList (prime second) (forthRange 0) (fwd (prime second) (zeta second) 2 k (mods (prime second) (now (a .entry))))
+        (now (a .exit)) ⌝ }
 {
     let w = zeta(second, z, k);
     let s = cross(second, w, a[0], a[2]);
@@ -203,7 +207,8 @@ fn last(second: bool, z: &[u64; 512], a: &mut [u64], k: usize)
 // The first two levels of the inverse. k is the node that mirrors the block's.
 fn first(second: bool, z: &[u64; 512], a: &mut [u64], k: usize)
     requires { ⌜ (now z ≡ powers second) × Block (prime second) 2 k (now a) ⌝ }
-    ensures { λ _. ⌜ LooseList (prime second) (backRange 2) (bwd (prime second) (zeta second) 2 k (mods (prime second) (now (a .entry)))) (now (a .exit)) ⌝ }
+    ensures { λ _. ⌜ LooseList (prime second) (backRange 2) (bwd (prime second) (zeta second) 2 k (mods (prime second) (now (a .entry))))
+        (now (a .exit)) ⌝ }
 {
     let s = back(second, zeta(second, z, 2 * k + 1), a[0], a[1]);
     let t = back(second, zeta(second, z, 2 * k), a[2], a[3]);
@@ -219,7 +224,8 @@ fn first(second: bool, z: &[u64; 512], a: &mut [u64], k: usize)
 // The transform of a block of 2^d entries at node k.
 fn transform(second: bool, z: &[u64; 512], a: &mut [u64], k: usize, d: usize)
     requires { ⌜ (now z ≡ powers second) × (2 ≤ d) × (d ≤ 9) × Block (forthRange d * prime second) d k (now a) ⌝ }
-    ensures { λ _. ⌜ LooseList (prime second) (forthRange 0) (fwd (prime second) (zeta second) d k (mods (prime second) (now (a .entry)))) (now (a .exit)) ⌝ }
+    ensures { λ _. ⌜ LooseList (prime second) (forthRange 0) (fwd (prime second) (zeta second) d k (mods (prime second) (now (a .entry))))
+        (now (a .exit)) ⌝ }
 {
     if 2 < d {
         let h = a.len() / 2;
@@ -235,7 +241,8 @@ fn transform(second: bool, z: &[u64; 512], a: &mut [u64], k: usize, d: usize)
 // The inverse of the transform of a block of 2^d entries, but for a factor 2^d. k is the node that mirrors the block's.
 fn invert(second: bool, z: &[u64; 512], a: &mut [u64], k: usize, d: usize)
     requires { ⌜ (now z ≡ powers second) × (2 ≤ d) × (d ≤ 9) × Block (prime second) d k (now a) ⌝ }
-    ensures { λ _. ⌜ LooseList (prime second) (backRange d) (bwd (prime second) (zeta second) d k (mods (prime second) (now (a .entry)))) (now (a .exit)) ⌝ }
+    ensures { λ _. ⌜ LooseList (prime second) (backRange d) (bwd (prime second) (zeta second) d k (mods (prime second) (now (a .entry))))
+        (now (a .exit)) ⌝ }
 {
     if 2 < d {
         let h = a.len() / 2;
@@ -262,7 +269,8 @@ fn reduce_all(second: bool, a: &mut [u64])
 // The coefficients a, transformed.
 pub fn forward(second: bool, a: &mut [u64])
     requires { ⌜ length (now a) ≡ 512 ⌝ }
-    ensures { λ _. ⌜ LooseList (prime second) 32 (fwd (prime second) (zeta second) 9 1 (mods (prime second) (now (a .entry)))) (now (a .exit)) ⌝ }
+    ensures { λ _. ⌜ LooseList (prime second) 32 (fwd (prime second) (zeta second) 9 1 (mods (prime second) (now (a .entry))))
+        (now (a .exit)) ⌝ }
 {
     reduce_all(second, a);
     let z = powers(second);
@@ -292,7 +300,8 @@ pub fn combine(r2: u64, r1: u64) -> u64
 // From residues modulo the second prime, in a, and modulo the first, in b, to the numbers below q: here they are made least.
 pub fn combined(a: &mut [u64], b: &[u64])
     requires { ⌜ Residues (32 * 33292289) 512 (now a) × (length (now b) ≡ 512) ⌝ }
-    ensures { λ _. ⌜ (now (a .exit) ≡ map2 crtOf (mods 33292289 (now (a .entry))) (mods 16515073 (now (b .entry)))) × Residues q 512 (now (a .exit)) ⌝ }
+    ensures { λ _. ⌜ (now (a .exit) ≡ map2 crtOf (mods 33292289 (now (a .entry))) (mods 16515073 (now (b .entry))))
+        × Residues q 512 (now (a .exit)) ⌝ }
 {
     let mut i = 0;
     while i < a.len() {

@@ -6,7 +6,8 @@ ghost use lib.ListN.{length, take, drop};
 ghost use Rattle.hash.specs.Params.{orderIndex, ShareCount};
 ghost use Rattle.ring.specs.Words.{q, addW, Below, Words};
 ghost use Rattle.sharing.specs.Region.{span, Wrote};
-ghost use Rattle.sharing.specs.Encoding.{pairs, later, polys, zeroAfter, zeroEncoding, skip, zeroAt, lastZero, zeroVector, refreshed};
+ghost use Rattle.sharing.specs.Encoding.{pairs, later, polys, zeroAfter, zeroEncoding, skip, zeroAt, zeroVector, refreshed};
+ghost use Rattle.sharing.specs.EncodingSteps.{WroteMasked};
 ghost use Rattle.sharing.specs.Masks.{masks};
 use crate::masks::MaskGen;
 use crate::masks::fill;
@@ -19,7 +20,8 @@ use hash::params::Params;
 // Algorithm 12, the pairs: for each of h a polynomial of masking words, added on the left, subtracted on the right.
 fn mask_pairs(s: &mut [u64], h: usize, g: MaskGen) -> MaskGen
     requires { ⌜ Words (h * 512 + h * 512) (now s) ⌝ }
-    ensures { λ r. ⌜ (now (s .exit) ≡ pairs (take (h * 512) (now (s .entry))) (drop (h * 512) (now (s .entry))) (polys masks h g)) × (r ≡ later masks h g) ⌝ }
+    ensures { λ r. ⌜ (now (s .exit) ≡ pairs (take (h * 512) (now (s .entry))) (drop (h * 512) (now (s .entry))) (polys masks h g))
+        × (r ≡ later masks h g) ⌝ }
 {
     let mut x = g;
     let mut p = [0u64; 512];
@@ -59,7 +61,8 @@ pub fn zero_encoding_at(s: &mut [u64], at: usize, d: usize, g: MaskGen) -> MaskG
 // The sharing in the scratch is added to the one at `at`.
 pub fn add_scratch(s: &mut [u64], at: usize, d: usize)
     requires { ⌜ (d * 512 ≤ at) × (at + d * 512 ≤ length (now s)) × Below q (now s) ⌝ }
-    ensures { λ _. ⌜ Wrote 0 at (d * 512) (addW (span (now (s .entry)) at (d * 512)) (span (now (s .entry)) 0 (d * 512))) (now (s .entry)) (now (s .exit)) ⌝ }
+    ensures { λ _. ⌜ Wrote 0 at (d * 512) (addW (span (now (s .entry)) at (d * 512)) (span (now (s .entry)) 0 (d * 512))) (now (s .entry))
+        (now (s .exit)) ⌝ }
 {
     for j in 0..d {
         let p = load(s, j * 512);
@@ -70,7 +73,9 @@ pub fn add_scratch(s: &mut [u64], at: usize, d: usize)
 // Algorithm 11: a zero encoding is added to the sharing at `at`. It stays in the scratch.
 pub fn refresh_at(s: &mut [u64], at: usize, p: Params, g: MaskGen) -> MaskGen
     requires { ⌜ ShareCount (p .shares) × (p .shares * 512 ≤ at) × (at + p .shares * 512 ≤ length (now s)) × Below q (now s) ⌝ }
-    ensures { λ r. ⌜ Wrote (p .shares * 512) at (p .shares * 512) (addW (span (now (s .entry)) at (p .shares * 512)) (zeroAt masks (p .shares) 0 g)) (now (s .entry)) (now (s .exit)) × (r ≡ skip masks (p .shares) 1 g) × (span (now (s .exit)) 0 (p .shares * 512) ≡ zeroAt masks (p .shares) 0 g) ⌝ }
+    ensures { λ r. ⌜ Wrote (p .shares * 512) at (p .shares * 512)
+        (addW (span (now (s .entry)) at (p .shares * 512)) (zeroAt masks (p .shares) 0 g)) (now (s .entry)) (now (s .exit))
+        × (r ≡ skip masks (p .shares) 1 g) × (span (now (s .exit)) 0 (p .shares * 512) ≡ zeroAt masks (p .shares) 0 g) ⌝ }
 {
     let d = p.shares;
     let x = zero_encoding_at(s, 0, d, g);
@@ -81,7 +86,8 @@ pub fn refresh_at(s: &mut [u64], at: usize, p: Params, g: MaskGen) -> MaskGen
 // m zero encodings, from `at` on. Nothing else is written.
 pub fn zero_vector(s: &mut [u64], at: usize, m: usize, p: Params, g: MaskGen) -> MaskGen
     requires { ⌜ ShareCount (p .shares) × (at + m * (p .shares * 512) ≤ length (now s)) × Below q (now s) ⌝ }
-    ensures { λ r. ⌜ Wrote 0 at (m * (p .shares * 512)) (zeroVector masks (p .shares) g m) (now (s .entry)) (now (s .exit)) × (r ≡ skip masks (p .shares) m g) ⌝ }
+    ensures { λ r. ⌜ Wrote 0 at (m * (p .shares * 512)) (zeroVector masks (p .shares) g m) (now (s .entry)) (now (s .exit))
+        × (r ≡ skip masks (p .shares) m g) ⌝ }
 {
     let d = p.shares;
     let mut x = g;
@@ -95,7 +101,8 @@ pub fn zero_vector(s: &mut [u64], at: usize, m: usize, p: Params, g: MaskGen) ->
 // Algorithm 11 at each of m sharings.
 pub fn refresh_vector(s: &mut [u64], at: usize, m: usize, p: Params, g: MaskGen) -> MaskGen
     requires { ⌜ ShareCount (p .shares) × (p .shares * 512 ≤ at) × (at + m * (p .shares * 512) ≤ length (now s)) × Below q (now s) ⌝ }
-    ensures { λ r. ⌜ Wrote (p .shares * 512) at (m * (p .shares * 512)) (refreshed masks (p .shares) g m (span (now (s .entry)) at (m * (p .shares * 512)))) (now (s .entry)) (now (s .exit)) × (r ≡ skip masks (p .shares) m g) × (span (now (s .exit)) 0 (p .shares * 512) ≡ lastZero masks (p .shares) g m (span (now (s .entry)) 0 (p .shares * 512))) ⌝ }
+    ensures { λ r. ⌜ WroteMasked (p .shares) m g r at (m * (p .shares * 512))
+        (refreshed masks (p .shares) g m (span (now (s .entry)) at (m * (p .shares * 512)))) (now (s .entry)) (now (s .exit)) ⌝ }
 {
     let d = p.shares;
     let mut x = g;

@@ -1,13 +1,13 @@
 // Noise added to sharings, a refresh behind each repetition (000, Algorithm 8; 01, "Streams and shares"): from seeds, or explicit. u is the bits of a
 // sample, u_t or u_w of the record; a seed is kappa bits.
-ghost use mathlib.Core.Path.{_≡_};
 ghost use Prim.Native.Nat.{_+_, _*_, _/_, _≤_, _<_};
 ghost use lib.ListN.{length};
 ghost use Rattle.hash.specs.Params.{ShareCount};
 ghost use Rattle.ring.specs.Words.{q, addW, Below};
 ghost use Rattle.sharing.specs.Blocks.{block};
 ghost use Rattle.sharing.specs.Region.{span, Wrote};
-ghost use Rattle.sharing.specs.Encoding.{skip, lastZero, addRep, addNoise};
+ghost use Rattle.sharing.specs.Encoding.{addRep, addNoise};
+ghost use Rattle.sharing.specs.EncodingSteps.{WroteMasked};
 ghost use Rattle.sharing.specs.Masks.{masks};
 ghost use Rattle.sharing.specs.Noise.{noiseHeader, sampleU, seedNoise, explicitNoise};
 use crate::encoding::refresh_at;
@@ -28,9 +28,13 @@ fn add_sample_at(
     j: usize,
     seeds: &[u8],
 )
-    requires { ⌜ (at + 512 ≤ length (now s)) × Below q (now s) × ((i * p .rep + p .rep) * p .shares * (p .kappa / 8) ≤ length (now seeds)) ⌝ }
+    requires { ⌜ (at + 512 ≤ length (now s)) × Below q (now s)
+        × ((i * p .rep + p .rep) * p .shares * (p .kappa / 8) ≤ length (now seeds)) ⌝ }
     requires { ⌜ (t < p .rep) × (j < p .shares) × (p .rep < 256) × (i < 256) × (p .shares < 256) × (1 ≤ u) × (u ≤ 48) ⌝ }
-    ensures { λ _. ⌜ Wrote 0 at 512 (addW (span (now (s .entry)) at 512) (sampleU (noiseHeader t i j) (block (p .kappa / 8) ((i * p .rep + t) * p .shares + j) (now (seeds .entry))) u)) (now (s .entry)) (now (s .exit)) ⌝ }
+    ensures { λ _. ⌜ Wrote 0 at 512
+        (addW (span (now (s .entry)) at 512)
+        (sampleU (noiseHeader t i j) (block (p .kappa / 8) ((i * p .rep + t) * p .shares + j) (now (seeds .entry))) u))
+        (now (s .entry)) (now (s .exit)) ⌝ }
 {
     let d = p.shares;
     let rep = p.rep;
@@ -45,9 +49,12 @@ fn add_sample_at(
 
 // Lines 3 to 6: the noise of repetition t of polynomial i, for all d shares.
 fn add_samples_at(s: &mut [u64], at: usize, p: Params, u: usize, i: usize, t: usize, seeds: &[u8])
-    requires { ⌜ (at + p .shares * 512 ≤ length (now s)) × Below q (now s) × ((i * p .rep + p .rep) * p .shares * (p .kappa / 8) ≤ length (now seeds)) ⌝ }
+    requires { ⌜ (at + p .shares * 512 ≤ length (now s)) × Below q (now s)
+        × ((i * p .rep + p .rep) * p .shares * (p .kappa / 8) ≤ length (now seeds)) ⌝ }
     requires { ⌜ (t < p .rep) × (p .rep < 256) × (i < 256) × (p .shares < 256) × (1 ≤ u) × (u ≤ 48) ⌝ }
-    ensures { λ _. ⌜ Wrote 0 at (p .shares * 512) (addW (span (now (s .entry)) at (p .shares * 512)) (seedNoise (p .shares) (p .rep) u (p .kappa / 8) (now (seeds .entry)) i t)) (now (s .entry)) (now (s .exit)) ⌝ }
+    ensures { λ _. ⌜ Wrote 0 at (p .shares * 512)
+        (addW (span (now (s .entry)) at (p .shares * 512)) (seedNoise (p .shares) (p .rep) u (p .kappa / 8) (now (seeds .entry)) i t))
+        (now (s .entry)) (now (s .exit)) ⌝ }
 {
     let d = p.shares;
     for j in 0..d {
@@ -66,8 +73,12 @@ pub fn add_rep_noise_at(
     g: MaskGen,
 ) -> MaskGen
     requires { ⌜ ShareCount (p .shares) × (p .shares * 512 ≤ at) × (at + p .shares * 512 ≤ length (now s)) × Below q (now s) ⌝ }
-    requires { ⌜ ((i * p .rep + p .rep) * p .shares * (p .kappa / 8) ≤ length (now seeds)) × (p .rep < 256) × (i < 256) × (1 ≤ u) × (u ≤ 48) ⌝ }
-    ensures { λ r. ⌜ Wrote (p .shares * 512) at (p .shares * 512) (addRep masks (p .shares) g (p .rep) (seedNoise (p .shares) (p .rep) u (p .kappa / 8) (now (seeds .entry)) i) (span (now (s .entry)) at (p .shares * 512))) (now (s .entry)) (now (s .exit)) × (r ≡ skip masks (p .shares) (p .rep) g) × (span (now (s .exit)) 0 (p .shares * 512) ≡ lastZero masks (p .shares) g (p .rep) (span (now (s .entry)) 0 (p .shares * 512))) ⌝ }
+    requires { ⌜ ((i * p .rep + p .rep) * p .shares * (p .kappa / 8) ≤ length (now seeds)) × (p .rep < 256) × (i < 256) × (1 ≤ u)
+        × (u ≤ 48) ⌝ }
+    ensures { λ r. ⌜ WroteMasked (p .shares) (p .rep) g r at (p .shares * 512)
+        (addRep masks (p .shares) g (p .rep) (seedNoise (p .shares) (p .rep) u (p .kappa / 8) (now (seeds .entry)) i)
+        (span (now (s .entry)) at (p .shares * 512)))
+        (now (s .entry)) (now (s .exit)) ⌝ }
 {
     let r = p.rep;
     let mut x = g;
@@ -89,7 +100,9 @@ pub fn add_explicit_noise_at(
 ) -> MaskGen
     requires { ⌜ ShareCount (p .shares) × (p .shares * 512 ≤ at) × (at + p .shares * 512 ≤ length (now s)) × Below q (now s) ⌝ }
     requires { ⌜ (i * (p .shares * 512) + p .shares * 512 ≤ length (now words)) × Below q (now words) ⌝ }
-    ensures { λ r. ⌜ Wrote (p .shares * 512) at (p .shares * 512) (addRep masks (p .shares) g 1 (explicitNoise (p .shares) (now (words .entry)) i) (span (now (s .entry)) at (p .shares * 512))) (now (s .entry)) (now (s .exit)) × (r ≡ skip masks (p .shares) 1 g) × (span (now (s .exit)) 0 (p .shares * 512) ≡ lastZero masks (p .shares) g 1 (span (now (s .entry)) 0 (p .shares * 512))) ⌝ }
+    ensures { λ r. ⌜ WroteMasked (p .shares) 1 g r at (p .shares * 512)
+        (addRep masks (p .shares) g 1 (explicitNoise (p .shares) (now (words .entry)) i) (span (now (s .entry)) at (p .shares * 512)))
+        (now (s .entry)) (now (s .exit)) ⌝ }
 {
     let d = p.shares;
     let from = i * (d * 512);
@@ -109,7 +122,10 @@ pub fn noise_vector(
 ) -> MaskGen
     requires { ⌜ ShareCount (p .shares) × (p .shares * 512 ≤ at) × (at + m * (p .shares * 512) ≤ length (now s)) × Below q (now s) ⌝ }
     requires { ⌜ (m * p .rep * p .shares * (p .kappa / 8) ≤ length (now seeds)) × (p .rep < 256) × (m ≤ 256) × (1 ≤ u) × (u ≤ 48) ⌝ }
-    ensures { λ r. ⌜ Wrote (p .shares * 512) at (m * (p .shares * 512)) (addNoise masks (p .shares) g m (p .rep) (seedNoise (p .shares) (p .rep) u (p .kappa / 8) (now (seeds .entry))) (span (now (s .entry)) at (m * (p .shares * 512)))) (now (s .entry)) (now (s .exit)) × (r ≡ skip masks (p .shares) (m * p .rep) g) × (span (now (s .exit)) 0 (p .shares * 512) ≡ lastZero masks (p .shares) g (m * p .rep) (span (now (s .entry)) 0 (p .shares * 512))) ⌝ }
+    ensures { λ r. ⌜ WroteMasked (p .shares) (m * p .rep) g r at (m * (p .shares * 512))
+        (addNoise masks (p .shares) g m (p .rep) (seedNoise (p .shares) (p .rep) u (p .kappa / 8) (now (seeds .entry)))
+        (span (now (s .entry)) at (m * (p .shares * 512))))
+        (now (s .entry)) (now (s .exit)) ⌝ }
 {
     let d = p.shares;
     let mut x = g;
@@ -131,7 +147,10 @@ pub fn explicit_vector(
 ) -> MaskGen
     requires { ⌜ ShareCount (p .shares) × (p .shares * 512 ≤ at) × (at + m * (p .shares * 512) ≤ length (now s)) × Below q (now s) ⌝ }
     requires { ⌜ (m * (p .shares * 512) ≤ length (now words)) × Below q (now words) ⌝ }
-    ensures { λ r. ⌜ Wrote (p .shares * 512) at (m * (p .shares * 512)) (addNoise masks (p .shares) g m 1 (explicitNoise (p .shares) (now (words .entry))) (span (now (s .entry)) at (m * (p .shares * 512)))) (now (s .entry)) (now (s .exit)) × (r ≡ skip masks (p .shares) m g) × (span (now (s .exit)) 0 (p .shares * 512) ≡ lastZero masks (p .shares) g m (span (now (s .entry)) 0 (p .shares * 512))) ⌝ }
+    ensures { λ r. ⌜ WroteMasked (p .shares) m g r at (m * (p .shares * 512))
+        (addNoise masks (p .shares) g m 1 (explicitNoise (p .shares) (now (words .entry)))
+        (span (now (s .entry)) at (m * (p .shares * 512))))
+        (now (s .entry)) (now (s .exit)) ⌝ }
 {
     let d = p.shares;
     let mut x = g;

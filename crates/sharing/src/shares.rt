@@ -43,8 +43,11 @@ pub fn decode_at(s: &mut [u64], from: usize, to: usize, p: Params)
 
 // The d shares of lent words at `from` are added to those at `at`.
 pub fn add_shares_at(s: &mut [u64], at: usize, words: &[u64], from: usize, p: Params)
-    requires { ⌜ (at + p .shares * 512 ≤ length (now s)) × (from + p .shares * 512 ≤ length (now words)) × Below q (now s) × Below q (now words) ⌝ }
-    ensures { λ _. ⌜ Wrote 0 at (p .shares * 512) (addW (span (now (s .entry)) at (p .shares * 512)) (span (now (words .entry)) from (p .shares * 512))) (now (s .entry)) (now (s .exit)) ⌝ }
+    requires { ⌜ (at + p .shares * 512 ≤ length (now s)) × (from + p .shares * 512 ≤ length (now words)) × Below q (now s)
+        × Below q (now words) ⌝ }
+    ensures { λ _. ⌜ Wrote 0 at (p .shares * 512)
+        (addW (span (now (s .entry)) at (p .shares * 512)) (span (now (words .entry)) from (p .shares * 512))) (now (s .entry))
+        (now (s .exit)) ⌝ }
 {
     let d = p.shares;
     let e = at + d * 512;

@@ -7,19 +7,21 @@ use mathlib.Core.Option.{some, none}
 use Prim.Native.Nat.{ℕ, suc, _+_, _*_, _≤_}
 use lib.IntN.{ℤ}
 use lib.ListN.{length}
+use denote.Ref.{RefT}
 use Rattle.hash.specs.Lists.{pick}
 use Rattle.hash.specs.declared.params.Params.{Params}
 use Rattle.ring.specs.Words.{q, addW, Below, Words}
 use Rattle.ring.specs.Transform.{intt, pointwise}
 use Rattle.ring.specs.Round.{roundW, residues}
 use Rattle.sharing.specs.Blocks.{block, build, totals}
-use Rattle.sharing.specs.Region.{span}
+use Rattle.sharing.specs.Region.{span, Kept}
 use Rattle.sharing.specs.Encoding.{skip, refreshed}
 use Rattle.sharing.specs.Masks.{masks}
 use Rattle.sharing.specs.declared.masks.MaskGen.{MaskGen}
 use Rattle.signature.specs.Challenge.{chalHash, chalPoly}
 use Rattle.signature.specs.ChallengeSteps.{chalHeld}
-use Rattle.signature.specs.Layout.{atS, atR, atT, atX}
+use Rattle.signature.specs.ExpandedKey.{expandedIn}
+use Rattle.signature.specs.Layout.{atRoom, atS, atR, atT, atX}
 use Rattle.signature.specs.Masked.{Noise, maskedNoise, maskedImage}
 use Rattle.signature.specs.MaskedSteps.{transformed, untransformed}
 use Rattle.signature.specs.declared.challenge.Challenged.{Challenged}
@@ -29,11 +31,18 @@ use Rattle.signature.specs.SignCalls.{Key, packed, expanded}
 -- the key that a call is lent: a signing key's bytes, or the public key's bytes and the words of all shares
 abbrev pub keyFrom : Bool → List ℕ → List ℕ → Key
 keyFrom true bytes words = packed bytes
-keyFrom false bytes words = expanded (record { vk = bytes; words = words })
+keyFrom false bytes words = expanded (expandedIn bytes words)
 
 -- what all attempts draw on: of the two forms of noise that which is used, and the mask seeds
 abbrev pub coinsOf : Bool → List ℕ → List ℕ → List ℕ → Coins
 coinsOf explicit seeds words masks = record { explicit = explicit; noise = pick explicit words seeds; masks = masks }
+
+-- both of the slices that are lent
+abbrev pub keyLent : Bool → RefT (List ℕ) → RefT (List ℕ) → Key
+keyLent isPacked bytes words = keyFrom isPacked (bytes .now) (words .now)
+
+abbrev pub coinsLent : Bool → RefT (List ℕ) → RefT (List ℕ) → RefT (List ℕ) → Coins
+coinsLent explicit seeds words masks = coinsOf explicit (seeds .now) (words .now) (masks .now)
 
 -- they hold attempt number a + 1, and explicit noise is words below q
 pub record Within (p : Params) (T : Coins) (a : ℕ) : Type 0 where
@@ -42,9 +51,19 @@ pub record Within (p : Params) (T : Coins) (a : ℕ) : Type 0 where
   pub few : a ≤ 16
   pub masks-long : a * 32 + 32 ≤ length (T .masks)
 
--- the key's shares in the work buffer
+-- in the work buffer: the key's shares; w, once it is added up, and z
 abbrev pub keyIn : Params → List ℕ → List ℕ
 keyIn p work = span work (atS (p .shares)) (p .l * (p .shares * 512))
+
+abbrev pub commitmentIn : Params → List ℕ → List ℕ
+commitmentIn p work = span work (atT (p .l) (p .shares)) (p .k * 512)
+
+abbrev pub responseIn : Params → List ℕ → List ℕ
+responseIn p work = span work (atX (p .k) (p .l) (p .shares)) (p .l * 512)
+
+-- lines 17 to 20 write to the room of eight polynomials before s alone
+abbrev pub RoomUsed : ℕ → List ℕ → List ℕ → Type 0
+RoomUsed d xs ys = (length ys ≡ length xs) × Below q ys × Kept 0 (atRoom d) xs ys × Kept (atS d) (length xs) xs ys
 
 -- lines 4 and 5 with the noise N, zero encodings from g on: r in the transform domain, and s as it was
 pub record Begun (p : Params) (N : Noise) (g : MaskGen) (s ys : List ℕ) : Type 0 where

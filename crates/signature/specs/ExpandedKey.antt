@@ -13,6 +13,10 @@ pub record ExpandedKey : Type 0 where
   -- the words of all shares, polynomial by polynomial, its shares behind each other
   pub words : List ℕ
 
+-- the key that lent bytes and words are
+abbrev pub expandedIn : List ℕ → List ℕ → ExpandedKey
+expandedIn bytes words = record { vk = bytes; words = words }
+
 -- of d shares: the word of share j of polynomial i at coefficient x; and the secret there, the sum of the share words modulo q
 unfoldable pub shareWordAt : ℕ → ExpandedKey → ℕ → ℕ → ℕ → ℕ
 shareWordAt d K i j x = getD (K .words) (i * (d * 512) + (j * 512 + x)) 0

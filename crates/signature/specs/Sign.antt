@@ -101,6 +101,12 @@ pub record Coins : Type 0 where
   pub noise : List ℕ
   pub masks : List ℕ
 
+abbrev pub fromSeeds : List ℕ → List ℕ → Coins
+fromSeeds noise masks = record { explicit = false; noise = noise; masks = masks }
+
+abbrev pub fromNoise : List ℕ → List ℕ → Coins
+fromNoise noise masks = record { explicit = true; noise = noise; masks = masks }
+
 -- one attempt's part of the noise, in bytes or in words
 abbrev pub noiseSize : Params → Bool → ℕ
 noiseSize p true = (p .l + p .k) * p .shares * 512

@@ -29,7 +29,8 @@ use sharing::masks::MaskGen;
 // Line 10: of the k rounded polynomials at `at`, a byte for each coefficient, and mu.
 fn hash_at(s: &[u64], at: usize, k: usize, edition: Edition, mu: &[u8], hash: &mut [u8])
     requires { ⌜ (at + k * 512 ≤ length (now s)) × (k ≤ 9) × Below 31 (span (now s) at (k * 512)) ⌝ }
-    ensures { λ _. ⌜ now (hash .exit) ≡ shake256 (headed 104 k ++ ordered edition (span (now (s .entry)) at (k * 512)) (now (mu .entry))) (length (now (hash .entry))) ⌝ }
+    ensures { λ _. ⌜ now (hash .exit)
+        ≡ shake256 (headed 104 k ++ ordered edition (span (now (s .entry)) at (k * 512)) (now (mu .entry))) (length (now (hash .entry))) ⌝ }
 {
     let n = k * 512;
     let e = at + n;
@@ -49,7 +50,11 @@ fn challenge_at(
     hash: &mut [u8],
 ) -> Challenged
     requires { ⌜ (at + k * 512 ≤ length (now s)) × Below q (now s) × (k ≤ 9) × (omega < 256) ⌝ }
-    ensures { λ r. ⌜ Wrote 0 at (k * 512) (roundW (span (now (s .entry)) at (k * 512))) (now (s .entry)) (now (s .exit)) × (now (hash .exit) ≡ shake256 (headed 104 k ++ ordered edition (roundW (span (now (s .entry)) at (k * 512))) (now (mu .entry))) (length (now (hash .entry)))) × (r ≡ chalHeld (challenge edition omega (shake256 (headed 99 omega ++ now (hash .exit)) 2176))) ⌝ }
+    ensures { λ r. ⌜ Wrote 0 at (k * 512) (roundW (span (now (s .entry)) at (k * 512))) (now (s .entry)) (now (s .exit))
+        × (now (hash .exit)
+        ≡ shake256 (headed 104 k ++ ordered edition (roundW (span (now (s .entry)) at (k * 512))) (now (mu .entry)))
+        (length (now (hash .entry))))
+        × (r ≡ chalHeld (challenge edition omega (shake256 (headed 99 omega ++ now (hash .exit)) 2176))) ⌝ }
 {
     round_w_vector(s, at, k);
     hash_at(s, at, k, edition, mu, hash);
@@ -66,7 +71,9 @@ pub(crate) fn answer(
 ) -> Challenged
     requires { ⌜ Tabled p × (length (now work) ≡ workWords p) × Below q (now work) × (length (now hash) ≡ p .kappa / 4) ⌝ }
     ensures { λ r. ⌜ (length (now (work .exit)) ≡ length (now (work .entry))) × Below q (now (work .exit)) ⌝ }
-    ensures { λ r. ⌜ ((N : Noise) (h : MaskGen) (A s : List ℕ) → Committed p N h A s g (now (work .entry)) → Answered p N h A (now (mu .entry)) s r (now (hash .exit)) (now (work .exit))) ⌝ }
+    ensures { λ r. ⌜ ((N : Noise) (h : MaskGen) (A s : List ℕ)
+        → Committed p N h A s g (now (work .entry))
+        → Answered p N h A (now (mu .entry)) s r (now (hash .exit)) (now (work .exit))) ⌝ }
 {
     let k = p.k;
     let l = p.l;

@@ -240,7 +240,8 @@ pub(crate) fn hash_two(a: &[u8], b: &[u8], out: &mut [u8])
 // Algorithm 9, ChalHash: of the rounded commitment w, a byte for each coefficient of its k polynomials, and mu, in the edition's order.
 pub(crate) fn chal_hash(k: usize, edition: Edition, w: &[u8], mu: &[u8], out: &mut [u8])
     requires { ⌜ k < 256 ⌝ }
-    ensures { λ _. ⌜ now (out .exit) ≡ shake256 (headed 104 k ++ ordered edition (now (w .entry)) (now (mu .entry))) (length (now (out .entry))) ⌝ }
+    ensures { λ _. ⌜ now (out .exit)
+        ≡ shake256 (headed 104 k ++ ordered edition (now (w .entry)) (now (mu .entry))) (length (now (out .entry))) ⌝ }
 {
     let header = [104, k as u8, 0, 0, 0, 0, 0, 0];
     let s = hash::shake::absorb(hash::shake::start(), 0, &header);

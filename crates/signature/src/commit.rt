@@ -4,7 +4,7 @@ ghost use Prim.Native.Nat.{_+_, _*_};
 ghost use lib.ListN.{length};
 ghost use Rattle.ring.specs.Words.{q, Below};
 ghost use Rattle.sharing.specs.Noise.{noiseBytes};
-ghost use Rattle.signature.specs.AttemptSteps.{coinsOf, Within, keyIn, Committed};
+ghost use Rattle.signature.specs.AttemptSteps.{coinsLent, Within, keyIn, Committed};
 ghost use Rattle.signature.specs.Checks.{workWords};
 ghost use Rattle.signature.specs.Masked.{seeded, explicit};
 ghost use Rattle.signature.specs.MaskedSteps.{matrixIn, MatrixHeld};
@@ -22,8 +22,11 @@ use sharing::masks::start;
 
 // With noise from seeds: the seeds of one attempt. The generator behind line 7.
 fn commit_seeds(work: &mut [u64], p: Params, a: &[u64], coins: &[u8], g: MaskGen) -> MaskGen
-    requires { ⌜ Tabled p × (length (now work) ≡ workWords p) × Below q (now work) × (length (now coins) ≡ noiseBytes p) × MatrixHeld p (now a) ⌝ }
-    ensures { λ r. ⌜ (length (now (work .exit)) ≡ length (now (work .entry))) × Below q (now (work .exit)) × Committed p (seeded p (p .uw) (now (coins .entry))) g (matrixIn p (now (a .entry))) (keyIn p (now (work .entry))) r (now (work .exit)) ⌝ }
+    requires { ⌜ Tabled p × (length (now work) ≡ workWords p) × Below q (now work) × (length (now coins) ≡ noiseBytes p)
+        × MatrixHeld p (now a) ⌝ }
+    ensures { λ r. ⌜ (length (now (work .exit)) ≡ length (now (work .entry))) × Below q (now (work .exit))
+        × Committed p (seeded p (p .uw) (now (coins .entry))) g (matrixIn p (now (a .entry))) (keyIn p (now (work .entry))) r
+        (now (work .exit)) ⌝ }
 {
     let l = p.l;
     let d = p.shares;
@@ -39,8 +42,11 @@ fn commit_seeds(work: &mut [u64], p: Params, a: &[u64], coins: &[u8], g: MaskGen
 
 // With explicit noise: one attempt's words.
 fn commit_explicit(work: &mut [u64], p: Params, a: &[u64], words: &[u64], g: MaskGen) -> MaskGen
-    requires { ⌜ Tabled p × (length (now work) ≡ workWords p) × Below q (now work) × (length (now words) ≡ (p .l + p .k) * p .shares * 512) × Below q (now words) × MatrixHeld p (now a) ⌝ }
-    ensures { λ r. ⌜ (length (now (work .exit)) ≡ length (now (work .entry))) × Below q (now (work .exit)) × Committed p (explicit p (now (words .entry))) g (matrixIn p (now (a .entry))) (keyIn p (now (work .entry))) r (now (work .exit)) ⌝ }
+    requires { ⌜ Tabled p × (length (now work) ≡ workWords p) × Below q (now work) × (length (now words) ≡ (p .l + p .k) * p .shares * 512)
+        × Below q (now words) × MatrixHeld p (now a) ⌝ }
+    ensures { λ r. ⌜ (length (now (work .exit)) ≡ length (now (work .entry))) × Below q (now (work .exit))
+        × Committed p (explicit p (now (words .entry))) g (matrixIn p (now (a .entry))) (keyIn p (now (work .entry))) r
+        (now (work .exit)) ⌝ }
 {
     let l = p.l;
     let d = p.shares;
@@ -63,8 +69,11 @@ pub(crate) fn commit(
     i: usize,
 ) -> MaskGen
     requires { ⌜ Tabled p × (length (now work) ≡ workWords p) × Below q (now work) × MatrixHeld p (now a) ⌝ }
-    requires { ⌜ Within p (coinsOf explicit (now seeds) (now words) (now «mask_seeds»)) i ⌝ }
-    ensures { λ r. ⌜ (length (now (work .exit)) ≡ length (now (work .entry))) × Below q (now (work .exit)) × Committed p (noiseAt p (coinsOf explicit (now (seeds .entry)) (now (words .entry)) (now («mask_seeds» .entry))) i) (maskAt (coinsOf explicit (now (seeds .entry)) (now (words .entry)) (now («mask_seeds» .entry))) i) (matrixIn p (now (a .entry))) (keyIn p (now (work .entry))) r (now (work .exit)) ⌝ }
+    requires { ⌜ Within p (coinsLent explicit seeds words «mask_seeds») i ⌝ }
+    ensures { λ r. ⌜ (length (now (work .exit)) ≡ length (now (work .entry))) × Below q (now (work .exit))
+        × Committed p (noiseAt p (coinsLent explicit (seeds .entry) (words .entry) («mask_seeds» .entry)) i)
+        (maskAt (coinsLent explicit (seeds .entry) (words .entry) («mask_seeds» .entry)) i) (matrixIn p (now (a .entry)))
+        (keyIn p (now (work .entry))) r (now (work .exit)) ⌝ }
 {
     let m = i * 32;
     let o = m + 32;

@@ -59,8 +59,10 @@ pub(crate) fn collect(
     n: usize,
     j: usize,
 ) -> Sampled
-    requires { ⌜ (1 ≤ d) × (d < 256) × (j < 256) × (at + d * 512 ≤ length (now s)) × Below q (now s) × ((d - 1) * n ≤ length (now seeds)) ⌝ }
-    ensures { λ r. ⌜ (r ≡ heldOf (collectedOf edition n (now (seeds .entry)) (span (now (s .entry)) at (d * 512)) j (d - 1))) × Words 512 (r .poly) ⌝ }
+    requires { ⌜ (1 ≤ d) × (d < 256) × (j < 256) × (at + d * 512 ≤ length (now s)) × Below q (now s)
+        × ((d - 1) * n ≤ length (now seeds)) ⌝ }
+    ensures { λ r. ⌜ (r ≡ heldOf (collectedOf edition n (now (seeds .entry)) (span (now (s .entry)) at (d * 512)) j (d - 1)))
+        × Words 512 (r .poly) ⌝ }
 {
     let mut x = load(s, at);
     for i in 1..d {
@@ -86,9 +88,13 @@ pub(crate) fn compress_vector(
     seeds: &[u8],
     n: usize,
 ) -> bool
-    requires { ⌜ (1 ≤ d) × (d < 256) × (l ≤ 256) × (at + l * (d * 512) ≤ to) × (to + l * 512 ≤ length (now s)) × Below q (now s) × ((d - 1) * n ≤ length (now seeds)) ⌝ }
-    ensures { λ r. ⌜ (r ≡ filled (compressedOf edition n (now (seeds .entry)) l d (span (now (s .entry)) at (l * (d * 512))))) × (length (now (s .exit)) ≡ length (now (s .entry))) × Below q (now (s .exit)) ⌝ }
-    ensures { λ r. ⌜ ((X : List ℕ) → compressedOf edition n (now (seeds .entry)) l d (span (now (s .entry)) at (l * (d * 512))) ≡ some X → Wrote 0 to (l * 512) X (now (s .entry)) (now (s .exit))) ⌝ }
+    requires { ⌜ (1 ≤ d) × (d < 256) × (l ≤ 256) × (at + l * (d * 512) ≤ to) × (to + l * 512 ≤ length (now s)) × Below q (now s)
+        × ((d - 1) * n ≤ length (now seeds)) ⌝ }
+    ensures { λ r. ⌜ (r ≡ filled (compressedOf edition n (now (seeds .entry)) l d (span (now (s .entry)) at (l * (d * 512)))))
+        × (length (now (s .exit)) ≡ length (now (s .entry))) × Below q (now (s .exit)) ⌝ }
+    ensures { λ r. ⌜ ((X : List ℕ)
+        → compressedOf edition n (now (seeds .entry)) l d (span (now (s .entry)) at (l * (d * 512))) ≡ some X
+        → Wrote 0 to (l * 512) X (now (s .entry)) (now (s .exit))) ⌝ }
 {
     for j in 0..l {
         let x = collect(s, at + j * (d * 512), d, edition, seeds, n, j);

@@ -10,14 +10,14 @@ ghost use Rattle.ring.specs.Words.{q, Below, Words, zipTo};
 ghost use Rattle.ring.specs.Round.{roundW, residues};
 ghost use Rattle.sharing.specs.Region.{span, Kept};
 ghost use Rattle.signature.specs.AnswerSteps.{fieldsOf, FinishedAs};
+ghost use Rattle.signature.specs.AttemptSteps.{commitmentIn, responseIn, RoomUsed};
 ghost use Rattle.signature.specs.Checks.{workWords};
 ghost use Rattle.signature.specs.Form.{hashBytes};
 ghost use Rattle.signature.specs.Keys.{vkVector};
-ghost use Rattle.signature.specs.Layout.{atRoom, atS, atT, atX};
 ghost use Rattle.signature.specs.MaskedSteps.{matrixIn, MatrixHeld};
 ghost use Rattle.signature.specs.Recover.{sub31, centredAll, hintOf, recovered};
 ghost use Rattle.signature.specs.RecoverSteps.{hintRows};
-ghost use Rattle.signature.specs.Sign.{finished, signedFields};
+ghost use Rattle.signature.specs.Sign.{publicBy, finished, signedFields};
 ghost use Rattle.signature.specs.Table.{Tabled};
 use crate::bits::unpack;
 use crate::bounds::check_bounds;
@@ -39,8 +39,10 @@ use sharing::region::load;
 
 // Line 18 for one row: y is at `row`, the rounded w at `at`.
 fn hint_row(s: &[u64], row: usize, at: usize, out: &mut [i64])
-    requires { ⌜ (row + 512 ≤ length (now s)) × (at + 512 ≤ length (now s)) × Below q (now s) × Below 31 (span (now s) at 512) × (length (now out) ≡ 512) ⌝ }
-    ensures { λ _. ⌜ now (out .exit) ≡ centredAll 31 (zipTo sub31 (span (now (s .entry)) at 512) (roundW (span (now (s .entry)) row 512))) ⌝ }
+    requires { ⌜ (row + 512 ≤ length (now s)) × (at + 512 ≤ length (now s)) × Below q (now s) × Below 31 (span (now s) at 512)
+        × (length (now out) ≡ 512) ⌝ }
+    ensures { λ _. ⌜ now (out .exit)
+        ≡ centredAll 31 (zipTo sub31 (span (now (s .entry)) at 512) (roundW (span (now (s .entry)) row 512))) ⌝ }
 {
     let y = round_w(load(s, row));
     hint_into(load(s, at), y, out);
@@ -59,11 +61,17 @@ fn hint_rows(
     t: &[u64],
     hint: &mut [i64],
 )
-    requires { ⌜ (row + 512 ≤ at) × (row + 512 ≤ wat) × (at + l * 512 ≤ length (now work)) × (wat + k * 512 ≤ length (now work)) × Below q (now work) ⌝ }
-    requires { ⌜ (k ≤ 9) × (l ≤ 7) × Words 512 c × (length (now t) ≡ k * 512) × Below 125 (now t) × Below 31 (span (now work) wat (k * 512)) × (length (now hint) ≡ k * 512) ⌝ }
+    requires { ⌜ (row + 512 ≤ at) × (row + 512 ≤ wat) × (at + l * 512 ≤ length (now work)) × (wat + k * 512 ≤ length (now work))
+        × Below q (now work) ⌝ }
+    requires { ⌜ (k ≤ 9) × (l ≤ 7) × Words 512 c × (length (now t) ≡ k * 512) × Below 125 (now t) × Below 31 (span (now work) wat (k * 512))
+        × (length (now hint) ≡ k * 512) ⌝ }
     requires { ⌜ (k * (l * 512) ≤ length (now a)) × Below q (now a) ⌝ }
-    ensures { λ _. ⌜ (length (now (work .exit)) ≡ length (now (work .entry))) × Below q (now (work .exit)) × Kept 0 row (now (work .entry)) (now (work .exit)) × Kept (row + 512) (length (now (work .entry))) (now (work .entry)) (now (work .exit)) ⌝ }
-    ensures { λ _. ⌜ now (hint .exit) ≡ hintRows k l (now (a .entry)) (span (now (work .entry)) at (l * 512)) c (now (t .entry)) (span (now (work .entry)) wat (k * 512)) ⌝ }
+    ensures { λ _. ⌜ (length (now (work .exit)) ≡ length (now (work .entry))) × Below q (now (work .exit))
+        × Kept 0 row (now (work .entry)) (now (work .exit))
+        × Kept (row + 512) (length (now (work .entry))) (now (work .entry)) (now (work .exit)) ⌝ }
+    ensures { λ _. ⌜ now (hint .exit)
+        ≡ hintRows k l (now (a .entry)) (span (now (work .entry)) at (l * 512)) c (now (t .entry))
+        (span (now (work .entry)) wat (k * 512)) ⌝ }
 {
     for i in 0..k {
         let b = i * 512;
@@ -75,10 +83,13 @@ fn hint_rows(
 
 // Lines 17 and 18: the hint.
 fn make_hint(work: &mut [u64], p: Params, vk: &[u8], a: &[u64], c: [i8; 512], hint: &mut [i64])
-    requires { ⌜ Tabled p × (length (now work) ≡ workWords p) × Below q (now work) × Below 31 (span (now work) (atT (p .l) (p .shares)) (p .k * 512)) ⌝ }
-    requires { ⌜ (length (now vk) ≡ p .«vk_bytes») × Below 125 (vkVector p (now vk)) × MatrixHeld p (now a) × (length (now hint) ≡ p .k * 512) ⌝ }
-    ensures { λ _. ⌜ (length (now (work .exit)) ≡ length (now (work .entry))) × Below q (now (work .exit)) × Kept 0 (atRoom (p .shares)) (now (work .entry)) (now (work .exit)) × Kept (atS (p .shares)) (length (now (work .entry))) (now (work .entry)) (now (work .exit)) ⌝ }
-    ensures { λ _. ⌜ now (hint .exit) ≡ hintOf (span (now (work .entry)) (atT (p .l) (p .shares)) (p .k * 512)) (recovered p (matrixIn p (now (a .entry))) (span (now (work .entry)) (atX (p .k) (p .l) (p .shares)) (p .l * 512)) (residues q c) (vkVector p (now (vk .entry)))) ⌝ }
+    requires { ⌜ Tabled p × (length (now work) ≡ workWords p) × Below q (now work) × Below 31 (commitmentIn p (now work)) ⌝ }
+    requires { ⌜ (length (now vk) ≡ p .«vk_bytes») × Below 125 (vkVector p (now vk)) × MatrixHeld p (now a)
+        × (length (now hint) ≡ p .k * 512) ⌝ }
+    ensures { λ _. ⌜ RoomUsed (p .shares) (now (work .entry)) (now (work .exit)) ⌝ }
+    ensures { λ _. ⌜ now (hint .exit)
+        ≡ hintOf (commitmentIn p (now (work .entry)))
+        (recovered p (matrixIn p (now (a .entry))) (responseIn p (now (work .entry))) (residues q c) (vkVector p (now (vk .entry)))) ⌝ }
 {
     let k = p.k;
     let l = p.l;
@@ -98,10 +109,12 @@ fn make_hint(work: &mut [u64], p: Params, vk: &[u8], a: &[u64], c: [i8; 512], hi
 
 // Lines 19 and 20: the signature of the fields, where they pass the bounds and fit. Else out stays as it was.
 fn write_fields(p: Params, hash: &[u8], hint: &[i64], z: &[i64], out: &mut [u8]) -> bool
-    requires { ⌜ Tabled p × (length (now hash) ≡ hashBytes p) × (length (now hint) ≤ 4608) × (length (now z) ≤ 4608) × (length (now out) ≡ p .«sig_bytes») ⌝ }
+    requires { ⌜ Tabled p × (length (now hash) ≡ hashBytes p) × (length (now hint) ≤ 4608) × (length (now z) ≤ 4608)
+        × (length (now out) ≡ p .«sig_bytes») ⌝ }
     requires { ⌜ ((i : ℕ) → natAbs (getD (now hint) i (pos 0)) < 2 ^ 50) ⌝ }
     requires { ⌜ ((i : ℕ) → natAbs (getD (now z) i (pos 0)) < 2 ^ 50) ⌝ }
-    ensures { λ r. ⌜ FinishedAs (finished p (fieldsOf (now (hash .entry)) (now (hint .entry)) (now (z .entry)))) r (now (out .entry)) (now (out .exit)) ⌝ }
+    ensures { λ r. ⌜ FinishedAs (finished p (fieldsOf (now (hash .entry)) (now (hint .entry)) (now (z .entry)))) r (now (out .entry))
+        (now (out .exit)) ⌝ }
 {
     if !check_bounds(hint, z, p.hint_limit, p.binf, p.b22) {
         return false;
@@ -125,11 +138,17 @@ fn finish_with(
     z: &mut [i64],
     out: &mut [u8],
 ) -> bool
-    requires { ⌜ Tabled p × (length (now work) ≡ workWords p) × Below q (now work) × Below 31 (span (now work) (atT (p .l) (p .shares)) (p .k * 512)) ⌝ }
-    requires { ⌜ (length (now vk) ≡ p .«vk_bytes») × Below 125 (vkVector p (now vk)) × MatrixHeld p (now a) × (length (now hash) ≡ hashBytes p) ⌝ }
+    requires { ⌜ Tabled p × (length (now work) ≡ workWords p) × Below q (now work) × Below 31 (commitmentIn p (now work)) ⌝ }
+    requires { ⌜ (length (now vk) ≡ p .«vk_bytes») × Below 125 (vkVector p (now vk)) × MatrixHeld p (now a)
+        × (length (now hash) ≡ hashBytes p) ⌝ }
     requires { ⌜ (length (now hint) ≡ p .k * 512) × (length (now z) ≡ p .l * 512) × (length (now out) ≡ p .«sig_bytes») ⌝ }
-    ensures { λ r. ⌜ (length (now (work .exit)) ≡ length (now (work .entry))) × Below q (now (work .exit)) × Kept 0 (atRoom (p .shares)) (now (work .entry)) (now (work .exit)) × Kept (atS (p .shares)) (length (now (work .entry))) (now (work .entry)) (now (work .exit)) ⌝ }
-    ensures { λ r. ⌜ ((mu : List ℕ) → FinishedAs (finished p (signedFields p (record { matrix = matrixIn p (now (a .entry)); vector = vkVector p (now (vk .entry)); mu = mu }) (span (now (work .entry)) (atT (p .l) (p .shares)) (p .k * 512)) (now (hash .entry)) (span (now (work .entry)) (atX (p .k) (p .l) (p .shares)) (p .l * 512)) c)) r (now (out .entry)) (now (out .exit))) ⌝ }
+    ensures { λ r. ⌜ RoomUsed (p .shares) (now (work .entry)) (now (work .exit)) ⌝ }
+    ensures { λ r. ⌜ ((mu : List ℕ)
+        → FinishedAs
+        (finished p
+        (signedFields p (publicBy p (now (vk .entry)) mu (matrixIn p (now (a .entry)))) (commitmentIn p (now (work .entry)))
+        (now (hash .entry)) (responseIn p (now (work .entry))) c))
+        r (now (out .entry)) (now (out .exit))) ⌝ }
 {
     let b = at_x(p.k, p.l, p.shares);
     let e = b + p.l * 512;
@@ -148,10 +167,16 @@ pub(crate) fn finish(
     c: [i8; 512],
     out: &mut [u8],
 ) -> bool
-    requires { ⌜ Tabled p × (length (now work) ≡ workWords p) × Below q (now work) × Below 31 (span (now work) (atT (p .l) (p .shares)) (p .k * 512)) ⌝ }
-    requires { ⌜ (length (now vk) ≡ p .«vk_bytes») × Below 125 (vkVector p (now vk)) × MatrixHeld p (now a) × (length (now hash) ≡ hashBytes p) × (length (now out) ≡ p .«sig_bytes») ⌝ }
-    ensures { λ r. ⌜ (length (now (work .exit)) ≡ length (now (work .entry))) × Below q (now (work .exit)) × Kept 0 (atRoom (p .shares)) (now (work .entry)) (now (work .exit)) × Kept (atS (p .shares)) (length (now (work .entry))) (now (work .entry)) (now (work .exit)) ⌝ }
-    ensures { λ r. ⌜ ((mu : List ℕ) → FinishedAs (finished p (signedFields p (record { matrix = matrixIn p (now (a .entry)); vector = vkVector p (now (vk .entry)); mu = mu }) (span (now (work .entry)) (atT (p .l) (p .shares)) (p .k * 512)) (now (hash .entry)) (span (now (work .entry)) (atX (p .k) (p .l) (p .shares)) (p .l * 512)) c)) r (now (out .entry)) (now (out .exit))) ⌝ }
+    requires { ⌜ Tabled p × (length (now work) ≡ workWords p) × Below q (now work) × Below 31 (commitmentIn p (now work)) ⌝ }
+    requires { ⌜ (length (now vk) ≡ p .«vk_bytes») × Below 125 (vkVector p (now vk)) × MatrixHeld p (now a)
+        × (length (now hash) ≡ hashBytes p) × (length (now out) ≡ p .«sig_bytes») ⌝ }
+    ensures { λ r. ⌜ RoomUsed (p .shares) (now (work .entry)) (now (work .exit)) ⌝ }
+    ensures { λ r. ⌜ ((mu : List ℕ)
+        → FinishedAs
+        (finished p
+        (signedFields p (publicBy p (now (vk .entry)) mu (matrixIn p (now (a .entry)))) (commitmentIn p (now (work .entry)))
+        (now (hash .entry)) (responseIn p (now (work .entry))) c))
+        r (now (out .entry)) (now (out .exit))) ⌝ }
 {
     let m = p.k * 512;
     let n = p.l * 512;

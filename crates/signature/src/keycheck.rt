@@ -8,6 +8,7 @@ ghost use Rattle.ring.specs.Words.{q, allBelow};
 ghost use Rattle.signature.specs.Bits.{repack};
 ghost use Rattle.signature.specs.Checks.{firstNo, both, workWords, keygenSeedsSized, keygenBuffersSized, keyChecks};
 ghost use Rattle.signature.specs.ExpandSteps.{partBytes};
+ghost use Rattle.signature.specs.ExpandedKey.{expandedIn};
 ghost use Rattle.signature.specs.Keys.{packed, expanded, fullShare, keygenBytes};
 ghost use Rattle.signature.specs.Table.{Tabled};
 use crate::bits::unpack;
@@ -78,7 +79,7 @@ pub(crate) fn packed_no(p: Params, key: &[u8]) -> u32
 // .. of an expanded key.
 pub(crate) fn expanded_no(p: Params, key: &[u8], words: &[u64]) -> u32
     requires { ⌜ Tabled p ⌝ }
-    ensures { λ r. ⌜ r ≡ firstNo (keyChecks p (expanded (record { vk = now (key .entry); words = now (words .entry) }))) ⌝ }
+    ensures { λ r. ⌜ r ≡ firstNo (keyChecks p (expanded (expandedIn (now (key .entry)) (now (words .entry))))) ⌝ }
 {
     let n = p.l * (p.shares * 512);
     if !sized(p.vk_bytes, n, key, words) {
@@ -113,7 +114,10 @@ pub(crate) fn work_words(p: Params) -> usize
 // The first no of key generation behind the look-up, but check 10, or 0.
 pub(crate) fn keygen_no(p: Params, seeds: &[u8], mask_seed: &[u8], out: &[u8], work: &[u64]) -> u32
     requires { ⌜ Tabled p ⌝ }
-    ensures { λ r. ⌜ r ≡ firstNo ((7, keygenSeedsSized p (now (seeds .entry)) (now («mask_seed» .entry))) ∷ (8, keygenBuffersSized p (now (out .entry)) (now (work .entry))) ∷ []) ⌝ }
+    ensures { λ r. ⌜ r
+        ≡ firstNo
+        ((7, keygenSeedsSized p (now (seeds .entry)) (now («mask_seed» .entry))) ∷
+        (8, keygenBuffersSized p (now (out .entry)) (now (work .entry))) ∷ []) ⌝ }
 {
     if seeds.len() != keygen_bytes(p) {
         return 7;

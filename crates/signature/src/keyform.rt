@@ -38,8 +38,11 @@ pub(crate) fn write_key(
     out: &mut [u8],
 )
     requires { ⌜ (length (now t) ≡ k * 512) × (length (now x) ≡ l * 512) ⌝ }
-    requires { ⌜ (length (now out) ≡ length (now seed) + k * 448 + (length (now «share_seeds») + l * 3136)) × (length (now out) < 2 ^ 32) ⌝ }
-    ensures { λ _. ⌜ now (out .exit) ≡ (now (seed .entry) ++ repack 7 8 (k * 448) (now (t .entry))) ++ (now («share_seeds» .entry) ++ repack 49 8 (l * 3136) (now (x .entry))) ⌝ }
+    requires { ⌜ (length (now out) ≡ length (now seed) + k * 448 + (length (now «share_seeds») + l * 3136))
+        × (length (now out) < 2 ^ 32) ⌝ }
+    ensures { λ _. ⌜ now (out .exit)
+        ≡ (now (seed .entry) ++ repack 7 8 (k * 448) (now (t .entry)))
+        ++ (now («share_seeds» .entry) ++ repack 49 8 (l * 3136) (now (x .entry))) ⌝ }
 {
     let a = seed.len();
     let b = a + k * 448;

@@ -46,8 +46,13 @@ fn public_vector(
     g: MaskGen,
 ) -> MaskGen
     requires { ⌜ Tabled p × (p .k * p .rep * p .shares * (p .kappa / 8) ≤ length (now seeds)) × MatrixHeld p (now a) ⌝ }
-    requires { ⌜ (p .shares * 512 + p .shares * 512 ≤ at) × (at + p .l * (p .shares * 512) ≤ to) × (to + p .k * 512 ≤ length (now s)) × Below q (now s) ⌝ }
-    ensures { λ r. ⌜ Rounded p to (addNoise masks (p .shares) g (p .k) (p .rep) (seedNoise (p .shares) (p .rep) (p .ut) (p .kappa / 8) (now (seeds .entry))) (rowsOf (p .shares) (p .k) (p .l) (now (a .entry)) (span (now (s .entry)) at (p .l * (p .shares * 512))))) (now (s .entry)) (now (s .exit)) × (r ≡ skip masks (p .shares) (p .k * p .rep) g) ⌝ }
+    requires { ⌜ (p .shares * 512 + p .shares * 512 ≤ at) × (at + p .l * (p .shares * 512) ≤ to) × (to + p .k * 512 ≤ length (now s))
+        × Below q (now s) ⌝ }
+    ensures { λ r. ⌜ Rounded p to
+        (addNoise masks (p .shares) g (p .k) (p .rep) (seedNoise (p .shares) (p .rep) (p .ut) (p .kappa / 8) (now (seeds .entry)))
+        (rowsOf (p .shares) (p .k) (p .l) (now (a .entry)) (span (now (s .entry)) at (p .l * (p .shares * 512)))))
+        (now (s .entry)) (now (s .exit))
+        × (r ≡ skip masks (p .shares) (p .k * p .rep) g) ⌝ }
 {
     let k = p.k;
     let d = p.shares;
@@ -66,9 +71,16 @@ fn make_parts(
     shares: &[u8],
     mask_seed: &[u8],
 ) -> bool
-    requires { ⌜ Tabled p × (length (now work) ≡ workWords p) × (length (now coins) ≡ noiseBytes p) × (length (now shares) ≡ (p .shares - 1) * (p .kappa / 8)) ⌝ }
-    ensures { λ r. ⌜ (r ≡ both (filled (matrix p (now (seed .entry)))) (filled (compressed p (now (shares .entry)) (keyShares p (now (coins .entry)) (maskStart (now («mask_seed» .entry))))))) × (length (now (work .exit)) ≡ length (now (work .entry))) × Below q (now (work .exit)) ⌝ }
-    ensures { λ r. ⌜ ((A x : List ℕ) → matrix p (now (seed .entry)) ≡ some A → compressed p (now (shares .entry)) (keyShares p (now (coins .entry)) (maskStart (now («mask_seed» .entry)))) ≡ some x → Generated p (now (coins .entry)) (maskStart (now («mask_seed» .entry))) A x (now (work .exit))) ⌝ }
+    requires { ⌜ Tabled p × (length (now work) ≡ workWords p) × (length (now coins) ≡ noiseBytes p)
+        × (length (now shares) ≡ (p .shares - 1) * (p .kappa / 8)) ⌝ }
+    ensures { λ r. ⌜ (r
+        ≡ both (filled (matrix p (now (seed .entry))))
+        (filled (compressed p (now (shares .entry)) (keyShares p (now (coins .entry)) (maskStart (now («mask_seed» .entry)))))))
+        × (length (now (work .exit)) ≡ length (now (work .entry))) × Below q (now (work .exit)) ⌝ }
+    ensures { λ r. ⌜ ((A x : List ℕ)
+        → matrix p (now (seed .entry)) ≡ some A
+        → compressed p (now (shares .entry)) (keyShares p (now (coins .entry)) (maskStart (now («mask_seed» .entry)))) ≡ some x
+        → Generated p (now (coins .entry)) (maskStart (now («mask_seed» .entry))) A x (now (work .exit))) ⌝ }
 {
     let k = p.k;
     let l = p.l;
@@ -94,8 +106,18 @@ fn make_parts(
 // Lines 2 to 8 and the compression. Lent are the matrix seed, the noise seeds (01: noise tape) and d - 1 share seeds, one behind the other.
 pub(crate) fn make_key(work: &mut [u64], p: Params, seeds: &[u8], mask_seed: &[u8]) -> bool
     requires { ⌜ Tabled p × (length (now work) ≡ workWords p) × (length (now seeds) ≡ keygenBytes p) ⌝ }
-    ensures { λ r. ⌜ (r ≡ both (filled (matrix p (vkSeed p (now (seeds .entry))))) (filled (compressed p (sharePart p (now (seeds .entry))) (keyShares p (noisePart p (now (seeds .entry))) (maskStart (now («mask_seed» .entry))))))) × (length (now (work .exit)) ≡ length (now (work .entry))) × Below q (now (work .exit)) ⌝ }
-    ensures { λ r. ⌜ ((A x : List ℕ) → matrix p (vkSeed p (now (seeds .entry))) ≡ some A → compressed p (sharePart p (now (seeds .entry))) (keyShares p (noisePart p (now (seeds .entry))) (maskStart (now («mask_seed» .entry)))) ≡ some x → Generated p (noisePart p (now (seeds .entry))) (maskStart (now («mask_seed» .entry))) A x (now (work .exit))) ⌝ }
+    ensures { λ r. ⌜ (r
+        ≡ both (filled (matrix p (vkSeed p (now (seeds .entry)))))
+        (filled
+        (compressed p (sharePart p (now (seeds .entry)))
+        (keyShares p (noisePart p (now (seeds .entry))) (maskStart (now («mask_seed» .entry)))))))
+        × (length (now (work .exit)) ≡ length (now (work .entry))) × Below q (now (work .exit)) ⌝ }
+    ensures { λ r. ⌜ ((A x : List ℕ)
+        → matrix p (vkSeed p (now (seeds .entry))) ≡ some A
+        → compressed p (sharePart p (now (seeds .entry)))
+        (keyShares p (noisePart p (now (seeds .entry))) (maskStart (now («mask_seed» .entry))))
+        ≡ some x
+        → Generated p (noisePart p (now (seeds .entry))) (maskStart (now («mask_seed» .entry))) A x (now (work .exit))) ⌝ }
 {
     let k = p.k;
     let l = p.l;
@@ -136,7 +158,9 @@ fn write_made(work: &[u64], p: Params, seeds: &[u8], out: &mut [u8])
 fn generate(p: Params, seeds: &[u8], mask_seed: &[u8], out: &mut [u8], work: &mut [u64]) -> u32
     requires { ⌜ Tabled p × (length (now work) ≡ workWords p) × (length (now seeds) ≡ keygenBytes p) ⌝ }
     requires { ⌜ length (now out) ≡ p .kappa / 8 + p .k * 448 + ((p .shares - 1) * (p .kappa / 8) + p .l * 3136) ⌝ }
-    ensures { λ r. ⌜ outcome r (now (out .exit)) (now (work .exit)) ≡ keygenLeaves (firstNo ((10, filled (keygenOf p (now (seeds .entry)) (now («mask_seed» .entry)))) ∷ [])) p (now (seeds .entry)) (now («mask_seed» .entry)) (now (out .entry)) (now (work .entry)) ⌝ }
+    ensures { λ r. ⌜ outcome r (now (out .exit)) (now (work .exit))
+        ≡ keygenLeaves (firstNo ((10, filled (keygenOf p (now (seeds .entry)) (now («mask_seed» .entry)))) ∷ [])) p (now (seeds .entry))
+        (now («mask_seed» .entry)) (now (out .entry)) (now (work .entry)) ⌝ }
 {
     if !make_key(work, p, seeds, mask_seed) {
         clear(work);
@@ -157,7 +181,8 @@ pub fn keygen(
     key_out: &mut [u8],
     work: &mut [u64],
 ) -> u32
-    ensures { λ r. ⌜ outcome r (now («key_out» .exit)) (now (work .exit)) ≡ keygenCall edition set shares (now (seeds .entry)) (now («mask_seed» .entry)) (now («key_out» .entry)) (now (work .entry)) ⌝ }
+    ensures { λ r. ⌜ outcome r (now («key_out» .exit)) (now (work .exit))
+        ≡ keygenCall edition set shares (now (seeds .entry)) (now («mask_seed» .entry)) (now («key_out» .entry)) (now (work .entry)) ⌝ }
 {
     match lookup(set, shares, edition) {
         Selected::NoSet => 1,

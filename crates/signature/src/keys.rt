@@ -15,6 +15,7 @@ ghost use Rattle.signature.specs.Checks.{firstNo, maskSeedSized, expande
 ghost use Rattle.signature.specs.Matrix.{buildAll, filled};
 ghost use Rattle.signature.specs.Keys.{packed, expanded, fullShare, seededShare, shareAt, decompressed, expandOf, expandedOf};
 ghost use Rattle.signature.specs.ExpandSteps.{partBytes, expandedAt, expandedShares};
+ghost use Rattle.signature.specs.ExpandedKey.{expandedIn};
 ghost use Rattle.signature.specs.KeyCalls.{keyLeaves, expandCall, refreshCall};
 ghost use Rattle.signature.specs.Outcome.{outcome};
 ghost use Rattle.signature.specs.Table.{Tabled};
@@ -59,7 +60,11 @@ fn refresh_no(
     words_out: &[u64],
 ) -> u32
     requires { ⌜ Tabled p ⌝ }
-    ensures { λ r. ⌜ r ≡ firstNo (keyChecks p (expanded (record { vk = now (bytes .entry); words = now (words .entry) })) ++ ((7, maskSeedSized (now («mask_seed» .entry))) ∷ (8, expandedKeySized p (now («bytes_out» .entry)) (now («words_out» .entry))) ∷ [])) ⌝ }
+    ensures { λ r. ⌜ r
+        ≡ firstNo
+        (keyChecks p (expanded (expandedIn (now (bytes .entry)) (now (words .entry))))
+        ++ ((7, maskSeedSized (now («mask_seed» .entry))) ∷
+        (8, expandedKeySized p (now («bytes_out» .entry)) (now («words_out» .entry))) ∷ [])) ⌝ }
 {
     let k = expanded_no(p, bytes, words);
     if k != 0 {
@@ -102,7 +107,8 @@ fn renew(
 )
     requires { ⌜ Words (p .l * (p .shares * 512)) (now words) × ShareCount (p .shares) ⌝ }
     requires { ⌜ (length (now «bytes_out») ≡ length (now bytes)) × (length (now «words_out») ≡ length (now words)) ⌝ }
-    ensures { λ _. ⌜ (now («bytes_out» .exit) ≡ now (bytes .entry)) × (now («words_out» .exit) ≡ refreshed masks (p .shares) (maskStart (now («mask_seed» .entry))) (p .l) (now (words .entry))) ⌝ }
+    ensures { λ _. ⌜ (now («bytes_out» .exit) ≡ now (bytes .entry))
+        × (now («words_out» .exit) ≡ refreshed masks (p .shares) (maskStart (now («mask_seed» .entry))) (p .l) (now (words .entry))) ⌝ }
 {
     copy_bytes(bytes, bytes_out);
     copy_into(words_out, words);
@@ -119,7 +125,9 @@ pub fn refresh_key(
     bytes_out: &mut [u8],
     words_out: &mut [u64],
 ) -> u32
-    ensures { λ r. ⌜ outcome r (now («bytes_out» .exit)) (now («words_out» .exit)) ≡ refreshCall set shares (record { vk = now (bytes .entry); words = now (words .entry) }) (now («mask_seed» .entry)) (now («bytes_out» .entry)) (now («words_out» .entry)) ⌝ }
+    ensures { λ r. ⌜ outcome r (now («bytes_out» .exit)) (now («words_out» .exit))
+        ≡ refreshCall set shares (expandedIn (now (bytes .entry)) (now (words .entry))) (now («mask_seed» .entry))
+        (now («bytes_out» .entry)) (now («words_out» .entry)) ⌝ }
 {
     match lookup(set, shares, Edition::Printed) {
         Selected::NoSet => 1,
@@ -189,7 +197,8 @@ fn share_at(p: Params, part: &[u8], full: &[u64], j: usize, i: usize) -> [u64; 5
 fn decompress_polynomial(p: Params, part: &[u8], full: &[u64], j: usize, out: &mut [u64])
     requires { ⌜ Tabled p × (length (now part) ≡ partBytes p) × (j < p .l) ⌝ }
     requires { ⌜ (now full ≡ fullShare p (now part)) × Words (p .l * 512) (now full) × Words (p .l * (p .shares * 512)) (now out) ⌝ }
-    ensures { λ _. ⌜ Wrote 0 (j * (p .shares * 512)) (p .shares * 512) (build (p .shares) (expandedAt p (now (part .entry)) j)) (now (out .entry)) (now (out .exit)) ⌝ }
+    ensures { λ _. ⌜ Wrote 0 (j * (p .shares * 512)) (p .shares * 512) (build (p .shares) (expandedAt p (now (part .entry)) j))
+        (now (out .entry)) (now (out .exit)) ⌝ }
 {
     let d = p.shares;
     for i in 0..d {
@@ -226,7 +235,10 @@ pub(crate) fn decompress_shares(p: Params, part: &[u8], out: &mut [u64])
 // The first no of expanding behind the look-up, but check 10, or 0.
 fn expand_no(p: Params, key: &[u8], bytes_out: &[u8], words_out: &[u64]) -> u32
     requires { ⌜ Tabled p ⌝ }
-    ensures { λ r. ⌜ r ≡ firstNo (keyChecks p (packed (now (key .entry))) ++ ((8, expandedKeySized p (now («bytes_out» .entry)) (now («words_out» .entry))) ∷ [])) ⌝ }
+    ensures { λ r. ⌜ r
+        ≡ firstNo
+        (keyChecks p (packed (now (key .entry)))
+        ++ ((8, expandedKeySized p (now («bytes_out» .entry)) (now («words_out» .entry))) ∷ [])) ⌝ }
 {
     let k = packed_no(p, key);
     if k != 0 {
@@ -242,7 +254,9 @@ fn expand_no(p: Params, key: &[u8], bytes_out: &[u8], words_out: &[u64]) -> u32
 fn expand_found(p: Params, key: &[u8], bytes_out: &mut [u8], words_out: &mut [u64]) -> u32
     requires { ⌜ Tabled p × (length (now key) ≡ p .«sk_bytes») × Below q (fullShare p (drop (p .«vk_bytes») (now key))) ⌝ }
     requires { ⌜ (length (now «bytes_out») ≡ p .«vk_bytes») × (length (now «words_out») ≡ p .l * (p .shares * 512)) ⌝ }
-    ensures { λ r. ⌜ outcome r (now («bytes_out» .exit)) (now («words_out» .exit)) ≡ keyLeaves (firstNo ((10, filled (expandOf p (now (key .entry)))) ∷ [])) (expandedOf p (now (key .entry))) (now («bytes_out» .entry)) (now («words_out» .entry)) ⌝ }
+    ensures { λ r. ⌜ outcome r (now («bytes_out» .exit)) (now («words_out» .exit))
+        ≡ keyLeaves (firstNo ((10, filled (expandOf p (now (key .entry)))) ∷ [])) (expandedOf p (now (key .entry)))
+        (now («bytes_out» .entry)) (now («words_out» .entry)) ⌝ }
 {
     let vk = p.vk_bytes;
     if !shares_fill(p, &key[vk..]) {
@@ -262,7 +276,8 @@ pub fn expand_key(
     bytes_out: &mut [u8],
     words_out: &mut [u64],
 ) -> u32
-    ensures { λ r. ⌜ outcome r (now («bytes_out» .exit)) (now («words_out» .exit)) ≡ expandCall edition set shares (now (key .entry)) (now («bytes_out» .entry)) (now («words_out» .entry)) ⌝ }
+    ensures { λ r. ⌜ outcome r (now («bytes_out» .exit)) (now («words_out» .exit))
+        ≡ expandCall edition set shares (now (key .entry)) (now («bytes_out» .entry)) (now («words_out» .entry)) ⌝ }
 {
     match lookup(set, shares, edition) {
         Selected::NoSet => 1,

@@ -7,7 +7,7 @@ ghost use Prim.Native.Nat.{ℕ, _+_, _*_, _≤_};
 ghost use lib.ListN.{length};
 ghost use Rattle.ring.specs.Words.{q, Below};
 ghost use Rattle.sharing.specs.Region.{span, Wrote};
-ghost use Rattle.signature.specs.AttemptSteps.{keyFrom};
+ghost use Rattle.signature.specs.AttemptSteps.{keyLent};
 ghost use Rattle.signature.specs.Checks.{workWords, keySized, sharesGood};
 ghost use Rattle.signature.specs.Keys.{fullShare, decompressed, sharesOf};
 ghost use Rattle.signature.specs.Matrix.{filled};
@@ -34,8 +34,11 @@ fn load_words(s: &mut [u64], at: usize, words: &[u64])
 fn load_part(s: &mut [u64], at: usize, p: Params, part: &[u8]) -> bool
     requires { ⌜ Tabled p × (length (now part) ≡ partBytes p) × Below q (fullShare p (now part)) ⌝ }
     requires { ⌜ (at + p .l * (p .shares * 512) ≤ length (now s)) × Below q (now s) ⌝ }
-    ensures { λ r. ⌜ (r ≡ filled (decompressed p (now (part .entry)))) × (length (now (s .exit)) ≡ length (now (s .entry))) × Below q (now (s .exit)) ⌝ }
-    ensures { λ r. ⌜ ((X : List ℕ) → decompressed p (now (part .entry)) ≡ some X → Wrote 0 at (p .l * (p .shares * 512)) X (now (s .entry)) (now (s .exit))) ⌝ }
+    ensures { λ r. ⌜ (r ≡ filled (decompressed p (now (part .entry)))) × (length (now (s .exit)) ≡ length (now (s .entry)))
+        × Below q (now (s .exit)) ⌝ }
+    ensures { λ r. ⌜ ((X : List ℕ)
+        → decompressed p (now (part .entry)) ≡ some X
+        → Wrote 0 at (p .l * (p .shares * 512)) X (now (s .entry)) (now (s .exit))) ⌝ }
 {
     if !shares_fill(p, part) {
         return false;
@@ -55,9 +58,12 @@ pub(crate) fn load_shares(
     words: &[u64],
 ) -> bool
     requires { ⌜ Tabled p × (length (now work) ≡ workWords p) ⌝ }
-    requires { ⌜ (keySized p (keyFrom packed (now key) (now words)) ≡ true) × (sharesGood p (keyFrom packed (now key) (now words)) ≡ true) ⌝ }
-    ensures { λ r. ⌜ (r ≡ filled (sharesOf p (keyFrom packed (now (key .entry)) (now (words .entry))))) × (length (now (work .exit)) ≡ length (now (work .entry))) × Below q (now (work .exit)) ⌝ }
-    ensures { λ r. ⌜ ((X : List ℕ) → sharesOf p (keyFrom packed (now (key .entry)) (now (words .entry))) ≡ some X → span (now (work .exit)) (atS (p .shares)) (p .l * (p .shares * 512)) ≡ X) ⌝ }
+    requires { ⌜ (keySized p (keyLent packed key words) ≡ true) × (sharesGood p (keyLent packed key words) ≡ true) ⌝ }
+    ensures { λ r. ⌜ (r ≡ filled (sharesOf p (keyLent packed (key .entry) (words .entry))))
+        × (length (now (work .exit)) ≡ length (now (work .entry))) × Below q (now (work .exit)) ⌝ }
+    ensures { λ r. ⌜ ((X : List ℕ)
+        → sharesOf p (keyLent packed (key .entry) (words .entry)) ≡ some X
+        → span (now (work .exit)) (atS (p .shares)) (p .l * (p .shares * 512)) ≡ X) ⌝ }
 {
     let at = at_s(p.shares);
     clear(work);

@@ -35,7 +35,8 @@ fn clear_at(s: &mut [u64], at: usize, d: usize)
 // The products of a and the d polynomials at `at`, added to those at `to`, all in the transform domain.
 fn add_products(s: &mut [u64], to: usize, at: usize, a: [u64; 512], d: usize)
     requires { ⌜ (to + d * 512 ≤ at) × (at + d * 512 ≤ length (now s)) × Below q (now s) × Words 512 a ⌝ }
-    ensures { λ _. ⌜ Wrote 0 to (d * 512) (build d (accrued a (span (now (s .entry)) to (d * 512)) (span (now (s .entry)) at (d * 512)))) (now (s .entry)) (now (s .exit)) ⌝ }
+    ensures { λ _. ⌜ Wrote 0 to (d * 512) (build d (accrued a (span (now (s .entry)) to (d * 512)) (span (now (s .entry)) at (d * 512))))
+        (now (s .entry)) (now (s .exit)) ⌝ }
 {
     for j in 0..d {
         let b = to + j * 512;
@@ -48,8 +49,11 @@ fn add_products(s: &mut [u64], to: usize, at: usize, a: [u64; 512], d: usize)
 
 // A row before it is turned back: it begins at `from` in the matrix a, which is in the transform domain as the vector at `at` is.
 fn row_sums(s: &mut [u64], to: usize, at: usize, a: &[u64], from: usize, l: usize, d: usize)
-    requires { ⌜ (to + d * 512 ≤ at) × (at + l * (d * 512) ≤ length (now s)) × Below q (now s) × (from + l * 512 ≤ length (now a)) × Below q (now a) ⌝ }
-    ensures { λ _. ⌜ Wrote 0 to (d * 512) (build d (rowSum d (span (now (a .entry)) from (l * 512)) (span (now (s .entry)) at (l * (d * 512))) l)) (now (s .entry)) (now (s .exit)) ⌝ }
+    requires { ⌜ (to + d * 512 ≤ at) × (at + l * (d * 512) ≤ length (now s)) × Below q (now s) × (from + l * 512 ≤ length (now a))
+        × Below q (now a) ⌝ }
+    ensures { λ _. ⌜ Wrote 0 to (d * 512)
+        (build d (rowSum d (span (now (a .entry)) from (l * 512)) (span (now (s .entry)) at (l * (d * 512))) l)) (now (s .entry))
+        (now (s .exit)) ⌝ }
 {
     clear_at(s, to, d);
     for m in 0..l {
@@ -68,8 +72,11 @@ pub(crate) fn row_at(
     l: usize,
     d: usize,
 )
-    requires { ⌜ (to + d * 512 ≤ at) × (at + l * (d * 512) ≤ length (now s)) × Below q (now s) × (from + l * 512 ≤ length (now a)) × Below q (now a) ⌝ }
-    ensures { λ _. ⌜ Wrote 0 to (d * 512) (build d (rowShare d l (span (now (a .entry)) from (l * 512)) (span (now (s .entry)) at (l * (d * 512))))) (now (s .entry)) (now (s .exit)) ⌝ }
+    requires { ⌜ (to + d * 512 ≤ at) × (at + l * (d * 512) ≤ length (now s)) × Below q (now s) × (from + l * 512 ≤ length (now a))
+        × Below q (now a) ⌝ }
+    ensures { λ _. ⌜ Wrote 0 to (d * 512)
+        (build d (rowShare d l (span (now (a .entry)) from (l * 512)) (span (now (s .entry)) at (l * (d * 512))))) (now (s .entry))
+        (now (s .exit)) ⌝ }
 {
     row_sums(s, to, at, a, from, l, d);
     intt_vector(s, to, d);
@@ -89,9 +96,15 @@ fn image_row_seeds(
     seeds: &[u8],
     g: MaskGen,
 ) -> MaskGen
-    requires { ⌜ Tabled p × (i < 256) × (1 ≤ u) × (u ≤ 48) × ((i * p .rep + p .rep) * p .shares * (p .kappa / 8) ≤ length (now seeds)) × (i * (p .l * 512) + p .l * 512 ≤ length (now a)) × Below q (now a) ⌝ }
-    requires { ⌜ (p .shares * 512 ≤ row) × (row + p .shares * 512 ≤ at) × (at + p .l * (p .shares * 512) ≤ to) × (to + 512 ≤ length (now s)) × Below q (now s) ⌝ }
-    ensures { λ r. ⌜ Summed (p .shares) row to (noisedRow (p .shares) (p .l) g (p .rep) (seedNoise (p .shares) (p .rep) u (p .kappa / 8) (now (seeds .entry)) i) (block (p .l * 512) i (now (a .entry))) (span (now (s .entry)) at (p .l * (p .shares * 512)))) (now (s .entry)) (now (s .exit)) × (r ≡ skip masks (p .shares) (p .rep) g) ⌝ }
+    requires { ⌜ Tabled p × (i < 256) × (1 ≤ u) × (u ≤ 48) × ((i * p .rep + p .rep) * p .shares * (p .kappa / 8) ≤ length (now seeds))
+        × (i * (p .l * 512) + p .l * 512 ≤ length (now a)) × Below q (now a) ⌝ }
+    requires { ⌜ (p .shares * 512 ≤ row) × (row + p .shares * 512 ≤ at) × (at + p .l * (p .shares * 512) ≤ to) × (to + 512 ≤ length (now s))
+        × Below q (now s) ⌝ }
+    ensures { λ r. ⌜ Summed (p .shares) row to
+        (noisedRow (p .shares) (p .l) g (p .rep) (seedNoise (p .shares) (p .rep) u (p .kappa / 8) (now (seeds .entry)) i)
+        (block (p .l * 512) i (now (a .entry))) (span (now (s .entry)) at (p .l * (p .shares * 512))))
+        (now (s .entry)) (now (s .exit))
+        × (r ≡ skip masks (p .shares) (p .rep) g) ⌝ }
 {
     let l = p.l;
     let d = p.shares;
@@ -114,9 +127,15 @@ pub(crate) fn image_seeds(
     seeds: &[u8],
     g: MaskGen,
 ) -> MaskGen
-    requires { ⌜ Tabled p × (1 ≤ u) × (u ≤ 48) × (p .k * p .rep * p .shares * (p .kappa / 8) ≤ length (now seeds)) × MatrixHeld p (now a) ⌝ }
-    requires { ⌜ (p .shares * 512 ≤ row) × (row + p .shares * 512 ≤ at) × (at + p .l * (p .shares * 512) ≤ to) × (to + p .k * 512 ≤ length (now s)) × Below q (now s) ⌝ }
-    ensures { λ r. ⌜ SummedAll (p .shares) (p .k) row to (addNoise masks (p .shares) g (p .k) (p .rep) (seedNoise (p .shares) (p .rep) u (p .kappa / 8) (now (seeds .entry))) (rowsOf (p .shares) (p .k) (p .l) (now (a .entry)) (span (now (s .entry)) at (p .l * (p .shares * 512))))) (now (s .entry)) (now (s .exit)) × (r ≡ skip masks (p .shares) (p .k * p .rep) g) ⌝ }
+    requires { ⌜ Tabled p × (1 ≤ u) × (u ≤ 48) × (p .k * p .rep * p .shares * (p .kappa / 8) ≤ length (now seeds))
+        × MatrixHeld p (now a) ⌝ }
+    requires { ⌜ (p .shares * 512 ≤ row) × (row + p .shares * 512 ≤ at) × (at + p .l * (p .shares * 512) ≤ to)
+        × (to + p .k * 512 ≤ length (now s)) × Below q (now s) ⌝ }
+    ensures { λ r. ⌜ SummedAll (p .shares) (p .k) row to
+        (addNoise masks (p .shares) g (p .k) (p .rep) (seedNoise (p .shares) (p .rep) u (p .kappa / 8) (now (seeds .entry)))
+        (rowsOf (p .shares) (p .k) (p .l) (now (a .entry)) (span (now (s .entry)) at (p .l * (p .shares * 512)))))
+        (now (s .entry)) (now (s .exit))
+        × (r ≡ skip masks (p .shares) (p .k * p .rep) g) ⌝ }
 {
     let k = p.k;
     let mut x = g;
@@ -139,9 +158,15 @@ fn image_row_explicit(
     words: &[u64],
     g: MaskGen,
 ) -> MaskGen
-    requires { ⌜ Tabled p × (i < 256) × (i * (p .shares * 512) + p .shares * 512 ≤ length (now words)) × Below q (now words) × (i * (p .l * 512) + p .l * 512 ≤ length (now a)) × Below q (now a) ⌝ }
-    requires { ⌜ (p .shares * 512 ≤ row) × (row + p .shares * 512 ≤ at) × (at + p .l * (p .shares * 512) ≤ to) × (to + 512 ≤ length (now s)) × Below q (now s) ⌝ }
-    ensures { λ r. ⌜ Summed (p .shares) row to (noisedRow (p .shares) (p .l) g 1 (explicitNoise (p .shares) (now (words .entry)) i) (block (p .l * 512) i (now (a .entry))) (span (now (s .entry)) at (p .l * (p .shares * 512)))) (now (s .entry)) (now (s .exit)) × (r ≡ skip masks (p .shares) 1 g) ⌝ }
+    requires { ⌜ Tabled p × (i < 256) × (i * (p .shares * 512) + p .shares * 512 ≤ length (now words)) × Below q (now words)
+        × (i * (p .l * 512) + p .l * 512 ≤ length (now a)) × Below q (now a) ⌝ }
+    requires { ⌜ (p .shares * 512 ≤ row) × (row + p .shares * 512 ≤ at) × (at + p .l * (p .shares * 512) ≤ to) × (to + 512 ≤ length (now s))
+        × Below q (now s) ⌝ }
+    ensures { λ r. ⌜ Summed (p .shares) row to
+        (noisedRow (p .shares) (p .l) g 1 (explicitNoise (p .shares) (now (words .entry)) i) (block (p .l * 512) i (now (a .entry)))
+        (span (now (s .entry)) at (p .l * (p .shares * 512))))
+        (now (s .entry)) (now (s .exit))
+        × (r ≡ skip masks (p .shares) 1 g) ⌝ }
 {
     let l = p.l;
     let d = p.shares;
@@ -163,8 +188,13 @@ pub(crate) fn image_explicit(
     g: MaskGen,
 ) -> MaskGen
     requires { ⌜ Tabled p × (p .k * (p .shares * 512) ≤ length (now words)) × Below q (now words) × MatrixHeld p (now a) ⌝ }
-    requires { ⌜ (p .shares * 512 ≤ row) × (row + p .shares * 512 ≤ at) × (at + p .l * (p .shares * 512) ≤ to) × (to + p .k * 512 ≤ length (now s)) × Below q (now s) ⌝ }
-    ensures { λ r. ⌜ SummedAll (p .shares) (p .k) row to (addNoise masks (p .shares) g (p .k) 1 (explicitNoise (p .shares) (now (words .entry))) (rowsOf (p .shares) (p .k) (p .l) (now (a .entry)) (span (now (s .entry)) at (p .l * (p .shares * 512))))) (now (s .entry)) (now (s .exit)) × (r ≡ skip masks (p .shares) (p .k * 1) g) ⌝ }
+    requires { ⌜ (p .shares * 512 ≤ row) × (row + p .shares * 512 ≤ at) × (at + p .l * (p .shares * 512) ≤ to)
+        × (to + p .k * 512 ≤ length (now s)) × Below q (now s) ⌝ }
+    ensures { λ r. ⌜ SummedAll (p .shares) (p .k) row to
+        (addNoise masks (p .shares) g (p .k) 1 (explicitNoise (p .shares) (now (words .entry)))
+        (rowsOf (p .shares) (p .k) (p .l) (now (a .entry)) (span (now (s .entry)) at (p .l * (p .shares * 512)))))
+        (now (s .entry)) (now (s .exit))
+        × (r ≡ skip masks (p .shares) (p .k * 1) g) ⌝ }
 {
     let k = p.k;
     let mut x = g;

@@ -28,7 +28,8 @@ fn entry(seed: &[u8], i: usize, j: usize) -> Sampled
 // Row i at `to`: its l entries, transformed. False where one does not fill (check 10).
 pub(crate) fn expand_row(s: &mut [u64], to: usize, seed: &[u8], i: usize, l: usize) -> bool
     requires { ⌜ (to + l * 512 ≤ length (now s)) × Below q (now s) × (i < 256) × (l < 256) ⌝ }
-    ensures { λ r. ⌜ (r ≡ rowFills (now (seed .entry)) i l) × (length (now (s .exit)) ≡ length (now (s .entry))) × Below q (now (s .exit)) ⌝ }
+    ensures { λ r. ⌜ (r ≡ rowFills (now (seed .entry)) i l) × (length (now (s .exit)) ≡ length (now (s .entry)))
+        × Below q (now (s .exit)) ⌝ }
     ensures { λ r. ⌜ (r ≡ true → Wrote 0 to (l * 512) (rowMade l (now (seed .entry)) i) (now (s .entry)) (now (s .exit))) ⌝ }
 {
     for m in 0..l {
@@ -46,7 +47,8 @@ pub(crate) fn expand_row(s: &mut [u64], to: usize, seed: &[u8], i: usize, l: usi
 // All k rows, one behind the other: turned back, they are the matrix. False where an entry does not fill.
 pub(crate) fn expand_matrix(s: &mut [u64], seed: &[u8], k: usize, l: usize) -> bool
     requires { ⌜ (k * (l * 512) ≤ length (now s)) × Below q (now s) × (k ≤ 9) × (l ≤ 7) ⌝ }
-    ensures { λ r. ⌜ (r ≡ filled (matrixOf k l (now (seed .entry)))) × (length (now (s .exit)) ≡ length (now (s .entry))) × Below q (now (s .exit)) ⌝ }
+    ensures { λ r. ⌜ (r ≡ filled (matrixOf k l (now (seed .entry)))) × (length (now (s .exit)) ≡ length (now (s .entry)))
+        × Below q (now (s .exit)) ⌝ }
     ensures { λ r. ⌜ ((A : List ℕ) → matrixOf k l (now (seed .entry)) ≡ some A → untransformed (k * l) (now (s .exit)) ≡ A) ⌝ }
 {
     for i in 0..k {

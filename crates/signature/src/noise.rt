@@ -25,7 +25,9 @@ pub(crate) fn noise_seeds(
 ) -> MaskGen
     requires { ⌜ Tabled p × (1 ≤ u) × (u ≤ 48) × (p .l * p .rep * p .shares * (p .kappa / 8) ≤ length (now seeds)) ⌝ }
     requires { ⌜ (p .shares * 512 ≤ at) × (at + p .l * (p .shares * 512) ≤ length (now s)) × Below q (now s) ⌝ }
-    ensures { λ r. ⌜ Wrote (p .shares * 512) at (p .l * (p .shares * 512)) (transformed (p .l * p .shares) (maskedNoise p (seeded p u (now (seeds .entry))) g .shares)) (now (s .entry)) (now (s .exit)) × (r ≡ maskedNoise p (seeded p u (now (seeds .entry))) g .next) ⌝ }
+    ensures { λ r. ⌜ Wrote (p .shares * 512) at (p .l * (p .shares * 512))
+        (transformed (p .l * p .shares) (maskedNoise p (seeded p u (now (seeds .entry))) g .shares)) (now (s .entry)) (now (s .exit))
+        × (r ≡ maskedNoise p (seeded p u (now (seeds .entry))) g .next) ⌝ }
 {
     let l = p.l;
     let d = p.shares;
@@ -45,7 +47,9 @@ pub(crate) fn noise_explicit(
 ) -> MaskGen
     requires { ⌜ Tabled p × (p .l * (p .shares * 512) ≤ length (now words)) × Below q (now words) ⌝ }
     requires { ⌜ (p .shares * 512 ≤ at) × (at + p .l * (p .shares * 512) ≤ length (now s)) × Below q (now s) ⌝ }
-    ensures { λ r. ⌜ Wrote (p .shares * 512) at (p .l * (p .shares * 512)) (transformed (p .l * p .shares) (maskedNoise p (explicit p (now (words .entry))) g .shares)) (now (s .entry)) (now (s .exit)) × (r ≡ maskedNoise p (explicit p (now (words .entry))) g .next) ⌝ }
+    ensures { λ r. ⌜ Wrote (p .shares * 512) at (p .l * (p .shares * 512))
+        (transformed (p .l * p .shares) (maskedNoise p (explicit p (now (words .entry))) g .shares)) (now (s .entry)) (now (s .exit))
+        × (r ≡ maskedNoise p (explicit p (now (words .entry))) g .next) ⌝ }
 {
     let l = p.l;
     let d = p.shares;

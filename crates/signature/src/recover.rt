@@ -33,9 +33,11 @@ pub(crate) fn recover_row(
     c: [u64; 512],
     t: [u64; 512],
 )
-    requires { ⌜ (to + 512 ≤ at) × (at + l * 512 ≤ length (now s)) × Below q (now s) × (from + l * 512 ≤ length (now a)) × Below q (now a) ⌝ }
+    requires { ⌜ (to + 512 ≤ at) × (at + l * 512 ≤ length (now s)) × Below q (now s) × (from + l * 512 ≤ length (now a))
+        × Below q (now a) ⌝ }
     requires { ⌜ Words 512 c × Residues 125 512 t ⌝ }
-    ensures { λ _. ⌜ Wrote 0 to 512 (recoveredBy l (span (now (a .entry)) from (l * 512)) (span (now (s .entry)) at (l * 512)) c t) (now (s .entry)) (now (s .exit)) ⌝ }
+    ensures { λ _. ⌜ Wrote 0 to 512 (recoveredBy l (span (now (a .entry)) from (l * 512)) (span (now (s .entry)) at (l * 512)) c t)
+        (now (s .entry)) (now (s .exit)) ⌝ }
 {
     row_at(s, to, at, a, from, l, 1);
     let p = scaled_product(c, t);

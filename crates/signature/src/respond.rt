@@ -41,7 +41,8 @@ fn respond_share(s: &[u64], a: usize, b: usize, c: [u64; 512]) -> [u64; 512]
 // .. at the d shares of one polynomial, in place of those of r.
 fn respond_at(s: &mut [u64], a: usize, b: usize, c: [u64; 512], d: usize)
     requires { ⌜ (a + d * 512 ≤ b) × (b + d * 512 ≤ length (now s)) × Below q (now s) × Words 512 c ⌝ }
-    ensures { λ _. ⌜ Wrote 0 b (d * 512) (build d (responseShare c (span (now (s .entry)) a (d * 512)) (span (now (s .entry)) b (d * 512)))) (now (s .entry)) (now (s .exit)) ⌝ }
+    ensures { λ _. ⌜ Wrote 0 b (d * 512) (build d (responseShare c (span (now (s .entry)) a (d * 512)) (span (now (s .entry)) b (d * 512))))
+        (now (s .entry)) (now (s .exit)) ⌝ }
 {
     for j in 0..d {
         let e = b + j * 512;
@@ -53,7 +54,9 @@ fn respond_at(s: &mut [u64], a: usize, b: usize, c: [u64; 512], d: usize)
 // .. at all l polynomials; c is the challenge.
 fn respond_vector(s: &mut [u64], a: usize, b: usize, c: [u64; 512], l: usize, d: usize)
     requires { ⌜ (a + l * (d * 512) ≤ b) × (b + l * (d * 512) ≤ length (now s)) × Below q (now s) × Words 512 c ⌝ }
-    ensures { λ _. ⌜ Wrote 0 b (l * (d * 512)) (maskedResponse d l c (span (now (s .entry)) a (l * (d * 512))) (span (now (s .entry)) b (l * (d * 512)))) (now (s .entry)) (now (s .exit)) ⌝ }
+    ensures { λ _. ⌜ Wrote 0 b (l * (d * 512))
+        (maskedResponse d l c (span (now (s .entry)) a (l * (d * 512))) (span (now (s .entry)) b (l * (d * 512)))) (now (s .entry))
+        (now (s .exit)) ⌝ }
 {
     let t = ntt(c);
     for i in 0..l {
@@ -66,7 +69,8 @@ fn respond_vector(s: &mut [u64], a: usize, b: usize, c: [u64; 512], l: usize, d:
 // Line 16: the sums of the l sharings at `at`, one behind the other from `to` on.
 fn decode_vector(s: &mut [u64], at: usize, to: usize, p: Params)
     requires { ⌜ (at + p .l * (p .shares * 512) ≤ to) × (to + p .l * 512 ≤ length (now s)) × Below q (now s) ⌝ }
-    ensures { λ _. ⌜ Wrote 0 to (p .l * 512) (totals (p .l) (p .shares) (span (now (s .entry)) at (p .l * (p .shares * 512)))) (now (s .entry)) (now (s .exit)) ⌝ }
+    ensures { λ _. ⌜ Wrote 0 to (p .l * 512) (totals (p .l) (p .shares) (span (now (s .entry)) at (p .l * (p .shares * 512))))
+        (now (s .entry)) (now (s .exit)) ⌝ }
 {
     let l = p.l;
     let d = p.shares;
@@ -79,7 +83,8 @@ fn decode_vector(s: &mut [u64], at: usize, to: usize, p: Params)
 
 // Lines 12 and 13: s at a, in the transform domain; r at b, turned back from it.
 fn refresh_both(s: &mut [u64], a: usize, b: usize, p: Params, g: MaskGen) -> MaskGen
-    requires { ⌜ ShareCount (p .shares) × (p .shares * 512 ≤ a) × (a + p .l * (p .shares * 512) ≤ b) × (b + p .l * (p .shares * 512) ≤ length (now s)) × Below q (now s) ⌝ }
+    requires { ⌜ ShareCount (p .shares) × (p .shares * 512 ≤ a) × (a + p .l * (p .shares * 512) ≤ b)
+        × (b + p .l * (p .shares * 512) ≤ length (now s)) × Below q (now s) ⌝ }
     ensures { λ r. ⌜ Renewed (p .l) (p .shares) a b g r (now (s .entry)) (now (s .exit)) ⌝ }
 {
     let l = p.l;

@@ -1,18 +1,19 @@
 // Signing (000, Algorithm 2; 01: checks 1 to 10, 11 within each attempt, 12), on one work buffer, laid out as specs/Layout.antt says.
 ghost use mathlib.Core.Path.{_≡_};
-ghost use mathlib.Core.Bool.{true, false};
+ghost use mathlib.Core.Bool.{true};
 ghost use mathlib.Core.Option.{some};
 ghost use Prim.Native.Nat.{_≤_};
 ghost use lib.ListN.{length};
 ghost use Rattle.hash.specs.declared.params.Selected.{Selected};
 ghost use Rattle.ring.specs.Words.{q, Below};
-ghost use Rattle.signature.specs.AttemptSteps.{keyFrom, coinsOf, Within, keyIn};
+ghost use Rattle.signature.specs.AttemptSteps.{keyLent, coinsLent, Within, keyIn};
 ghost use Rattle.signature.specs.Checks.{workWords};
+ghost use Rattle.signature.specs.ExpandedKey.{expandedIn};
 ghost use Rattle.signature.specs.Keys.{vkSeed, vkVector};
 ghost use Rattle.signature.specs.MaskedSteps.{matrixIn, MatrixHeld};
 ghost use Rattle.signature.specs.Matrix.{matrix};
 ghost use Rattle.signature.specs.Outcome.{answer, signing};
-ghost use Rattle.signature.specs.Sign.{publicBy, signFrom};
+ghost use Rattle.signature.specs.Sign.{publicBy, fromSeeds, fromNoise, signFrom};
 ghost use Rattle.signature.specs.SignCalls.{packed, expanded, coinsGood, signCall};
 ghost use Rattle.signature.specs.SignSteps.{signNo, signMade, signedWith, signedFound, EndedAt, answerIn};
 ghost use Rattle.signature.specs.Table.{Tabled};
@@ -21,6 +22,7 @@ use crate::commit::commit;
 use crate::fields::finish;
 use crate::load::load_shares;
 use crate::matrix::expand_matrix;
+use crate::signcheck::Forms;
 use crate::signcheck::sign_no;
 use crate::verify::bind;
 use hash::params::Edition;
@@ -70,9 +72,11 @@ fn attempt(
 ) -> AttemptEnd
     requires { ⌜ Tabled p × (length (now work) ≡ workWords p) × Below q (now work) × MatrixHeld p (now a) ⌝ }
     requires { ⌜ (length (now vk) ≡ p .«vk_bytes») × Below 125 (vkVector p (now vk)) × (length (now out) ≡ p .«sig_bytes») ⌝ }
-    requires { ⌜ Within p (coinsOf explicit (now seeds) (now noise) (now masks)) i ⌝ }
+    requires { ⌜ Within p (coinsLent explicit seeds noise masks) i ⌝ }
     ensures { λ r. ⌜ (length (now (work .exit)) ≡ length (now (work .entry))) × Below q (now (work .exit)) ⌝ }
-    ensures { λ r. ⌜ EndedAt p (publicBy p (now (vk .entry)) (now (mu .entry)) (matrixIn p (now (a .entry)))) (coinsOf explicit (now (seeds .entry)) (now (noise .entry)) (now (masks .entry))) i (keyIn p (now (work .entry))) r (now (out .entry)) (now (out .exit)) (now (work .exit)) ⌝ }
+    ensures { λ r. ⌜ EndedAt p (publicBy p (now (vk .entry)) (now (mu .entry)) (matrixIn p (now (a .entry))))
+        (coinsLent explicit (seeds .entry) (noise .entry) (masks .entry)) i (keyIn p (now (work .entry))) r (now (out .entry))
+        (now (out .exit)) (now (work .exit)) ⌝ }
 {
     let b = p.kappa / 4;
     let mut hash = [0u8; 64];
@@ -104,9 +108,13 @@ fn attempt_all(
 ) -> Signed
     requires { ⌜ Tabled p × (length (now work) ≡ workWords p) × Below q (now work) × MatrixHeld p (now a) ⌝ }
     requires { ⌜ (length (now vk) ≡ p .«vk_bytes») × Below 125 (vkVector p (now vk)) × (length (now out) ≡ p .«sig_bytes») ⌝ }
-    requires { ⌜ (n ≤ 16) × (coinsGood p n (coinsOf explicit (now seeds) (now noise) (now masks)) ≡ true) ⌝ }
+    requires { ⌜ (n ≤ 16) × (coinsGood p n (coinsLent explicit seeds noise masks) ≡ true) ⌝ }
     ensures { λ r. ⌜ length (now (work .exit)) ≡ length (now (work .entry)) ⌝ }
-    ensures { λ r. ⌜ answer (r .status) (r .attempts) (now (out .exit)) ≡ answerIn (signFrom p (publicBy p (now (vk .entry)) (now (mu .entry)) (matrixIn p (now (a .entry)))) (coinsOf explicit (now (seeds .entry)) (now (noise .entry)) (now (masks .entry))) n 0 (keyIn p (now (work .entry)))) (now (out .entry)) ⌝ }
+    ensures { λ r. ⌜ answer (r .status) (r .attempts) (now (out .exit))
+        ≡ answerIn
+        (signFrom p (publicBy p (now (vk .entry)) (now (mu .entry)) (matrixIn p (now (a .entry))))
+        (coinsLent explicit (seeds .entry) (noise .entry) (masks .entry)) n 0 (keyIn p (now (work .entry))))
+        (now (out .entry)) ⌝ }
 {
     let mut i: usize = 0;
     while i < n {
@@ -140,9 +148,13 @@ fn sign_loaded(
 ) -> Signed
     requires { ⌜ Tabled p × (length (now work) ≡ workWords p) × Below q (now work) ⌝ }
     requires { ⌜ (length (now vk) ≡ p .«vk_bytes») × Below 125 (vkVector p (now vk)) × (length (now out) ≡ p .«sig_bytes») ⌝ }
-    requires { ⌜ (n ≤ 16) × (coinsGood p n (coinsOf explicit (now seeds) (now noise) (now masks)) ≡ true) ⌝ }
+    requires { ⌜ (n ≤ 16) × (coinsGood p n (coinsLent explicit seeds noise masks) ≡ true) ⌝ }
     ensures { λ r. ⌜ length (now (work .exit)) ≡ length (now (work .entry)) ⌝ }
-    ensures { λ r. ⌜ answer (r .status) (r .attempts) (now (out .exit)) ≡ answerIn (signMade p (now (vk .entry)) (now (msg .entry)) (coinsOf explicit (now (seeds .entry)) (now (noise .entry)) (now (masks .entry))) n (matrix p (vkSeed p (now (vk .entry)))) (some (keyIn p (now (work .entry))))) (now (out .entry)) ⌝ }
+    ensures { λ r. ⌜ answer (r .status) (r .attempts) (now (out .exit))
+        ≡ answerIn
+        (signMade p (now (vk .entry)) (now (msg .entry)) (coinsLent explicit (seeds .entry) (noise .entry) (masks .entry)) n
+        (matrix p (vkSeed p (now (vk .entry)))) (some (keyIn p (now (work .entry)))))
+        (now (out .entry)) ⌝ }
 {
     let e = p.kappa / 8;
     let b = p.kappa / 4;
@@ -170,12 +182,11 @@ fn sign_loaded(
 // Signing behind checks 1 to 9: check 10 of the share seeds, then the rest. The work buffer is zero afterwards.
 fn sign_with(
     p: Params,
-    packed: bool,
+    f: Forms,
     key: &[u8],
     words: &[u64],
     n: usize,
     msg: &[u8],
-    explicit: bool,
     seeds: &[u8],
     noise: &[u64],
     masks: &[u8],
@@ -183,26 +194,19 @@ fn sign_with(
     work: &mut [u64],
 ) -> Signed
     requires { ⌜ Tabled p ⌝ }
-    requires { ⌜ signNo p (keyFrom packed (now key) (now words)) n (now msg) (coinsOf explicit (now seeds) (now noise) (now masks)) (now out) (now work) ≡ 0 ⌝ }
-    ensures { λ r. ⌜ signing (r .status) (r .attempts) (now (out .exit)) (now (work .exit)) ≡ signedWith p (keyFrom packed (now (key .entry)) (now (words .entry))) n (now (msg .entry)) (coinsOf explicit (now (seeds .entry)) (now (noise .entry)) (now (masks .entry))) (now (out .entry)) (now (work .entry)) ⌝ }
+    requires { ⌜ signNo p (keyLent (f .packed) key words) n (now msg) (coinsLent (f .explicit) seeds noise masks) (now out) (now work)
+        ≡ 0 ⌝ }
+    ensures { λ r. ⌜ signing (r .status) (r .attempts) (now (out .exit)) (now (work .exit))
+        ≡ signedWith p (keyLent (f .packed) (key .entry) (words .entry)) n (now (msg .entry))
+        (coinsLent (f .explicit) (seeds .entry) (noise .entry) (masks .entry)) (now (out .entry)) (now (work .entry)) ⌝ }
 {
     let e = p.vk_bytes;
-    if !load_shares(work, p, packed, key, words) {
+    if !load_shares(work, p, f.packed, key, words) {
         clear(work);
         return reported(10, 0);
     }
-    let r = sign_loaded(
-        work,
-        p,
-        &key[0..e],
-        msg,
-        explicit,
-        seeds,
-        noise,
-        masks,
-        n,
-        out,
-    );
+    let x = f.explicit;
+    let r = sign_loaded(work, p, &key[0..e], msg, x, seeds, noise, masks, n, out);
     clear(work);
     r
 }
@@ -210,12 +214,11 @@ fn sign_with(
 // Signing with a record of the table: checks 3 to 9, and what follows. The work buffer is zero after 9 and as it was after those before.
 fn sign_found(
     p: Params,
-    attempts: u64,
-    packed: bool,
+    f: Forms,
     key: &[u8],
     words: &[u64],
+    n: u64,
     msg: &[u8],
-    explicit: bool,
     seeds: &[u8],
     noise: &[u64],
     masks: &[u8],
@@ -223,38 +226,14 @@ fn sign_found(
     work: &mut [u64],
 ) -> Signed
     requires { ⌜ Tabled p ⌝ }
-    ensures { λ r. ⌜ signing (r .status) (r .attempts) (now (out .exit)) (now (work .exit)) ≡ signedFound p (keyFrom packed (now (key .entry)) (now (words .entry))) attempts (now (msg .entry)) (coinsOf explicit (now (seeds .entry)) (now (noise .entry)) (now (masks .entry))) (now (out .entry)) (now (work .entry)) ⌝ }
+    ensures { λ r. ⌜ signing (r .status) (r .attempts) (now (out .exit)) (now (work .exit))
+        ≡ signedFound p (keyLent (f .packed) (key .entry) (words .entry)) n (now (msg .entry))
+        (coinsLent (f .explicit) (seeds .entry) (noise .entry) (masks .entry)) (now (out .entry)) (now (work .entry)) ⌝ }
 {
-    let k = sign_no(
-        p,
-        packed,
-        key,
-        words,
-        attempts,
-        msg,
-        explicit,
-        seeds,
-        noise,
-        masks,
-        out,
-        work,
-    );
+    let k = sign_no(p, f, key, words, n, msg, seeds, noise, masks, out, work);
     if k == 0 {
-        let n = attempts as usize;
-        return sign_with(
-            p,
-            packed,
-            key,
-            words,
-            n,
-            msg,
-            explicit,
-            seeds,
-            noise,
-            masks,
-            out,
-            work,
-        );
+        let m = n as usize;
+        return sign_with(p, f, key, words, m, msg, seeds, noise, masks, out, work);
     }
     if k > 8 {
         clear(work);
@@ -270,19 +249,20 @@ fn sign_any(
     set: u64,
     shares: u64,
     edition: Edition,
-    attempts: u64,
-    packed: bool,
+    f: Forms,
     key: &[u8],
     words: &[u64],
+    n: u64,
     msg: &[u8],
-    explicit: bool,
     seeds: &[u8],
     noise: &[u64],
     masks: &[u8],
     out: &mut [u8],
     work: &mut [u64],
 ) -> Signed
-    ensures { λ r. ⌜ signing (r .status) (r .attempts) (now (out .exit)) (now (work .exit)) ≡ signCall edition set shares (keyFrom packed (now (key .entry)) (now (words .entry))) attempts (now (msg .entry)) (coinsOf explicit (now (seeds .entry)) (now (noise .entry)) (now (masks .entry))) (now (out .entry)) (now (work .entry)) ⌝ }
+    ensures { λ r. ⌜ signing (r .status) (r .attempts) (now (out .exit)) (now (work .exit))
+        ≡ signCall edition set shares (keyLent (f .packed) (key .entry) (words .entry)) n (now (msg .entry))
+        (coinsLent (f .explicit) (seeds .entry) (noise .entry) (masks .entry)) (now (out .entry)) (now (work .entry)) ⌝ }
 {
     match lookup(set, shares, edition) {
         Selected::NoSet => Signed {
@@ -293,20 +273,9 @@ fn sign_any(
             status: 2,
             attempts: 0,
         },
-        Selected::Found(p) => sign_found(
-            p,
-            attempts,
-            packed,
-            key,
-            words,
-            msg,
-            explicit,
-            seeds,
-            noise,
-            masks,
-            out,
-            work,
-        ),
+        Selected::Found(p) => {
+            sign_found(p, f, key, words, n, msg, seeds, noise, masks, out, work)
+        }
     }
 }
 
@@ -323,19 +292,24 @@ pub fn sign(
     signature_out: &mut [u8],
     work: &mut [u64],
 ) -> Signed
-    ensures { λ r. ⌜ signing (r .status) (r .attempts) (now («signature_out» .exit)) (now (work .exit)) ≡ signCall edition set shares (packed (now (key .entry))) attempts (now (message .entry)) (record { explicit = false; noise = now («noise_seeds» .entry); masks = now («mask_seeds» .entry) }) (now («signature_out» .entry)) (now (work .entry)) ⌝ }
+    ensures { λ r. ⌜ signing (r .status) (r .attempts) (now («signature_out» .exit)) (now (work .exit))
+        ≡ signCall edition set shares (packed (now (key .entry))) attempts (now (message .entry))
+        (fromSeeds (now («noise_seeds» .entry)) (now («mask_seeds» .entry))) (now («signature_out» .entry)) (now (work .entry)) ⌝ }
 {
     let none = [0u64; 0];
+    let f = Forms {
+        packed: true,
+        explicit: false,
+    };
     sign_any(
         set,
         shares,
         edition,
-        attempts,
-        true,
+        f,
         key,
         &none,
+        attempts,
         message,
-        false,
         noise_seeds,
         &none,
         mask_seeds,
@@ -357,20 +331,25 @@ pub fn sign_explicit(
     signature_out: &mut [u8],
     work: &mut [u64],
 ) -> Signed
-    ensures { λ r. ⌜ signing (r .status) (r .attempts) (now («signature_out» .exit)) (now (work .exit)) ≡ signCall edition set shares (packed (now (key .entry))) attempts (now (message .entry)) (record { explicit = true; noise = now («noise_words» .entry); masks = now («mask_seeds» .entry) }) (now («signature_out» .entry)) (now (work .entry)) ⌝ }
+    ensures { λ r. ⌜ signing (r .status) (r .attempts) (now («signature_out» .exit)) (now (work .exit))
+        ≡ signCall edition set shares (packed (now (key .entry))) attempts (now (message .entry))
+        (fromNoise (now («noise_words» .entry)) (now («mask_seeds» .entry))) (now («signature_out» .entry)) (now (work .entry)) ⌝ }
 {
     let none = [0u64; 0];
     let unused = [0u8; 0];
+    let f = Forms {
+        packed: true,
+        explicit: true,
+    };
     sign_any(
         set,
         shares,
         edition,
-        attempts,
-        true,
+        f,
         key,
         &none,
+        attempts,
         message,
-        true,
         &unused,
         noise_words,
         mask_seeds,
@@ -393,19 +372,24 @@ pub fn sign_expanded(
     signature_out: &mut [u8],
     work: &mut [u64],
 ) -> Signed
-    ensures { λ r. ⌜ signing (r .status) (r .attempts) (now («signature_out» .exit)) (now (work .exit)) ≡ signCall edition set shares (expanded (record { vk = now (bytes .entry); words = now (words .entry) })) attempts (now (message .entry)) (record { explicit = false; noise = now («noise_seeds» .entry); masks = now («mask_seeds» .entry) }) (now («signature_out» .entry)) (now (work .entry)) ⌝ }
+    ensures { λ r. ⌜ signing (r .status) (r .attempts) (now («signature_out» .exit)) (now (work .exit))
+        ≡ signCall edition set shares (expanded (expandedIn (now (bytes .entry)) (now (words .entry)))) attempts (now (message .entry))
+        (fromSeeds (now («noise_seeds» .entry)) (now («mask_seeds» .entry))) (now («signature_out» .entry)) (now (work .entry)) ⌝ }
 {
     let none = [0u64; 0];
+    let f = Forms {
+        packed: false,
+        explicit: false,
+    };
     sign_any(
         set,
         shares,
         edition,
-        attempts,
-        false,
+        f,
         bytes,
         words,
+        attempts,
         message,
-        false,
         noise_seeds,
         &none,
         mask_seeds,
@@ -428,19 +412,24 @@ pub fn sign_expanded_explicit(
     signature_out: &mut [u8],
     work: &mut [u64],
 ) -> Signed
-    ensures { λ r. ⌜ signing (r .status) (r .attempts) (now («signature_out» .exit)) (now (work .exit)) ≡ signCall edition set shares (expanded (record { vk = now (bytes .entry); words = now (words .entry) })) attempts (now (message .entry)) (record { explicit = true; noise = now («noise_words» .entry); masks = now («mask_seeds» .entry) }) (now («signature_out» .entry)) (now (work .entry)) ⌝ }
+    ensures { λ r. ⌜ signing (r .status) (r .attempts) (now («signature_out» .exit)) (now (work .exit))
+        ≡ signCall edition set shares (expanded (expandedIn (now (bytes .entry)) (now (words .entry)))) attempts (now (message .entry))
+        (fromNoise (now («noise_words» .entry)) (now («mask_seeds» .entry))) (now («signature_out» .entry)) (now (work .entry)) ⌝ }
 {
     let unused = [0u8; 0];
+    let f = Forms {
+        packed: false,
+        explicit: true,
+    };
     sign_any(
         set,
         shares,
         edition,
-        attempts,
-        false,
+        f,
         bytes,
         words,
+        attempts,
         message,
-        true,
         &unused,
         noise_words,
         mask_seeds,

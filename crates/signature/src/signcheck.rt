@@ -1,7 +1,7 @@
 // The checks of signing behind the look-up (01: 3 to 9): the number of the first no, or 0.
 ghost use mathlib.Core.Path.{_≡_};
 ghost use Prim.Native.Nat.{_≤_};
-ghost use Rattle.signature.specs.AttemptSteps.{keyFrom, coinsOf};
+ghost use Rattle.signature.specs.AttemptSteps.{keyLent, coinsLent};
 ghost use Rattle.signature.specs.Checks.{firstNo, keyChecks};
 ghost use Rattle.signature.specs.SignCalls.{coinsGood, callChecks};
 ghost use Rattle.signature.specs.SignSteps.{signNo};
@@ -13,10 +13,16 @@ use hash::params::Params;
 use ring::poly::Q;
 use ring::poly::all_below;
 
+// The forms of what a call is lent: a signing key or an expanded key, explicit noise or seeds of noise.
+pub(crate) struct Forms {
+    pub packed: bool,
+    pub explicit: bool,
+}
+
 // Checks 3 to 5, of a key of either form.
 fn key_no(p: Params, packed: bool, key: &[u8], words: &[u64]) -> u32
     requires { ⌜ Tabled p ⌝ }
-    ensures { λ r. ⌜ r ≡ firstNo (keyChecks p (keyFrom packed (now (key .entry)) (now (words .entry)))) ⌝ }
+    ensures { λ r. ⌜ r ≡ firstNo (keyChecks p (keyLent packed (key .entry) (words .entry))) ⌝ }
 {
     if packed {
         return packed_no(p, key);
@@ -34,7 +40,7 @@ fn coins_good(
     masks: &[u8],
 ) -> bool
     requires { ⌜ Tabled p × (n ≤ 16) ⌝ }
-    ensures { λ r. ⌜ r ≡ coinsGood p n (coinsOf explicit (now (seeds .entry)) (now (noise .entry)) (now (masks .entry))) ⌝ }
+    ensures { λ r. ⌜ r ≡ coinsGood p n (coinsLent explicit (seeds .entry) (noise .entry) (masks .entry)) ⌝ }
 {
     if masks.len() != n * 32 {
         return false;
@@ -62,7 +68,10 @@ fn call_no(
     work: &[u64],
 ) -> u32
     requires { ⌜ Tabled p ⌝ }
-    ensures { λ r. ⌜ r ≡ firstNo (callChecks p attempts (now (msg .entry)) (coinsOf explicit (now (seeds .entry)) (now (noise .entry)) (now (masks .entry))) (now (out .entry)) (now (work .entry))) ⌝ }
+    ensures { λ r. ⌜ r
+        ≡ firstNo
+        (callChecks p attempts (now (msg .entry)) (coinsLent explicit (seeds .entry) (noise .entry) (masks .entry)) (now (out .entry))
+        (now (work .entry))) ⌝ }
 {
     if attempts < 1 {
         return 6;
@@ -88,12 +97,11 @@ fn call_no(
 // Checks 3 to 9.
 pub(crate) fn sign_no(
     p: Params,
-    packed: bool,
+    f: Forms,
     key: &[u8],
     words: &[u64],
-    attempts: u64,
+    n: u64,
     msg: &[u8],
-    explicit: bool,
     seeds: &[u8],
     noise: &[u64],
     masks: &[u8],
@@ -101,11 +109,13 @@ pub(crate) fn sign_no(
     work: &[u64],
 ) -> u32
     requires { ⌜ Tabled p ⌝ }
-    ensures { λ r. ⌜ r ≡ signNo p (keyFrom packed (now (key .entry)) (now (words .entry))) attempts (now (msg .entry)) (coinsOf explicit (now (seeds .entry)) (now (noise .entry)) (now (masks .entry))) (now (out .entry)) (now (work .entry)) ⌝ }
+    ensures { λ r. ⌜ r
+        ≡ signNo p (keyLent (f .packed) (key .entry) (words .entry)) n (now (msg .entry))
+        (coinsLent (f .explicit) (seeds .entry) (noise .entry) (masks .entry)) (now (out .entry)) (now (work .entry)) ⌝ }
 {
-    let k = key_no(p, packed, key, words);
+    let k = key_no(p, f.packed, key, words);
     if k != 0 {
         return k;
     }
-    call_no(p, attempts, msg, explicit, seeds, noise, masks, out, work)
+    call_no(p, n, msg, f.explicit, seeds, noise, masks, out, work)
 }

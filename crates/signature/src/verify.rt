@@ -60,7 +60,9 @@ fn adjust_rows(
     requires { ⌜ (length (now t) ≡ k * 512) × Below 125 (now t) × (length (now hint) ≡ k * 512) × (length (now w) ≡ k * 512) ⌝ }
     requires { ⌜ ((i : ℕ) → i < length (now hint) → natAbs (getD (now hint) i (pos 0)) < 31) ⌝ }
     ensures { λ r. ⌜ r ≡ filled (matrixOf k l (now (seed .entry))) ⌝ }
-    ensures { λ r. ⌜ (r ≡ true → now (w .exit) ≡ adjustedRows k l (now (seed .entry)) (span (now (s .entry)) 512 (l * 512)) c (now (t .entry)) (now (hint .entry))) ⌝ }
+    ensures { λ r. ⌜ (r ≡ true
+        → now (w .exit)
+        ≡ adjustedRows k l (now (seed .entry)) (span (now (s .entry)) 512 (l * 512)) c (now (t .entry)) (now (hint .entry))) ⌝ }
 {
     let mut a = [0u64; 3584];
     for i in 0..k {
@@ -80,7 +82,8 @@ fn adjust_rows(
 fn place(z: &[i64], l: usize, s: &mut [u64])
     requires { ⌜ (512 + l * 512 ≤ length (now s)) × Below q (now s) × (length (now z) ≡ l * 512) ⌝ }
     requires { ⌜ ((i : ℕ) → i < length (now z) → natAbs (getD (now z) i (pos 0)) < q) ⌝ }
-    ensures { λ _. ⌜ (span (now (s .exit)) 512 (l * 512) ≡ transformed l (residues q (now (z .entry)))) × (length (now (s .exit)) ≡ length (now (s .entry))) × Below q (now (s .exit)) ⌝ }
+    ensures { λ _. ⌜ (span (now (s .exit)) 512 (l * 512) ≡ transformed l (residues q (now (z .entry))))
+        × (length (now (s .exit)) ≡ length (now (s .entry))) × Below q (now (s .exit)) ⌝ }
 {
     let b = 512 + l * 512;
     residues_into(z, Q, &mut s[512..b]);
@@ -94,7 +97,10 @@ fn recompute(p: Params, vk: &[u8], hint: &[i64], z: &[i64], c: [i8; 512], w: &mu
     requires { ⌜ ((i : ℕ) → i < length (now hint) → natAbs (getD (now hint) i (pos 0)) < 31) ⌝ }
     requires { ⌜ ((i : ℕ) → i < length (now z) → natAbs (getD (now z) i (pos 0)) < q) ⌝ }
     ensures { λ r. ⌜ r ≡ filled (matrix p (vkSeed p (now (vk .entry)))) ⌝ }
-    ensures { λ r. ⌜ ((A : List ℕ) → matrix p (vkSeed p (now (vk .entry))) ≡ some A → now (w .exit) ≡ adjusted (recovered p A (residues q (now (z .entry))) (residues q c) (vkVector p (now (vk .entry)))) (now (hint .entry))) ⌝ }
+    ensures { λ r. ⌜ ((A : List ℕ)
+        → matrix p (vkSeed p (now (vk .entry))) ≡ some A
+        → now (w .exit)
+        ≡ adjusted (recovered p A (residues q (now (z .entry))) (residues q c) (vkVector p (now (vk .entry)))) (now (hint .entry))) ⌝ }
 {
     let k = p.k;
     let l = p.l;
@@ -143,7 +149,9 @@ fn verify_hash(p: Params, vk: &[u8], msg: &[u8], hash: &[u8], hint: &[i64], z: &
     requires { ⌜ (length (now hint) ≡ p .k * 512) × (length (now z) ≡ p .l * 512) ⌝ }
     requires { ⌜ ((i : ℕ) → i < length (now hint) → natAbs (getD (now hint) i (pos 0)) < 31) ⌝ }
     requires { ⌜ ((i : ℕ) → i < length (now z) → natAbs (getD (now z) i (pos 0)) < q) ⌝ }
-    ensures { λ r. ⌜ r ≡ firstNo (hashChecks p (now (vk .entry)) (now (msg .entry)) (fieldsOf (now (hash .entry)) (now (hint .entry)) (now (z .entry)))) ⌝ }
+    ensures { λ r. ⌜ r
+        ≡ firstNo
+        (hashChecks p (now (vk .entry)) (now (msg .entry)) (fieldsOf (now (hash .entry)) (now (hint .entry)) (now (z .entry)))) ⌝ }
 {
     let k = p.k;
     let edition = p.edition;

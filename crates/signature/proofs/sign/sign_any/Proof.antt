@@ -1,5 +1,5 @@
 use mathlib.Core.Path.{sym, _∙_}
-use Rattle.signature.specs.AttemptSteps.{keyFrom, coinsOf}
+use Rattle.signature.specs.AttemptSteps.{keyLent, coinsLent}
 use Rattle.signature.proofs.Listing.{tabled}
 use Rattle.signature.proofs.SignEnds.{sign-no-set, sign-no-shares, sign-on}
 use borrow.Author.Needs.{needs}
@@ -16,20 +16,20 @@ sign-found-requires c κs =
 returns : tie.Need-returns
 returns c =
     let a = c .before .before .before .before .before .before .before .before .before .before .before .args in
-    sign-no-set (a .edition) (a .set) (a .shares) (keyFrom (a .packed) (a .key .now) (a .words .now)) (a .attempts) (a .msg .now) (coinsOf (a .explicit) (a .seeds .now) (a .noise .now) (a .masks .now)) (a .out .now) (a .work .now)
+    sign-no-set (a .edition) (a .set) (a .shares) (keyLent (a .f .packed) (a .key) (a .words)) (a .n) (a .msg .now) (coinsLent (a .f .explicit) (a .seeds) (a .noise) (a .masks)) (a .out .now) (a .work .now)
     (sym (c .before .before .lookup .ensures) ∙ c .enum-told .given .1)
 
 returns-2 : tie.Need-returns-2
 returns-2 c =
     let a = c .before .before .before .before .before .before .before .before .before .before .before .args in
-    sign-no-shares (a .edition) (a .set) (a .shares) (keyFrom (a .packed) (a .key .now) (a .words .now)) (a .attempts) (a .msg .now) (coinsOf (a .explicit) (a .seeds .now) (a .noise .now) (a .masks .now)) (a .out .now) (a .work .now)
+    sign-no-shares (a .edition) (a .set) (a .shares) (keyLent (a .f .packed) (a .key) (a .words)) (a .n) (a .msg .now) (coinsLent (a .f .explicit) (a .seeds) (a .noise) (a .masks)) (a .out .now) (a .work .now)
     (sym (c .before .before .lookup .ensures) ∙ c .enum-told2 .given .1)
 
 returns-3 : tie.Need-returns-3
 returns-3 c =
     let a = c .before .before .before .before .before .before .before .before .before .before .before .before .before .before .before .before .before .before .before .args in
     c .before .before .before .before .sign-found .ensures
-    ∙ sign-on (a .edition) (a .set) (a .shares) (keyFrom (a .packed) (a .key .now) (a .words .now)) (a .attempts) (a .msg .now) (coinsOf (a .explicit) (a .seeds .now) (a .noise .now) (a .masks .now)) (a .out .now) (a .work .now)
+    ∙ sign-on (a .edition) (a .set) (a .shares) (keyLent (a .f .packed) (a .key) (a .words)) (a .n) (a .msg .now) (coinsLent (a .f .explicit) (a .seeds) (a .noise) (a .masks)) (a .out .now) (a .work .now)
     (c .before .before .before .before .before .before .before .before .p .given .0 .0) (sym (c .before .before .before .before .before .before .before .before .before .before .lookup .ensures) ∙ c .before .before .before .before .before .before .before .before .p .given .1)
 
 pub sign-any-spec : {M : Type 1} → statement M

@@ -6,7 +6,7 @@ use lib.ListN.{length}
 use borrow.Author.Tests.{not-true, not-false}
 use Rattle.ring.specs.Uniform.{heldOf}
 use Rattle.ring.specs.Words.{Below}
-use Rattle.signature.specs.AttemptSteps.{keyFrom, coinsOf, keyIn}
+use Rattle.signature.specs.AttemptSteps.{keyLent, coinsLent, keyIn}
 use Rattle.signature.specs.Keys.{vkVector, sharesOf}
 use Rattle.signature.specs.Outcome.{signing}
 use Rattle.ring.proofs.Filled.{filled-some}
@@ -20,7 +20,7 @@ load-shares-requires : tie.Need-load-shares-requires
 load-shares-requires c κs =
     let a = c .before .before .before .before .before .before .before .before .before in
     let b = a .args in
-    let g = signable (b .p) (keyFrom (b .packed) (b .key .now) (b .words .now)) (b .n) (b .msg .now) (coinsOf (b .explicit) (b .seeds .now) (b .noise .now) (b .masks .now)) (b .out .now) (b .work .now) (a .pre .1) in
+    let g = signable (b .p) (keyLent (b .f .packed) (b .key) (b .words)) (b .n) (b .msg .now) (coinsLent (b .f .explicit) (b .seeds) (b .noise) (b .masks)) (b .out .now) (b .work .now) (a .pre .1) in
     ((a .pre .0, g .work-long), (g .sized, g .low))
 
 returns : tie.Need-returns
@@ -29,25 +29,25 @@ returns c =
     let z = c .before .before .before .before .before .before .before .before .load-shares .ensures in
     let r = c .reported .ensures in
     ap (signing _ _ (b .out .now)) (c .before .before .before .clear .ensures)
-    ∙ end-unfilled (b .p) (keyFrom (b .packed) (b .key .now) (b .words .now)) (b .msg .now) (coinsOf (b .explicit) (b .seeds .now) (b .noise .now) (b .masks .now)) (b .n) (b .out .now) (b .work .now)
+    ∙ end-unfilled (b .p) (keyLent (b .f .packed) (b .key) (b .words)) (b .msg .now) (coinsLent (b .f .explicit) (b .seeds) (b .noise) (b .masks)) (b .n) (b .out .now) (b .work .now)
     (c .before .before .before .before .before .before .before .before .load-shares .last .0) (z .0 .1) (sym (z .0 .0) ∙ not-true _ (c .before .before .before .before .before .if1 .taken)) _ _ (r .0) (r .1)
 
 part-sign-loaded-end : tie.Need-part-sign-loaded-end
 part-sign-loaded-end c =
     let a = c .before .before .before .before .before .before .before .before .before .before .before .before .before .before in
     let b = a .args in
-    let g = signable (b .p) (keyFrom (b .packed) (b .key .now) (b .words .now)) (b .n) (b .msg .now) (coinsOf (b .explicit) (b .seeds .now) (b .noise .now) (b .masks .now)) (b .out .now) (b .work .now) (a .pre .1) in
-    public-in (b .p) (a .pre .0) (b .key .now) (b .words .now) (b .packed) (g .sized)
+    let g = signable (b .p) (keyLent (b .f .packed) (b .key) (b .words)) (b .n) (b .msg .now) (coinsLent (b .f .explicit) (b .seeds) (b .noise) (b .masks)) (b .out .now) (b .work .now) (a .pre .1) in
+    public-in (b .p) (a .pre .0) (b .key .now) (b .words .now) (b .f .packed) (g .sized)
 
 sign-loaded-requires : tie.Need-sign-loaded-requires
 sign-loaded-requires c κs =
     let a = c .before .before .before .before .before .before .before .before .before .before .before .before .before .before .before .before in
     let b = a .args in
-    let g = signable (b .p) (keyFrom (b .packed) (b .key .now) (b .words .now)) (b .n) (b .msg .now) (coinsOf (b .explicit) (b .seeds .now) (b .noise .now) (b .masks .now)) (b .out .now) (b .work .now) (a .pre .1) in
+    let g = signable (b .p) (keyLent (b .f .packed) (b .key) (b .words)) (b .n) (b .msg .now) (coinsLent (b .f .explicit) (b .seeds) (b .noise) (b .masks)) (b .out .now) (b .work .now) (a .pre .1) in
     let z = c .before .before .before .before .before .before .load-shares .ensures in
-    let e = public-front (b .p) (a .pre .0) (b .key .now) (b .words .now) (b .packed) (g .sized) in
-    let n = public-long (b .p) (a .pre .0) (b .key .now) (b .words .now) (b .packed) (g .sized) in
-    let v = public-good (b .p) (a .pre .0) (b .key .now) (b .words .now) (b .packed) (g .sized) (g .good) in (
+    let e = public-front (b .p) (a .pre .0) (b .key .now) (b .words .now) (b .f .packed) (g .sized) in
+    let n = public-long (b .p) (a .pre .0) (b .key .now) (b .words .now) (b .f .packed) (g .sized) in
+    let v = public-good (b .p) (a .pre .0) (b .key .now) (b .words .now) (b .f .packed) (g .sized) (g .good) in (
       (a .pre .0, z .0 .1 ∙ g .work-long, z .0 .2),
       (
         (ap (λ (l : List ℕ). length l) e ∙ n, subst (λ (l : List ℕ). Below 125 (vkVector (b .p) l)) (sym e) v, g .out-long),
@@ -60,14 +60,14 @@ returns-2 c =
     let a = c .before .before .before .before .before .before .before .before .before .before .before .before .before .before .before .before .before .before .before .before .before .before .before .before .before in
     let b = a .args in
     let p = b .p in
-    let K = keyFrom (b .packed) (b .key .now) (b .words .now) in
-    let T = coinsOf (b .explicit) (b .seeds .now) (b .noise .now) (b .masks .now) in
+    let K = keyLent (b .f .packed) (b .key) (b .words) in
+    let T = coinsLent (b .f .explicit) (b .seeds) (b .noise) (b .masks) in
     let g = signable p K (b .n) (b .msg .now) T (b .out .now) (b .work .now) (a .pre .1) in
     let w = c .before .before .before .before .before .before .before .before .before .before .before .before .before .before .before .load-shares in
     let z = w .ensures in
     let f = filled-some (sharesOf p K) (sym (z .0 .0) ∙ not-false _ (c .before .before .before .before .before .before .before .before .before .before .before .before .if1 .left)) in
     let x = z .1 (heldOf (sharesOf p K) .poly) f in
-    let e = public-front p (a .pre .0) (b .key .now) (b .words .now) (b .packed) (g .sized) in
+    let e = public-front p (a .pre .0) (b .key .now) (b .words .now) (b .f .packed) (g .sized) in
     let r = c .before .before .before .before .before .before .before .before .sign-loaded in
     ap (signing _ _ _) (c .before .before .clear2 .ensures)
     ∙ end-made p K (b .msg .now) T (b .n) (b .out .now) (b .work .now) (r .last .0) (r .ensures .0 ∙ z .0 .1)
