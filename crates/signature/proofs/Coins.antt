@@ -29,9 +29,9 @@ use Rattle.signature.specs.SignCalls.{coinsGood}
 use Rattle.signature.specs.Table.{Tabled}
 use Rattle.signature.proofs.Sizes.{coins-low}
 
--- a part of n words from a n on
-pub part-long : (n a : ℕ) (xs : List ℕ) → a * n + n ≤ length xs → length (take (a * n + n - a * n) (drop (a * n) xs)) ≡ n
-part-long n a xs h = let e : a * n + n - a * n ≡ n = omega arith in rw e (length-span xs (a * n) n h)
+-- a part of n words from b on
+pub part-long : (n b : ℕ) (xs : List ℕ) → b + n ≤ length xs → length (take (b + n - b) (drop b xs)) ≡ n
+part-long n b xs h = let e : b + n - b ≡ n = omega arith in rw e (length-span xs b n h)
 
 -- the sizes are small numbers
 pub fits-mid : (x : ℕ) → x ≤ 4294967296 → Fits w64 x

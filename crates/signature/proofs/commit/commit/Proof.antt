@@ -57,7 +57,7 @@ commit-explicit-requires c κs =
     let h = a .pre .0 in
     let n = (p .l + p .k) * p .shares * 512 in
     let e = c .before .before .if1 .taken in
-    (h .0, h .1, h .2, part-long n (b .i) (b .words .now) (explicit-long p (b .seeds .now) (b .words .now) (b .mask-seeds .now) (b .i) (b .explicit) e (a .pre .1)), below-part (b .i * n + n - b .i * n) (b .i * n) (b .words .now) (explicit-low p (b .seeds .now) (b .words .now) (b .mask-seeds .now) (b .i) (b .explicit) e (a .pre .1)), h .3)
+    (h .0, h .1, h .2, part-long n (b .i * n) (b .words .now) (explicit-long p (b .seeds .now) (b .words .now) (b .mask-seeds .now) (b .i) (b .explicit) e (a .pre .1)), below-part (b .i * n + n - b .i * n) (b .i * n) (b .words .now) (explicit-low p (b .seeds .now) (b .words .now) (b .mask-seeds .now) (b .i) (b .explicit) e (a .pre .1)), h .3)
 
 returns : tie.Need-returns
 returns c =
@@ -98,7 +98,8 @@ part-commit-seeds-end : tie.Need-part-commit-seeds-end
 part-commit-seeds-end c =
     let a = c .before .before .before .before .before .before .before .before .before .before .before .before .before in
     let b = a .args in
-    seeds-long (b .p) (b .seeds .now) (b .words .now) (b .mask-seeds .now) (b .i) (b .explicit) (c .before .before .before .if1 .left) (a .pre .1)
+    let l = seeds-long (b .p) (b .seeds .now) (b .words .now) (b .mask-seeds .now) (b .i) (b .explicit) (c .before .before .before .if1 .left) (a .pre .1) in
+    omega (arith, l)
 
 commit-seeds-requires : tie.Need-commit-seeds-requires
 commit-seeds-requires c κs =
@@ -106,7 +107,9 @@ commit-seeds-requires c κs =
     let b = a .args in
     let p = b .p in
     let h = a .pre .0 in
-    (h .0, h .1, h .2, part-long ((p .l + p .k) * p .shares * p .rep * (p .kappa / 8)) (b .i) (b .seeds .now) (seeds-long p (b .seeds .now) (b .words .now) (b .mask-seeds .now) (b .i) (b .explicit) (c .before .before .before .before .if1 .left) (a .pre .1)) ∙ sym (noise-bytes p), h .3)
+    let n = (p .l + p .k) * p .shares * p .rep * (p .kappa / 8) in
+    let l = seeds-long p (b .seeds .now) (b .words .now) (b .mask-seeds .now) (b .i) (b .explicit) (c .before .before .before .before .if1 .left) (a .pre .1) in
+    (h .0, h .1, h .2, part-long n _ (b .seeds .now) (omega (arith, l)) ∙ sym (noise-bytes p), h .3)
 
 returns-2 : tie.Need-returns-2
 returns-2 c =
