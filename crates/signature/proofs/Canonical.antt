@@ -10,25 +10,24 @@ use native.Mathlib.Decide.{decLt}
 use lib.Arith.{digits-lt}
 use lib.Dec.{lit<, leb}
 use lib.IntN.{ℤ, pos, natAbs}
-use lib.ListN.{length, getD, take, drop, replicate, length-append, length-take, length-drop, length-replicate, take-append-drop, List·getD-eq-default}
+use lib.ListN.{length, getD, take, drop, replicate, length-append, length-take, length-replicate, take-append-drop, List·getD-eq-default}
 use lib.Pow.{split, pow-pos, pow-add, pow-mono}
 use lib.Seq.{take-at, drop-at, length-take-le}
 use borrow.Author.Tests.{le-leb, lt-leb, leb-true}
 use Rattle.hash.specs.Lists.{pick, Bytes}
 use Rattle.hash.specs.declared.params.Params.{Params}
 use Rattle.signature.specs.Bits.{bitsOf, valOf, bitString, chop}
-use Rattle.signature.specs.Code.{negOf, signs, codeOf, code, codes, codesBits, readCodes}
-use Rattle.signature.specs.Form.{Fields, hashBytes, formBits, bitCount, write, read}
-use Rattle.signature.specs.AnswerSteps.{fieldsOf, allZero, parsed}
+use Rattle.signature.specs.Code.{negOf, signs, codeOf, code, codes, codesBits}
+use Rattle.signature.specs.Form.{Fields, hashBytes, formBits, bitCount, withFill, write, readBoth, read}
+use Rattle.signature.specs.AnswerSteps.{fieldsOf, allZero}
 use Rattle.signature.proofs.Strings.{Bits, bits-drop, bits-join, are-bits, fields-bits, length-bits, length-fields}
 use Rattle.signature.proofs.Packing.{val-bits, chop-fields, fields-append, length-chop, fields-chop, bytes-lt}
 use Rattle.signature.proofs.Codes.{neg-lt, code-length}
 use Rattle.signature.proofs.Lists.{codes-room}
-use Rattle.signature.proofs.Whole.{trips, canons}
 use Rattle.signature.proofs.Filled.{zeros-are, are-zeros, bits-length}
-use Rattle.signature.proofs.Parsed.{parsed-both, parsed-some}
+use Rattle.signature.proofs.Reading.{both-trip, both-canon, ZeroFilled}
 
--- ---- the bits of the bitString are 0 and 1
+-- ---- the bits of the fields are 0 and 1
 
 bits-replicate : (n b : ℕ) → b < 2 → Bits (replicate n b)
 bits-replicate zero b h i = lit< tt
@@ -80,10 +79,6 @@ chop-front w (x ∷ xs) r h =
 
 -- ---- the writer
 
--- the bitString and n bytes: the bits with their fill
-abbrev withFill : Fields → ℕ → List ℕ
-withFill f n = formBits f ++ replicate (8 * n - bitCount f) 0
-
 -- the count, as the code makes it
 pub count-is : (c : List ℕ) (h z : List ℤ) → 8 * length c + (codesBits 0 h + codesBits 40 z) ≡ bitCount (fieldsOf c h z)
 unfolding bitCount
@@ -127,25 +122,20 @@ module _ (p : Params) (f : Fields) (b : List ℕ) where
 -- ---- the reader, by what the two lists give
 
 module _ (p : Params) (b : List ℕ) where
-  abbrev behind : List ℕ
+  abbrev pub behind : List ℕ
   behind = drop (8 * hashBytes p) (bitString 8 b)
 
-  read-no-hint : readCodes 0 (p .k * 512) behind ≡ none → read p b ≡ none
+  none-read : readBoth (p .k * 512) (p .l * 512) behind ≡ none → read p b ≡ none
   unfolding read
-  read-no-hint e = rw e
+  none-read e = rw e
 
-  module _ (h : List ℤ) (i : ℕ) (e : readCodes 0 (p .k * 512) behind ≡ some (h, i)) where
-    read-no-response : readCodes 40 (p .l * 512) (drop i behind) ≡ none → read p b ≡ none
-    unfolding read
-    read-no-response g = rw (e, g)
-
-    pub read-fields : (z : List ℤ) (j : ℕ) → readCodes 40 (p .l * 512) (drop i behind) ≡ some (z, j) → read p b ≡ some (fieldsOf (take (hashBytes p) b) h z)
-    unfolding read
-    read-fields z j g = rw (e, g)
+  read-fields : (h z : List ℤ) (k : ℕ) → readBoth (p .k * 512) (p .l * 512) behind ≡ some (h, z, k) → read p b ≡ some (fieldsOf (take (hashBytes p) b) h z)
+  unfolding read
+  read-fields h z k e = rw e
 
 -- ---- what is written is read back
 
--- bitString of the sizes of a set
+-- fields of the sizes of a set
 pub record Sized (p : Params) (f : Fields) : Type 0 where
   pub hash-long : length (f .hash) ≡ hashBytes p
   pub hash-bytes : Bytes (f .hash)
@@ -166,72 +156,53 @@ write-read p f b s e =
     let lf : length F ≡ 8 * H = length-fields 8 (f .hash) ∙ omega (arith, s .hash-long) in
     let t : drop (8 * H) (bitString 8 b) ≡ C ++ (D ++ Z) =
     ap (drop (8 * H)) (write-bits p f b e ∙ r) ∙ drop-at F (C ++ (D ++ Z)) (8 * H) lf in
-    let a : readCodes 0 (p .k * 512) (drop (8 * H) (bitString 8 b)) ≡ some (f .hint, length C) =
-    ap (readCodes 0 (p .k * 512)) t ∙ ap (λ (m : ℕ). readCodes 0 m (C ++ (D ++ Z))) (sym (s .hint-long)) ∙ trips 0 (f .hint) (D ++ Z) in
-    let u : drop (length C) (drop (8 * H) (bitString 8 b)) ≡ D ++ Z = ap (drop (length C)) t ∙ drop-at C (D ++ Z) (length C) refl in
-    let d : readCodes 40 (p .l * 512) (drop (length C) (drop (8 * H) (bitString 8 b))) ≡ some (f .response, length D) =
-    ap (readCodes 40 (p .l * 512)) u ∙ ap (λ (m : ℕ). readCodes 40 m (D ++ Z)) (sym (s .response-long)) ∙ trips 40 (f .response) Z in
+    let a : readBoth (p .k * 512) (p .l * 512) (drop (8 * H) (bitString 8 b)) ≡ some (f .hint, f .response, length C + length D) =
+    ap (readBoth (p .k * 512) (p .l * 512)) t ∙ ap (λ (m : ℕ). readBoth m (p .l * 512) (C ++ (D ++ Z))) (sym (s .hint-long))
+    ∙ ap (λ (m : ℕ). readBoth (length (f .hint)) m (C ++ (D ++ Z))) (sym (s .response-long)) ∙ both-trip (f .hint) (f .response) Z in
     let c : take H b ≡ f .hash =
     ap (take H) (o .1) ∙ take-chop 8 H n (withFill f n) (omega (arith, o .0, s .hash-long)) ∙ ap (λ (m : ℕ). chop 8 m (withFill f n)) (sym (s .hash-long))
     ∙ ap (chop 8 (length (f .hash))) r ∙ chop-front 8 (f .hash) (C ++ (D ++ Z)) (bytes-lt (f .hash) (s .hash-bytes)) in
-    read-fields p b (f .hint) (length C) a (f .response) (length D) d ∙ ap (λ (x : List ℕ). some (fieldsOf x (f .hint) (f .response))) c
+    read-fields p b (f .hint) (f .response) (length C + length D) a ∙ ap (λ (x : List ℕ). some (fieldsOf x (f .hint) (f .response))) c
 
 -- ---- what is read, and its bits
 
--- f was read from b: where the hint and the response end, counted from the hash
+-- f was read from b: where the lists end, counted from the hash
 pub record Found (p : Params) (b : List ℕ) (f : Fields) : Type 0 where
-  pub i : ℕ
-  pub j : ℕ
+  pub place : ℕ
   pub hash-is : take (hashBytes p) b ≡ f .hash
-  pub hint-is : readCodes 0 (p .k * 512) (drop (8 * hashBytes p) (bitString 8 b)) ≡ some (f .hint, i)
-  pub response-is : readCodes 40 (p .l * 512) (drop i (drop (8 * hashBytes p) (bitString 8 b))) ≡ some (f .response, j)
+  pub both-is : readBoth (p .k * 512) (p .l * 512) (behind p b) ≡ some (f .hint, f .response, place)
 
 pub read-found : (p : Params) (b : List ℕ) (f : Fields) → read p b ≡ some f → Found p b f
-read-found p b f e = go (readCodes 0 (p .k * 512) (drop (8 * hashBytes p) (bitString 8 b))) refl
+read-found p b f e = go (readBoth (p .k * 512) (p .l * 512) (behind p b)) refl
   where
-    go₂ : (h : List ℤ × ℕ) → readCodes 0 (p .k * 512) (drop (8 * hashBytes p) (bitString 8 b)) ≡ some h → (o : Option (List ℤ × ℕ))
-        → readCodes 40 (p .l * 512) (drop (h .1) (drop (8 * hashBytes p) (bitString 8 b))) ≡ o → Found p b f
-    go₂ h g none k = let n = read-no-response p b (h .0) (h .1) g k in let x : _≡_ {A = ℕ} 0 1 = cc in absurd (omega arith)
-    go₂ h g (some z) k =
-        let r = read-fields p b (h .0) (h .1) g (z .0) (z .1) k in
-        let q : fieldsOf (take (hashBytes p) b) (h .0) (z .0) ≡ f = cc in
-        record {
-          i = h .1;
-          j = z .1;
-          hash-is = ap (λ (x : Fields). x .hash) q;
-          hint-is = g ∙ ap (λ (x : Fields). some (x .hint, h .1)) q;
-          response-is = k ∙ ap (λ (x : Fields). some (x .response, z .1)) q;
-        }
+    go : (o : Option (List ℤ × List ℤ × ℕ)) → readBoth (p .k * 512) (p .l * 512) (behind p b) ≡ o → Found p b f
+    go none g = let n = none-read p b g in let x : _≡_ {A = ℕ} 0 1 = cc in absurd (omega arith)
+    go (some x) g =
+        let r = read-fields p b (x .0) (x .1) (x .2) g in
+        let q : fieldsOf (take (hashBytes p) b) (x .0) (x .1) ≡ f = cc in
+        record { place = x .2; hash-is = ap (λ (y : Fields). y .hash) q; both-is = g ∙ ap (λ (y : Fields). some (y .hint, y .response, x .2)) q }
 
-    go : (o : Option (List ℤ × ℕ)) → readCodes 0 (p .k * 512) (drop (8 * hashBytes p) (bitString 8 b)) ≡ o → Found p b f
-    go none g = let n = read-no-hint p b g in let x : _≡_ {A = ℕ} 0 1 = cc in absurd (omega arith)
-    go (some h) g = go₂ h g (readCodes 40 (p .l * 512) (drop (h .1) (drop (8 * hashBytes p) (bitString 8 b)))) refl
+behind-bits : (p : Params) (b : List ℕ) → Bits (behind p b)
+behind-bits p b = bits-drop (8 * hashBytes p) (bitString 8 b) (fields-bits 8 b)
 
 module _ (p : Params) (b : List ℕ) (f : Fields) (size : hashBytes p ≤ length b) (r : Found p b f) where
   abbrev fill : List ℕ
-  fill = drop (r .j) (drop (r .i) (drop (8 * hashBytes p) (bitString 8 b)))
+  fill = drop (r .place) (behind p b)
 
-  -- the bits of b are those of the bitString, and the fill
+  -- the bits of b are those of the fields, and the fill
   laid : bitString 8 b ≡ formBits f ++ fill
   unfolding formBits
   laid =
       let H = hashBytes p in
       let F = bitString 8 b in
-      let t = drop (8 * H) F in
-      let u = drop (r .i) t in
-      let all = fields-bits 8 b in
+      let t = behind p b in
       let lf : length (bitString 8 (take H b)) ≡ 8 * H = length-fields 8 (take H b) ∙ omega (arith, length-take-le H b size) in
       let s : F ≡ bitString 8 (take H b) ++ bitString 8 (drop H b) = ap (bitString 8) (sym (take-append-drop H b)) ∙ fields-append 8 (take H b) (drop H b) in
       let a : take (8 * H) F ≡ bitString 8 (f .hash) =
       ap (take (8 * H)) s ∙ take-at (bitString 8 (take H b)) (bitString 8 (drop H b)) (8 * H) lf ∙ ap (bitString 8) (r .hash-is) in
-      let c = (canons 0 (p .k * 512) t (f .hint) (r .i) (bits-drop (8 * H) F all) (r .hint-is)) .0 in
-      let d = (canons 40 (p .l * 512) u (f .response) (r .j) (bits-drop (r .i) t (bits-drop (8 * H) F all)) (r .response-is)) .0 in
-      let C = codes 0 (f .hint) in
-      let D = codes 40 (f .response) in
-      sym (append-assoc (bitString 8 (f .hash)) (C ++ D) fill
-      ∙ ap (λ (l : List ℕ). bitString 8 (f .hash) ++ l) (append-assoc C D fill
-      ∙ ap (λ (l : List ℕ). C ++ l) (ap (λ (l : List ℕ). l ++ fill) (sym d) ∙ take-append-drop (r .j) u)
-      ∙ ap (λ (l : List ℕ). l ++ u) (sym c) ∙ take-append-drop (r .i) t)
+      let c = both-canon (p .k * 512) (p .l * 512) t (f .hint) (f .response) (r .place) (behind-bits p b) (r .both-is) .0 in
+      sym (append-assoc (bitString 8 (f .hash)) (codes 0 (f .hint) ++ codes 40 (f .response)) fill
+      ∙ ap (λ (l : List ℕ). bitString 8 (f .hash) ++ l) (ap (λ (l : List ℕ). l ++ fill) (sym c) ∙ take-append-drop (r .place) t)
       ∙ ap (λ (l : List ℕ). l ++ t) (sym a) ∙ take-append-drop (8 * H) F)
 
   pub fill-is : drop (bitCount f) (bitString 8 b) ≡ fill
@@ -242,7 +213,7 @@ module _ (p : Params) (b : List ℕ) (f : Fields) (size : hashBytes p ≤ length
       let l = length-fields 8 b in
       omega (arith, ap length laid, length-append (formBits f) fill, bits-length (f .hash) (f .hint) (f .response))
 
-  -- check 14: b is the very string that the writer makes of the bitString read, exactly if every bit behind them is 0
+  -- check 14: b is the very string that the writer makes of the fields read, exactly if every bit behind them is 0
   module _ (long : length b ≡ p .«sig_bytes») where
     pub zero-canonical : Bytes b → allZero (drop (bitCount f) (bitString 8 b)) ≡ true → write p f ≡ some b
     zero-canonical byte z =
@@ -273,35 +244,31 @@ bytes-take (suc n) (x ∷ xs) b = (b .0, bytes-take n xs (b .1))
 pub read-sized : (p : Params) (b : List ℕ) (f : Fields) → Bytes b → hashBytes p ≤ length b → read p b ≡ some f → Sized p f
 read-sized p b f byte size e =
     let r = read-found p b f e in
-    let t = drop (8 * hashBytes p) (bitString 8 b) in
-    let all = bits-drop (8 * hashBytes p) (bitString 8 b) (fields-bits 8 b) in
+    let c = both-canon (p .k * 512) (p .l * 512) (behind p b) (f .hint) (f .response) (r .place) (behind-bits p b) (r .both-is) in
     record {
       hash-long = ap length (sym (r .hash-is)) ∙ length-take-le (hashBytes p) b size;
       hash-bytes = subst Bytes (r .hash-is) (bytes-take (hashBytes p) b byte);
-      hint-long = (canons 0 (p .k * 512) t (f .hint) (r .i) all (r .hint-is)) .1;
-      response-long = (canons 40 (p .l * 512) (drop (r .i) t) (f .response) (r .j) (bits-drop (r .i) t all) (r .response-is)) .1;
+      hint-long = c .1;
+      response-long = c .2;
     }
 
 -- ---- the code's test
 
 module _ (p : Params) (b : List ℕ) (byte : Bytes b) (long : length b ≡ p .«sig_bytes») (size : hashBytes p ≤ length b) where
-  -- the code accepts: the bitString are those that the definition reads, and b is what is written of them
-  pub read-accepted : (h z : List ℤ) → parsed (p .k * 512) (p .l * 512) (drop (8 * hashBytes p) (bitString 8 b)) ≡ some (h, z)
+  -- the code accepts: the fields are those that the definition reads, and b is what is written of them
+  pub read-accepted : (h z : List ℤ) → ZeroFilled (p .k * 512) (p .l * 512) (behind p b) h z
       → (read p b ≡ some (fieldsOf (take (hashBytes p) b) h z)) × (write p (fieldsOf (take (hashBytes p) b) h z) ≡ some b)
-  read-accepted h z e =
+  read-accepted h z a =
       let f = fieldsOf (take (hashBytes p) b) h z in
-      let q = parsed-some (p .k * 512) (p .l * 512) (drop (8 * hashBytes p) (bitString 8 b)) h z e in
-      let s = read-fields p b h (q .i) (q .hint-is) z (q .j) (q .response-is) in
-      let r : Found p b f = record { i = q .i; j = q .j; hash-is = refl; hint-is = q .hint-is; response-is = q .response-is } in
-      (s, zero-canonical p b f size r long byte (ap allZero (fill-is p b f size r) ∙ q .fill-zero))
+      let r : Found p b f = record { place = a .place; hash-is = refl; both-is = a .both-is } in
+      (read-fields p b h z (a .place) (a .both-is), zero-canonical p b f size r long byte (ap allZero (fill-is p b f size r) ∙ a .fill-zero))
 
-  -- and it refuses where there are no such bitString
-  pub read-refused : (f : Fields) → parsed (p .k * 512) (p .l * 512) (drop (8 * hashBytes p) (bitString 8 b)) ≡ none → read p b ≡ some f → write p f ≡ some b → ⊥
-  read-refused f e g k =
+  -- and it refuses where there are no such fields
+  pub read-refused : (f : Fields) → ((h z : List ℤ) → ZeroFilled (p .k * 512) (p .l * 512) (behind p b) h z → ⊥) → read p b ≡ some f → write p f ≡ some b → ⊥
+  read-refused f never g k =
       let r = read-found p b f g in
       let z = ap allZero (sym (fill-is p b f size r)) ∙ canonical-zero p b f size r long k in
-      let y = parsed-both (p .k * 512) (p .l * 512) (drop (8 * hashBytes p) (bitString 8 b)) (f .hint) (r .i) (r .hint-is) (f .response) (r .j) (r .response-is) z in
-      let x : _≡_ {A = ℕ} 0 1 = cc in omega arith
+      never (f .hint) (f .response) (record { place = r .place; both-is = r .both-is; fill-zero = z })
 
 -- ---- numbers that were read are small
 
@@ -311,20 +278,16 @@ code-small w z h l =
     let q : m / 2 ^ w < 2 ^ 20 = omega (arith, code-length w m (negOf z)) in
     omega (arith, split m w, digits-lt q (mod-lt m (pow-pos w)), pow-add 2 20 w, pow-mono {i = 20 + w} {j = 60} (omega arith))
 
-pub read-small : (w n : ℕ) (t : List ℕ) (zs : List ℤ) (k : ℕ) → w ≤ 40 → Bits t → length t < 2 ^ 20 → readCodes w n t ≡ some (zs, k)
-    → (i : ℕ) → natAbs (getD zs i (pos 0)) < 2 ^ 61
-read-small w n t zs k h all l e i = go (decLt i (length zs))
+codes-small : (w : ℕ) (zs : List ℤ) → w ≤ 40 → length (codes w zs) < 2 ^ 20 → (i : ℕ) → natAbs (getD zs i (pos 0)) < 2 ^ 61
+codes-small w zs h l i = go (decLt i (length zs))
   where
     go : Dec (i < length zs) → natAbs (getD zs i (pos 0)) < 2 ^ 61
-    go (yes s) =
-        let c = (canons w n t zs k all e) .0 in
-        code-small w (getD zs i (pos 0)) h (omega (arith, codes-room w zs i s, ap length c, length-take k t))
+    go (yes s) = code-small w (getD zs i (pos 0)) h (omega (arith, codes-room w zs i s))
     go (no s) = let o : length zs ≤ i = omega (arith, s) in rw (List·getD-eq-default zs (pos 0) o) (lit< tt)
 
-pub parsed-small : (n m : ℕ) (t : List ℕ) (h z : List ℤ) → Bits t → length t < 2 ^ 20 → parsed n m t ≡ some (h, z)
+pub both-small : (n m : ℕ) (t : List ℕ) (h z : List ℤ) (k : ℕ) → Bits t → length t < 2 ^ 20 → readBoth n m t ≡ some (h, z, k)
     → ((i : ℕ) → natAbs (getD h i (pos 0)) < 2 ^ 61) × ((i : ℕ) → natAbs (getD z i (pos 0)) < 2 ^ 61)
-parsed-small n m t h z all l e =
-    let q = parsed-some n m t h z e in (
-      read-small 0 n t h (q .i) (omega arith) all l (q .hint-is),
-      read-small 40 m (drop (q .i) t) z (q .j) (omega arith) (bits-drop (q .i) t all) (omega (arith, length-drop (q .i) t)) (q .response-is),
-    )
+both-small n m t h z k all l e =
+    let c = both-canon n m t h z k all e .0 in
+    let o : length (codes 0 h) + length (codes 40 z) < 2 ^ 20 = omega (arith, ap length c, length-append (codes 0 h) (codes 40 z), length-take k t) in
+    (codes-small 0 h (omega arith) (omega arith), codes-small 40 z (omega arith) (omega arith))

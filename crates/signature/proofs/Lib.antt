@@ -34,9 +34,9 @@ pub mod Norms
 pub mod Expanded
 pub mod Packer
 pub mod Packing
-pub mod Parsed
 pub mod Product
 pub mod Proper
+pub mod Reading
 pub mod Renewed
 pub mod Recovered
 pub mod Reduced

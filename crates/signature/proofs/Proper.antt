@@ -8,22 +8,21 @@ use native.Mathlib.Omega.{arith}
 use native.Mathlib.Nat.{not-suc-le-zero}
 use lib.Dec.{T, leb, leb→le}
 use lib.IntN.{ℤ, pos, natAbs}
-use lib.ListN.{length, getD, take, drop}
+use lib.ListN.{length, getD, take}
 use Rattle.hash.specs.Lists.{pick, Bytes}
 use Rattle.hash.specs.declared.params.Params.{Params}
-use Rattle.signature.specs.AnswerSteps.{fieldsOf, parsed, ReadOf}
-use Rattle.signature.specs.Bits.{bitString}
+use Rattle.signature.specs.AnswerSteps.{fieldsOf, ReadOf}
 use Rattle.signature.specs.Bounds.{within, squares, boundsOf}
 use Rattle.signature.specs.Checks.{firstNo, writtenAs, properFields, properForm}
-use Rattle.signature.specs.Form.{Fields, hashBytes, write, read}
+use Rattle.signature.specs.Form.{Fields, hashBytes, write, readBoth, read}
 use Rattle.signature.specs.Verify.{hashChecks, fieldsIn}
 use Rattle.signature.specs.VerifySteps.{fieldChecks, formChecks}
-use Rattle.signature.proofs.Canonical.{read-accepted, read-refused, read-sized}
-use Rattle.signature.proofs.Parsed.{read-true, read-false}
+use Rattle.signature.proofs.Canonical.{behind, read-accepted, read-refused, read-sized}
+use Rattle.signature.proofs.Reading.{ZeroFilled, read-true, read-false}
 use Rattle.ring.proofs.Checks.{absurd-bool}
 use Rattle.signature.proofs.SameBytes.{same-refl, same-eq}
 
--- what the writer makes of the bitString read
+-- what the writer makes of the fields read
 pub record Written (p : Params) (b : List ℕ) : Type 0 where
   pub f : Fields
   pub read-is : read p b ≡ some f
@@ -59,33 +58,31 @@ bytes-of [] h = tt
 bytes-of (x ∷ b) h = (h 0, bytes-of b (λ (j : ℕ). h (suc j)))
 
 module _ (p : Params) (vk msg b : List ℕ) (byte : Bytes b) (long : length b ≡ p .«sig_bytes») (size : hashBytes p ≤ length b) where
-  abbrev bits : List ℕ
-  bits = drop (8 * hashBytes p) (bitString 8 b)
+  pub status-14 : ((h z : List ℤ) → ZeroFilled (p .k * 512) (p .l * 512) (behind p b) h z → ⊥) → firstNo (formChecks p vk msg b) ≡ 14
+  status-14 never =
+      ap (λ (t : Bool). pick t (firstNo (fieldChecks p vk msg (fieldsIn (read p b)))) 14)
+      (proper-none p b (λ (f : Fields). λ (r : read p b ≡ some f) (w : write p f ≡ some b). read-refused p b byte long size f never r w))
 
-  pub status-14 : parsed (p .k * 512) (p .l * 512) bits ≡ none → firstNo (formChecks p vk msg b) ≡ 14
-  status-14 e = ap (λ (t : Bool). pick t (firstNo (fieldChecks p vk msg (fieldsIn (read p b)))) 14) (proper-none p b (λ (f : Fields). λ (r : read p b ≡ some f) (w : write p f ≡ some b). read-refused p b byte long size f e r w))
-
-  pub status-read : (h z : List ℤ) → parsed (p .k * 512) (p .l * 512) bits ≡ some (h, z)
+  pub status-read : (h z : List ℤ) → ZeroFilled (p .k * 512) (p .l * 512) (behind p b) h z
       → firstNo (formChecks p vk msg b) ≡ firstNo (fieldChecks p vk msg (fieldsOf (take (hashBytes p) b) h z))
   status-read h z e =
       let a = read-accepted p b byte long size h z e in
       ap (λ (t : Bool). pick t (firstNo (fieldChecks p vk msg (fieldsIn (read p b)))) 14) (proper-some p b (fieldsOf (take (hashBytes p) b) h z) (a .0) (a .1))
       ∙ ap (λ (o : Option Fields). firstNo (fieldChecks p vk msg (fieldsIn o))) (a .0)
 
-  -- the bitString have the set's sizes
-  pub sizes-read : (h z : List ℤ) → parsed (p .k * 512) (p .l * 512) bits ≡ some (h, z) → (length h ≡ p .k * 512) × (length z ≡ p .l * 512)
+  -- the fields have the set's sizes
+  pub sizes-read : (h z : List ℤ) → ZeroFilled (p .k * 512) (p .l * 512) (behind p b) h z → (length h ≡ p .k * 512) × (length z ≡ p .l * 512)
   sizes-read h z e =
       let s = read-sized p b (fieldsOf (take (hashBytes p) b) h z) byte size (read-accepted p b byte long size h z e .0) in
       (s .hint-long, s .response-long)
 
 -- what the reader's answer says of the definition, where its lists have n and m numbers
-pub read-yes : (t : List ℕ) (n m n′ m′ : ℕ) (r : Bool) (h z : List ℤ) → n′ ≡ n → m′ ≡ m → r ≡ true → ReadOf (parsed n′ m′ t) r h z → parsed n m t ≡ some (h, z)
-read-yes t n m n′ m′ r h z a b e u =
-    ap (λ (x : ℕ). parsed x m t) (sym a) ∙ ap (λ (x : ℕ). parsed n′ x t) (sym b) ∙ read-true (parsed n′ m′ t) h z (subst (λ (x : Bool). ReadOf (parsed n′ m′ t) x h z) e u)
+module _ (t : List ℕ) (n m n′ m′ : ℕ) (r : Bool) (h z : List ℤ) (a : n′ ≡ n) (b : m′ ≡ m) (u : ReadOf (readBoth n′ m′ t) t r h z) where
+  pub read-yes : r ≡ true → ZeroFilled n m t h z
+  read-yes e = read-true n m t h z (rw (a, b, e) at u)
 
-pub read-no : (t : List ℕ) (n m n′ m′ : ℕ) (r : Bool) (h z : List ℤ) → n′ ≡ n → m′ ≡ m → r ≡ false → ReadOf (parsed n′ m′ t) r h z → parsed n m t ≡ none
-read-no t n m n′ m′ r h z a b e u =
-    ap (λ (x : ℕ). parsed x m t) (sym a) ∙ ap (λ (x : ℕ). parsed n′ x t) (sym b) ∙ read-false (parsed n′ m′ t) h z (subst (λ (x : Bool). ReadOf (parsed n′ m′ t) x h z) e u)
+  pub read-no : r ≡ false → (h′ z′ : List ℤ) → ZeroFilled n m t h′ z′ → ⊥
+  read-no e = read-false n m t h z (rw (a, b, e) at u)
 
 -- ---- the bounds
 

@@ -8,7 +8,6 @@ use Prim.Native.Nat.{ℕ, zero, suc, _+_}
 use lib.IntN.{ℤ}
 use lib.ListN.{drop}
 use Rattle.hash.specs.Lists.{pick}
-use Rattle.signature.specs.Code.{readCodes}
 use Rattle.signature.specs.Form.{Fields}
 use Rattle.signature.specs.Bounds.{within, squares}
 use Rattle.signature.specs.Sign.{Attempted, made, over, stuck}
@@ -36,22 +35,11 @@ allZero [] = true
 allZero (zero ∷ l) = allZero l
 allZero (suc b ∷ l) = false
 
--- n numbers of the hint's code and m of the response's from the bits t, where every bit behind them is 0 (check 14)
-abbrev pub fillOf : List ℤ → List ℕ → Option (List ℤ × ℕ) → Option (List ℤ × List ℤ)
-fillOf h t none = none
-fillOf h t (some z) = pick (allZero (drop (z .1) t)) (some (h, z .0)) none
-
-abbrev pub responseOf : ℕ → List ℕ → Option (List ℤ × ℕ) → Option (List ℤ × List ℤ)
-responseOf m t none = none
-responseOf m t (some h) = fillOf (h .0) (drop (h .1) t) (readCodes 40 m (drop (h .1) t))
-
-unfoldable pub parsed : ℕ → ℕ → List ℕ → Option (List ℤ × List ℤ)
-parsed n m t = responseOf m t (readCodes 0 n t)
-
--- the reader's answer, and the numbers that it leaves in h and z
-abbrev pub ReadOf : Option (List ℤ × List ℤ) → Bool → List ℤ → List ℤ → Type 0
-ReadOf none r h z = r ≡ false
-ReadOf (some x) r h z = (r ≡ true) × (h ≡ x .0) × (z ≡ x .1)
+-- the reader's answer, whether both lists could be read from the bits t and every bit behind them is 0 (check 14), and the numbers that it
+-- leaves in h and z
+abbrev pub ReadOf : Option (List ℤ × List ℤ × ℕ) → List ℕ → Bool → List ℤ → List ℤ → Type 0
+ReadOf none t r h z = r ≡ false
+ReadOf (some x) t r h z = (r ≡ allZero (drop (x .2) t)) × (h ≡ x .0) × (z ≡ x .1)
 
 -- ---- CheckBounds
 

@@ -25,7 +25,8 @@ use Rattle.signature.specs.Layout.{atRoom, atS, atR, atT, atX}
 use Rattle.signature.specs.Masked.{Noise, maskedNoise, maskedImage}
 use Rattle.signature.specs.MaskedSteps.{transformed, untransformed}
 use Rattle.signature.specs.declared.challenge.Challenged.{Challenged}
-use Rattle.signature.specs.Sign.{Coins, noiseSize, maskedResponse, refreshedKey, refreshedResponse}
+use Rattle.signature.specs.Form.{Fields}
+use Rattle.signature.specs.Sign.{Public, signedFields, Coins, noiseSize, maskedResponse, refreshedKey, refreshedResponse}
 use Rattle.signature.specs.SignCalls.{Key, packed, expanded}
 
 -- the key that a call is lent: a signing key's bytes, or the public key's bytes and the words of all shares
@@ -60,6 +61,10 @@ commitmentIn p work = span work (atT (p .l) (p .shares)) (p .k * 512)
 
 abbrev pub responseIn : Params → List ℕ → List ℕ
 responseIn p work = span work (atX (p .k) (p .l) (p .shares)) (p .l * 512)
+
+-- lines 17 to 19, of what stands there
+abbrev pub signedIn : Params → Public → List ℕ → List ℤ → List ℕ → Fields
+signedIn p P hash c work = signedFields p P (commitmentIn p work) hash (responseIn p work) c
 
 -- lines 17 to 20 write to the room of eight polynomials before s alone
 abbrev pub RoomUsed : ℕ → List ℕ → List ℕ → Type 0

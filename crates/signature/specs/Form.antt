@@ -20,28 +20,38 @@ pub record Fields : Type 0 where
 abbrev pub hashBytes : Params → ℕ
 hashBytes p = p .kappa / 4
 
--- the bits of the bitString, and their number counted without making them
+-- the bits of the fields, and their number counted without making them
 unfoldable pub formBits : Fields → List ℕ
 formBits f = bitString 8 (f .hash) ++ (codes 0 (f .hint) ++ codes 40 (f .response))
 
 unfoldable pub bitCount : Fields → ℕ
 bitCount f = 8 * length (f .hash) + (codesBits 0 (f .hint) + codesBits 40 (f .response))
 
+-- the bits with zero fill, to n bytes
+abbrev pub withFill : Fields → ℕ → List ℕ
+withFill f n = formBits f ++ replicate (8 * n - bitCount f) 0
+
 -- the writer: none where the bits do not fit
 unfoldable pub write : Params → Fields → Option (List ℕ)
-write p f =
-    pick (leb (bitCount f) (8 * p .«sig_bytes»))
-    (some (chop 8 (p .«sig_bytes») (formBits f ++ replicate (8 * p .«sig_bytes» - bitCount f) 0)))
-    none
+write p f = pick (leb (bitCount f) (8 * p .«sig_bytes»)) (some (chop 8 (p .«sig_bytes») (withFill f (p .«sig_bytes»)))) none
+
+-- the response's numbers, behind the hint's
+abbrev withResponse : List ℤ × ℕ → Option (List ℤ × ℕ) → Option (List ℤ × List ℤ × ℕ)
+withResponse h none = none
+withResponse h (some z) = some (h .0, z .0, h .1 + z .1)
+
+abbrev thenResponse : ℕ → List ℕ → Option (List ℤ × ℕ) → Option (List ℤ × List ℤ × ℕ)
+thenResponse m t none = none
+thenResponse m t (some h) = withResponse h (readCodes 40 m (drop (h .1) t))
+
+-- n numbers of the hint's code, then m of the response's, from the front of the bits t, and how many bits they take
+unfoldable pub readBoth : ℕ → ℕ → List ℕ → Option (List ℤ × List ℤ × ℕ)
+readBoth n m t = thenResponse m t (readCodes 0 n t)
 
 -- the reader: hint and response behind the hash; what comes behind them is not looked at here (check 14 does)
-abbrev readResponse : Params → List ℕ → List ℤ → Option (List ℤ × ℕ) → Option Fields
-readResponse p hash hint none = none
-readResponse p hash hint (some z) = some (record { hash = hash; hint = hint; response = z .0 })
-
-abbrev readHint : Params → List ℕ → List ℕ → Option (List ℤ × ℕ) → Option Fields
-readHint p hash t none = none
-readHint p hash t (some h) = readResponse p hash (h .0) (readCodes 40 (p .l * 512) (drop (h .1) t))
+abbrev withHash : List ℕ → Option (List ℤ × List ℤ × ℕ) → Option Fields
+withHash hash none = none
+withHash hash (some x) = some (record { hash = hash; hint = x .0; response = x .1 })
 
 unfoldable pub read : Params → List ℕ → Option Fields
-read p b = readHint p (take (hashBytes p) b) (drop (8 * hashBytes p) (bitString 8 b)) (readCodes 0 (p .k * 512) (drop (8 * hashBytes p) (bitString 8 b)))
+read p b = withHash (take (hashBytes p) b) (readBoth (p .k * 512) (p .l * 512) (drop (8 * hashBytes p) (bitString 8 b)))

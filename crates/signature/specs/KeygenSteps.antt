@@ -2,14 +2,16 @@
 -- Layout.antt says.
 use mathlib.Core.Path.{_≡_}
 use mathlib.Core.List.{List, _++_}
+use mathlib.Core.Option.{Option}
 use Prim.Native.Nat.{ℕ, suc, _+_, _*_}
 use Rattle.hash.specs.declared.params.Params.{Params}
 use Rattle.ring.specs.Round.{roundT}
 use Rattle.sharing.specs.Blocks.{block, totals}
+use Rattle.sharing.specs.Masks.{maskStart}
 use Rattle.sharing.specs.Region.{span, Wrote}
 use Rattle.sharing.specs.declared.masks.MaskGen.{MaskGen}
 use Rattle.signature.specs.Bits.{repack}
-use Rattle.signature.specs.Keys.{vkSeed, sharePart, keyShares, keyVector}
+use Rattle.signature.specs.Keys.{vkSeed, sharePart, keyShares, keyVector, compressed}
 use Rattle.signature.specs.Layout.{atS, atT, atX}
 use Rattle.signature.specs.Masked.{seeded, maskedImage}
 
@@ -26,6 +28,10 @@ pub record Generated (p : Params) (coins : List ℕ) (g : MaskGen) (A x ys : Lis
       → span ys (p .shares * 512) (p .shares * 512) ≡ block (p .shares * 512) i (maskedImage p (seeded p (p .ut) coins) g A .shares)
   pub vector : span ys (atT (p .l) (p .shares)) (p .k * 512) ≡ keyVector p coins g A
   pub full : span ys (atX (p .k) (p .l) (p .shares)) (p .l * 512) ≡ x
+
+-- the share that the compression of s writes in full, if the share seeds fill
+abbrev pub fullShareOf : Params → List ℕ → List ℕ → List ℕ → Option (List ℕ)
+fullShareOf p shares coins mask = compressed p shares (keyShares p coins (maskStart mask))
 
 -- the signing key of t and x in the work buffer
 unfoldable pub keyOf : Params → List ℕ → List ℕ → List ℕ

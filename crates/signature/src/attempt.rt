@@ -51,9 +51,8 @@ fn challenge_at(
 ) -> Challenged
     requires { ⌜ (at + k * 512 ≤ length (now s)) × Below q (now s) × (k ≤ 9) × (omega < 256) ⌝ }
     ensures { λ r. ⌜ Wrote 0 at (k * 512) (roundW (span (now (s .entry)) at (k * 512))) (now (s .entry)) (now (s .exit))
-        × (now (hash .exit)
-        ≡ shake256 (headed 104 k ++ ordered edition (roundW (span (now (s .entry)) at (k * 512))) (now (mu .entry)))
-        (length (now (hash .entry))))
+        × (now (hash .exit) ≡ shake256
+        (headed 104 k ++ ordered edition (roundW (span (now (s .entry)) at (k * 512))) (now (mu .entry))) (length (now (hash .entry))))
         × (r ≡ chalHeld (challenge edition omega (shake256 (headed 99 omega ++ now (hash .exit)) 2176))) ⌝ }
 {
     round_w_vector(s, at, k);

@@ -10,14 +10,14 @@ ghost use Rattle.ring.specs.Words.{q, Below, Words, zipTo};
 ghost use Rattle.ring.specs.Round.{roundW, residues};
 ghost use Rattle.sharing.specs.Region.{span, Kept};
 ghost use Rattle.signature.specs.AnswerSteps.{fieldsOf, FinishedAs};
-ghost use Rattle.signature.specs.AttemptSteps.{commitmentIn, responseIn, RoomUsed};
+ghost use Rattle.signature.specs.AttemptSteps.{commitmentIn, responseIn, signedIn, RoomUsed};
 ghost use Rattle.signature.specs.Checks.{workWords};
 ghost use Rattle.signature.specs.Form.{hashBytes};
 ghost use Rattle.signature.specs.Keys.{vkVector};
 ghost use Rattle.signature.specs.MaskedSteps.{matrixIn, MatrixHeld};
 ghost use Rattle.signature.specs.Recover.{sub31, centredAll, hintOf, recovered};
 ghost use Rattle.signature.specs.RecoverSteps.{hintRows};
-ghost use Rattle.signature.specs.Sign.{publicBy, finished, signedFields};
+ghost use Rattle.signature.specs.Sign.{publicBy, finished};
 ghost use Rattle.signature.specs.Table.{Tabled};
 use crate::bits::unpack;
 use crate::bounds::check_bounds;
@@ -144,10 +144,7 @@ fn finish_with(
     requires { ⌜ (length (now hint) ≡ p .k * 512) × (length (now z) ≡ p .l * 512) × (length (now out) ≡ p .«sig_bytes») ⌝ }
     ensures { λ r. ⌜ RoomUsed (p .shares) (now (work .entry)) (now (work .exit)) ⌝ }
     ensures { λ r. ⌜ ((mu : List ℕ)
-        → FinishedAs
-        (finished p
-        (signedFields p (publicBy p (now (vk .entry)) mu (matrixIn p (now (a .entry)))) (commitmentIn p (now (work .entry)))
-        (now (hash .entry)) (responseIn p (now (work .entry))) c))
+        → FinishedAs (finished p (signedIn p (publicBy p (now (vk .entry)) mu (matrixIn p (now (a .entry)))) (now (hash .entry)) c (now (work .entry))))
         r (now (out .entry)) (now (out .exit))) ⌝ }
 {
     let b = at_x(p.k, p.l, p.shares);
@@ -172,10 +169,7 @@ pub(crate) fn finish(
         × (length (now hash) ≡ hashBytes p) × (length (now out) ≡ p .«sig_bytes») ⌝ }
     ensures { λ r. ⌜ RoomUsed (p .shares) (now (work .entry)) (now (work .exit)) ⌝ }
     ensures { λ r. ⌜ ((mu : List ℕ)
-        → FinishedAs
-        (finished p
-        (signedFields p (publicBy p (now (vk .entry)) mu (matrixIn p (now (a .entry)))) (commitmentIn p (now (work .entry)))
-        (now (hash .entry)) (responseIn p (now (work .entry))) c))
+        → FinishedAs (finished p (signedIn p (publicBy p (now (vk .entry)) mu (matrixIn p (now (a .entry)))) (now (hash .entry)) c (now (work .entry))))
         r (now (out .entry)) (now (out .exit))) ⌝ }
 {
     let m = p.k * 512;

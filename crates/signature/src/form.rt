@@ -6,8 +6,8 @@ ghost use lib.IntN.{pos, natAbs};
 ghost use lib.ListN.{length, getD, drop, replicate};
 ghost use Rattle.signature.specs.Bits.{bitString, chop};
 ghost use Rattle.signature.specs.Code.{codesBits};
-ghost use Rattle.signature.specs.Form.{formBits, bitCount};
-ghost use Rattle.signature.specs.AnswerSteps.{fieldsOf, allZero, parsed, ReadOf};
+ghost use Rattle.signature.specs.Form.{bitCount, withFill, readBoth};
+ghost use Rattle.signature.specs.AnswerSteps.{fieldsOf, allZero, ReadOf};
 use crate::bits;
 use crate::code;
 use crate::code::Next;
@@ -46,12 +46,8 @@ pub(crate) fn write(hash: &[u8], hint: &[i64], response: &[i64], out: &mut [u8])
     requires { ⌜ length (now out) < 2 ^ 17 ⌝ }
     requires { ⌜ ((i : ℕ) → natAbs (getD (now hint) i (pos 0)) < 2 ^ 63) ⌝ }
     requires { ⌜ ((i : ℕ) → natAbs (getD (now response) i (pos 0)) < 2 ^ 63) ⌝ }
-    ensures { λ _. ⌜ now (out .exit)
-        ≡ chop 8 (length (now (out .entry)))
-        (formBits (fieldsOf (now (hash .entry)) (now (hint .entry)) (now (response .entry)))
-        ++ replicate
-        (8 * length (now (out .entry)) - bitCount (fieldsOf (now (hash .entry)) (now (hint .entry)) (now (response .entry))))
-        0) ⌝ }
+    ensures { λ _. ⌜ now (out .exit) ≡ chop 8 (length (now (out .entry)))
+        (withFill (fieldsOf (now (hash .entry)) (now (hint .entry)) (now (response .entry))) (length (now (out .entry)))) ⌝ }
 {
     begin(hash, out);
     let at = code::put_codes(out, 8 * hash.len(), hint, 0);
@@ -78,8 +74,8 @@ pub(crate) fn read(sig: &[u8], hash_bytes: usize, hint: &mut [i64], response: &m
     requires { ⌜ «hash_bytes» ≤ length (now sig) ⌝ }
     requires { ⌜ length (now sig) < 2 ^ 17 ⌝ }
     ensures { λ r. ⌜ ReadOf
-        (parsed (length (now (hint .entry))) (length (now (response .entry))) (drop (8 * «hash_bytes») (bitString 8 (now (sig .entry))))) r
-        (now (hint .exit)) (now (response .exit)) ⌝ }
+        (readBoth (length (now (hint .entry))) (length (now (response .entry))) (drop (8 * «hash_bytes») (bitString 8 (now (sig .entry)))))
+        (drop (8 * «hash_bytes») (bitString 8 (now (sig .entry)))) r (now (hint .exit)) (now (response .exit)) ⌝ }
 {
     let Next::At(a) = code::get_codes(sig, 8 * hash_bytes, 0, hint) else {
         return false;

@@ -114,10 +114,8 @@ pub(crate) fn work_words(p: Params) -> usize
 // The first no of key generation behind the look-up, but check 10, or 0.
 pub(crate) fn keygen_no(p: Params, seeds: &[u8], mask_seed: &[u8], out: &[u8], work: &[u64]) -> u32
     requires { ⌜ Tabled p ⌝ }
-    ensures { λ r. ⌜ r
-        ≡ firstNo
-        ((7, keygenSeedsSized p (now (seeds .entry)) (now («mask_seed» .entry))) ∷
-        (8, keygenBuffersSized p (now (out .entry)) (now (work .entry))) ∷ []) ⌝ }
+    ensures { λ r. ⌜ r ≡ firstNo ((7, keygenSeedsSized p (now (seeds .entry)) (now («mask_seed» .entry)))
+        ∷ (8, keygenBuffersSized p (now (out .entry)) (now (work .entry))) ∷ []) ⌝ }
 {
     if seeds.len() != keygen_bytes(p) {
         return 7;

@@ -10,9 +10,9 @@ ghost use Rattle.sharing.specs.Encoding.{skip, addNoise};
 ghost use Rattle.sharing.specs.Masks.{masks, maskStart};
 ghost use Rattle.sharing.specs.Noise.{seedNoise, noiseBytes};
 ghost use Rattle.signature.specs.Checks.{firstNo, both, workWords};
-ghost use Rattle.signature.specs.KeygenSteps.{Rounded, Generated, keyOf};
+ghost use Rattle.signature.specs.KeygenSteps.{Rounded, Generated, fullShareOf, keyOf};
 ghost use Rattle.signature.specs.KeyCalls.{keygenLeaves, keygenCall};
-ghost use Rattle.signature.specs.Keys.{vkSeed, noisePart, sharePart, keygenBytes, keyShares, compressed, keygenOf};
+ghost use Rattle.signature.specs.Keys.{vkSeed, noisePart, sharePart, keygenBytes, keygenOf};
 ghost use Rattle.signature.specs.MaskedSteps.{MatrixHeld, rowsOf};
 ghost use Rattle.signature.specs.Matrix.{matrix, filled};
 ghost use Rattle.signature.specs.Outcome.{outcome};
@@ -73,13 +73,12 @@ fn make_parts(
 ) -> bool
     requires { ⌜ Tabled p × (length (now work) ≡ workWords p) × (length (now coins) ≡ noiseBytes p)
         × (length (now shares) ≡ (p .shares - 1) * (p .kappa / 8)) ⌝ }
-    ensures { λ r. ⌜ (r
-        ≡ both (filled (matrix p (now (seed .entry))))
-        (filled (compressed p (now (shares .entry)) (keyShares p (now (coins .entry)) (maskStart (now («mask_seed» .entry)))))))
+    ensures { λ r. ⌜ (r ≡ both (filled (matrix p (now (seed .entry))))
+        (filled (fullShareOf p (now (shares .entry)) (now (coins .entry)) (now («mask_seed» .entry)))))
         × (length (now (work .exit)) ≡ length (now (work .entry))) × Below q (now (work .exit)) ⌝ }
     ensures { λ r. ⌜ ((A x : List ℕ)
         → matrix p (now (seed .entry)) ≡ some A
-        → compressed p (now (shares .entry)) (keyShares p (now (coins .entry)) (maskStart (now («mask_seed» .entry)))) ≡ some x
+        → fullShareOf p (now (shares .entry)) (now (coins .entry)) (now («mask_seed» .entry)) ≡ some x
         → Generated p (now (coins .entry)) (maskStart (now («mask_seed» .entry))) A x (now (work .exit))) ⌝ }
 {
     let k = p.k;
@@ -106,17 +105,12 @@ fn make_parts(
 // Lines 2 to 8 and the compression. Lent are the matrix seed, the noise seeds (01: noise tape) and d - 1 share seeds, one behind the other.
 pub(crate) fn make_key(work: &mut [u64], p: Params, seeds: &[u8], mask_seed: &[u8]) -> bool
     requires { ⌜ Tabled p × (length (now work) ≡ workWords p) × (length (now seeds) ≡ keygenBytes p) ⌝ }
-    ensures { λ r. ⌜ (r
-        ≡ both (filled (matrix p (vkSeed p (now (seeds .entry)))))
-        (filled
-        (compressed p (sharePart p (now (seeds .entry)))
-        (keyShares p (noisePart p (now (seeds .entry))) (maskStart (now («mask_seed» .entry)))))))
+    ensures { λ r. ⌜ (r ≡ both (filled (matrix p (vkSeed p (now (seeds .entry)))))
+        (filled (fullShareOf p (sharePart p (now (seeds .entry))) (noisePart p (now (seeds .entry))) (now («mask_seed» .entry)))))
         × (length (now (work .exit)) ≡ length (now (work .entry))) × Below q (now (work .exit)) ⌝ }
     ensures { λ r. ⌜ ((A x : List ℕ)
         → matrix p (vkSeed p (now (seeds .entry))) ≡ some A
-        → compressed p (sharePart p (now (seeds .entry)))
-        (keyShares p (noisePart p (now (seeds .entry))) (maskStart (now («mask_seed» .entry))))
-        ≡ some x
+        → fullShareOf p (sharePart p (now (seeds .entry))) (noisePart p (now (seeds .entry))) (now («mask_seed» .entry)) ≡ some x
         → Generated p (noisePart p (now (seeds .entry))) (maskStart (now («mask_seed» .entry))) A x (now (work .exit))) ⌝ }
 {
     let k = p.k;

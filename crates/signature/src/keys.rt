@@ -60,11 +60,9 @@ fn refresh_no(
     words_out: &[u64],
 ) -> u32
     requires { ⌜ Tabled p ⌝ }
-    ensures { λ r. ⌜ r
-        ≡ firstNo
-        (keyChecks p (expanded (expandedIn (now (bytes .entry)) (now (words .entry))))
-        ++ ((7, maskSeedSized (now («mask_seed» .entry))) ∷
-        (8, expandedKeySized p (now («bytes_out» .entry)) (now («words_out» .entry))) ∷ [])) ⌝ }
+    ensures { λ r. ⌜ r ≡ firstNo (keyChecks p (expanded (expandedIn (now (bytes .entry)) (now (words .entry))))
+        ++ ((7, maskSeedSized (now («mask_seed» .entry)))
+        ∷ (8, expandedKeySized p (now («bytes_out» .entry)) (now («words_out» .entry))) ∷ [])) ⌝ }
 {
     let k = expanded_no(p, bytes, words);
     if k != 0 {
@@ -235,9 +233,7 @@ pub(crate) fn decompress_shares(p: Params, part: &[u8], out: &mut [u64])
 // The first no of expanding behind the look-up, but check 10, or 0.
 fn expand_no(p: Params, key: &[u8], bytes_out: &[u8], words_out: &[u64]) -> u32
     requires { ⌜ Tabled p ⌝ }
-    ensures { λ r. ⌜ r
-        ≡ firstNo
-        (keyChecks p (packed (now (key .entry)))
+    ensures { λ r. ⌜ r ≡ firstNo (keyChecks p (packed (now (key .entry)))
         ++ ((8, expandedKeySized p (now («bytes_out» .entry)) (now («words_out» .entry))) ∷ [])) ⌝ }
 {
     let k = packed_no(p, key);

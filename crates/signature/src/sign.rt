@@ -111,8 +111,7 @@ fn attempt_all(
     requires { ⌜ (n ≤ 16) × (coinsGood p n (coinsLent explicit seeds noise masks) ≡ true) ⌝ }
     ensures { λ r. ⌜ length (now (work .exit)) ≡ length (now (work .entry)) ⌝ }
     ensures { λ r. ⌜ answer (r .status) (r .attempts) (now (out .exit))
-        ≡ answerIn
-        (signFrom p (publicBy p (now (vk .entry)) (now (mu .entry)) (matrixIn p (now (a .entry))))
+        ≡ answerIn (signFrom p (publicBy p (now (vk .entry)) (now (mu .entry)) (matrixIn p (now (a .entry))))
         (coinsLent explicit (seeds .entry) (noise .entry) (masks .entry)) n 0 (keyIn p (now (work .entry))))
         (now (out .entry)) ⌝ }
 {
@@ -151,8 +150,7 @@ fn sign_loaded(
     requires { ⌜ (n ≤ 16) × (coinsGood p n (coinsLent explicit seeds noise masks) ≡ true) ⌝ }
     ensures { λ r. ⌜ length (now (work .exit)) ≡ length (now (work .entry)) ⌝ }
     ensures { λ r. ⌜ answer (r .status) (r .attempts) (now (out .exit))
-        ≡ answerIn
-        (signMade p (now (vk .entry)) (now (msg .entry)) (coinsLent explicit (seeds .entry) (noise .entry) (masks .entry)) n
+        ≡ answerIn (signMade p (now (vk .entry)) (now (msg .entry)) (coinsLent explicit (seeds .entry) (noise .entry) (masks .entry)) n
         (matrix p (vkSeed p (now (vk .entry)))) (some (keyIn p (now (work .entry)))))
         (now (out .entry)) ⌝ }
 {
@@ -164,19 +162,8 @@ fn sign_loaded(
         return reported(10, 0);
     }
     bind(vk, msg, &mut mu[0..b]);
-    attempt_all(
-        work,
-        p,
-        vk,
-        &a,
-        &mu[0..b],
-        explicit,
-        seeds,
-        noise,
-        masks,
-        n,
-        out,
-    )
+    let m = &mu[0..b];
+    attempt_all(work, p, vk, &a, m, explicit, seeds, noise, masks, n, out)
 }
 
 // Signing behind checks 1 to 9: check 10 of the share seeds, then the rest. The work buffer is zero afterwards.

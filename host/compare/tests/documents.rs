@@ -1,6 +1,6 @@
 //! The documents name what is there: each file, each must-fail edit and each name in backquotes of docs/TRACE.md stands in the sources,
 //! docs/MUST_FAIL.md lists each must-fail edit, the theorems that docs/STATEMENT.md quotes are the theorems' own text, README lists the
-//! definitions that contracts reach, and links lead somewhere.
+//! definitions that contracts reach, links lead somewhere, and the proved code's lines can be read.
 
 use std::collections::BTreeSet;
 use std::fs;
@@ -203,5 +203,19 @@ fn what_a_reader_has_to_believe() {
     let lists = believed.iter().map(|(name, module)| format!("crates/{name}/specs/{module}.antt"));
     for path in lists.chain(["crates/capi/src/lib.rt".to_string()]) {
         assert_eq!(specs_used(&text(&path)).intersection(&steps).next(), None, "{path} uses steps");
+    }
+}
+
+/// Contracts are broken into lines that fit a screen.
+#[test]
+fn no_line_of_code_is_too_long() {
+    let mut sources = Vec::new();
+    files("crates", &mut sources);
+    sources.retain(|path| path.ends_with(".rt"));
+    assert!(sources.len() > 40, "{} files", sources.len());
+    for path in sources {
+        for (i, line) in text(&path).lines().enumerate() {
+            assert!(line.chars().count() <= 160, "{path}, line {}", i + 1);
+        }
     }
 }

@@ -6,7 +6,7 @@ use mathlib.Core.Option.{some}
 use Rattle.signature.specs.Bits.{bitString}
 use Rattle.signature.specs.Code.{readCodes}
 use Rattle.signature.proofs.Strings.{length-fields}
-use Rattle.signature.proofs.Parsed.{next-no, next-at, read-none, no-hint, hint-only, hint-room, read-both}
+use Rattle.signature.proofs.Reading.{next-no, next-at, read-none, no-hint, hint-only, hint-room, read-both}
 use borrow.Author.Needs.{needs}
 use Rattle.signature.proofs.form.read.Statement.{statement}
 use Rattle.signature.proofs.form.read.Tie as tie
@@ -16,7 +16,7 @@ returns c =
     let a = c .before .before .before .before .before .before .args in
     let F = bitString 8 (a .sig .now) in
     let n = length (a .hint .now) in
-    read-none _ _ _ (no-hint n (length (a .response .now)) (drop (8 * a .hash-bytes) F) (next-no (8 * a .hash-bytes) _ (readCodes 0 n (drop (8 * a .hash-bytes) F)) _ (c .before .before .before .get-codes .ensures) (c .enum-told .given .1)))
+    read-none _ (drop (8 * a .hash-bytes) F) _ _ (no-hint n (length (a .response .now)) (drop (8 * a .hash-bytes) F) (next-no (8 * a .hash-bytes) _ (readCodes 0 n (drop (8 * a .hash-bytes) F)) _ (c .before .before .before .get-codes .ensures) (c .enum-told .given .1)))
 
 -- the hint's numbers, and the place behind them
 first : (c : tie.After-a) → let a = c .before .before .before .before .before .before .args in
@@ -39,7 +39,7 @@ returns-2 c =
     let f = first (c .before .before .before .before .before .before) in
     let m = length (a .response .now) in
     let k = c .before .before .before .before .before .before .a .given .0 .0 in
-    read-none _ _ _ (hint-only (length (a .hint .now)) m F (8 * a .hash-bytes) _ (f .0) k (f .1) (f .2) (next-no k _ (readCodes 40 m (drop k F)) _ (c .before .before .before .get-codes2 .ensures) (c .enum-told2 .given .1)))
+    read-none _ (drop (8 * a .hash-bytes) F) _ _ (hint-only (length (a .hint .now)) m F (8 * a .hash-bytes) _ (f .0) k (f .1) (f .2) (next-no k _ (readCodes 40 m (drop k F)) _ (c .before .before .before .get-codes2 .ensures) (c .enum-told2 .given .1)))
 
 returns-3 : tie.Need-returns-3
 returns-3 c =

@@ -41,10 +41,10 @@ part-mu-end c =
     let h = c .before .before .before .before .before .before .before .before .before .before .before .before .before .before .pre .0 .0 .hash-low in
     omega (arith, h)
 
-part-attempt-all-end : tie.Need-part-attempt-all-end
-part-attempt-all-end c =
-    let a = c .before .before .before .before .before .before .before .before .before .before .before .before .before .before .before .before .before .before .before .before in
-    let m = c .before .before .before .before .bind in
+part-m-end : tie.Need-part-m-end
+part-m-end c =
+    let a = c .before .before .before .before .before .before .before .before .before .before .before .before .before .before .before .before .before .before in
+    let m = c .before .before .bind in
     bound-in (a .args .p .kappa / 4) (replicate 64 0) (m .last .1 .1 .0) (a .args .vk .now) (a .args .msg .now) (a .pre .0 .0 .hash-low) (m .ensures)
 
 attempt-all-requires : tie.Need-attempt-all-requires
@@ -71,5 +71,5 @@ pub sign-loaded-spec : {M : Type 1} → statement M
 sign-loaded-spec =
     tie.close (tie.spec (λ c. search needs) (λ c. search needs) (λ c. search needs) part-expand-matrix-end
     expand-matrix-requires (λ c κs. search needs) returns (λ c. search needs) (λ c. search needs) part-mu-end
-    (λ c κs. search needs) (λ c. search needs) (λ c. search needs) (λ c. search needs) part-attempt-all-end
+    (λ c κs. search needs) (λ c. search needs) (λ c. search needs) part-m-end (λ c. search needs)
     attempt-all-requires (λ c. search needs) (λ c. search needs) returns-2)

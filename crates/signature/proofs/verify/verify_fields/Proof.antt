@@ -1,7 +1,6 @@
 use mathlib.Core.Path.{_≡_, sym, ap, _∙_}
 use mathlib.Core.Bool.{Bool, true, false}
 use mathlib.Core.List.{List}
-use mathlib.Core.Option.{some}
 use Prim.Native.Nat.{ℕ, _-_, _*_, _/_, _^_, _≤_, _<_}
 use native.Mathlib.Omega.{arith}
 use lib.IntN.{ℤ, pos}
@@ -10,16 +9,17 @@ use lib.Seq.{length-take-le}
 use borrow.Author.Tests.{not-true, not-false}
 use borrow.Rule.Slice.PartMut.{midOf, putMid, mid-len}
 use Rattle.hash.specs.Lists.{pick}
-use Rattle.signature.specs.AnswerSteps.{fieldsOf, parsed}
+use Rattle.signature.specs.AnswerSteps.{fieldsOf}
 use Rattle.signature.specs.Bits.{bitString}
 use Rattle.signature.specs.Bounds.{checkBounds}
 use Rattle.signature.specs.Checks.{firstNo}
 use Rattle.ring.specs.Words.{q}
 use Rattle.signature.specs.Verify.{hashChecks}
 use Rattle.signature.specs.VerifySteps.{fieldChecks, formChecks}
-use Rattle.signature.proofs.Canonical.{parsed-small}
+use Rattle.signature.proofs.Canonical.{both-small}
 use Rattle.signature.proofs.Fronts.{front-in, front-is}
 use Rattle.signature.proofs.Proper.{bytes-of, status-14, status-read, sizes-read, read-yes, read-no, bounds-small, small-part, bounded-part, hash-same, bounds-parts}
+use Rattle.signature.proofs.Reading.{ZeroFilled}
 use Rattle.signature.proofs.Strings.{length-fields, fields-bits, bits-drop}
 use borrow.Author.Needs.{needs}
 use Rattle.signature.proofs.verify.verify_fields.Statement.{statement}
@@ -74,13 +74,13 @@ z-room : (a : tie.Start) → length (midOf 0 (a .args .p .l * 512 - 0) (replicat
 z-room a = let o : a .args .p .l * 512 - 0 ≡ a .args .p .l * 512 = omega arith in mid-len 0 (a .args .p .l * 512) (replicate 3584 (pos 0)) (z-fits a) ∙ o
 
 -- what was read, and its lengths
-got : (c : tie.Else1) → (parsed (c .before .before .before .before .before .before .before .before .before .before .before .before .args .p .k * 512) (c .before .before .before .before .before .before .before .before .before .before .before .before .args .p .l * 512) (drop (8 * (c .before .before .before .before .before .before .before .before .before .before .before .before .args .p .kappa / 4)) (bitString 8 (c .before .before .before .before .before .before .before .before .before .before .before .before .args .sig .now))) ≡ some (c .before .before .before .read .last .1 .1 .0, c .before .before .before .read .last .1 .1 .1 .0))
+got : (c : tie.Else1) → ZeroFilled (c .before .before .before .before .before .before .before .before .before .before .before .before .args .p .k * 512) (c .before .before .before .before .before .before .before .before .before .before .before .before .args .p .l * 512) (drop (8 * (c .before .before .before .before .before .before .before .before .before .before .before .before .args .p .kappa / 4)) (bitString 8 (c .before .before .before .before .before .before .before .before .before .before .before .before .args .sig .now))) (c .before .before .before .read .last .1 .1 .0) (c .before .before .before .read .last .1 .1 .1 .0)
     × (length (c .before .before .before .read .last .1 .1 .0) ≡ c .before .before .before .before .before .before .before .before .before .before .before .before .args .p .k * 512) × (length (c .before .before .before .read .last .1 .1 .1 .0) ≡ c .before .before .before .before .before .before .before .before .before .before .before .before .args .p .l * 512)
 got c =
     let a = c .before .before .before .before .before .before .before .before .before .before .before .before in
     let b = a .args in
     let p = b .p in
-    let e = read-yes (drop (8 * (p .kappa / 4)) (bitString 8 (b .sig .now))) (p .k * 512) (p .l * 512) _ _ _ (c .before .before .before .read .last .1 .1 .0) (c .before .before .before .read .last .1 .1 .1 .0) (hint-room a) (z-room a) (not-false _ (c .if1 .left)) (c .before .before .before .read .ensures) in
+    let e = read-yes (drop (8 * (p .kappa / 4)) (bitString 8 (b .sig .now))) (p .k * 512) (p .l * 512) _ _ _ (c .before .before .before .read .last .1 .1 .0) (c .before .before .before .read .last .1 .1 .1 .0) (hint-room a) (z-room a) (c .before .before .before .read .ensures) (not-false _ (c .if1 .left)) in
     let s = sizes-read p (b .vk .now) (b .msg .now) (b .sig .now) (bytes-of (b .sig .now) (λ (j : ℕ). c .before .before .before .before .before .before .before .before .before .shared-slice-known3 .given j .fits)) (a .pre .3) (fits a) (c .before .before .before .read .last .1 .1 .0) (c .before .before .before .read .last .1 .1 .1 .0) e in
     (e, s .0, s .1)
 
@@ -103,7 +103,7 @@ returns c = let a = c .before .before .before .before .before .before .before .b
     let b = a .args in
     let p = b .p in
     sym (status-14 p (b .vk .now) (b .msg .now) (b .sig .now) (bytes-of (b .sig .now) (λ (j : ℕ). c .before .before .before .before .before .before .before .before .before .shared-slice-known3 .given j .fits)) (a .pre .3) (fits a)
-    (read-no (drop (8 * (p .kappa / 4)) (bitString 8 (b .sig .now))) (p .k * 512) (p .l * 512) _ _ _ _ _ (hint-room a) (z-room a) (not-true _ (c .if1 .taken)) (c .before .before .before .read .ensures)))
+    (read-no (drop (8 * (p .kappa / 4)) (bitString 8 (b .sig .now))) (p .k * 512) (p .l * 512) _ _ _ _ _ (hint-room a) (z-room a) (c .before .before .before .read .ensures) (not-true _ (c .if1 .taken))))
 
 sub-check-bounds : tie.Need-sub-check-bounds
 sub-check-bounds c = search needs
@@ -129,7 +129,7 @@ check-bounds-requires c κs = let a = c .before .before .before .before .before 
     let g = got (c .before .before .before .before) in
     let t = drop (8 * (a .args .p .kappa / 4)) (bitString 8 (a .args .sig .now)) in
     let n : length t < 2 ^ 20 = omega (arith, length-drop (8 * (a .args .p .kappa / 4)) (bitString 8 (a .args .sig .now)), length-fields 8 (a .args .sig .now), a .pre .3, T .sig-low) in
-    let s = parsed-small (a .args .p .k * 512) (a .args .p .l * 512) t (c .before .before .before .before .before .before .before .read .last .1 .1 .0) (c .before .before .before .before .before .before .before .read .last .1 .1 .1 .0) (bits-drop (8 * (a .args .p .kappa / 4)) (bitString 8 (a .args .sig .now)) (fields-bits 8 (a .args .sig .now))) n (g .0) in
+    let s = both-small (a .args .p .k * 512) (a .args .p .l * 512) t (c .before .before .before .before .before .before .before .read .last .1 .1 .0) (c .before .before .before .before .before .before .before .read .last .1 .1 .1 .0) (g .0 .place) (bits-drop (8 * (a .args .p .kappa / 4)) (bitString 8 (a .args .sig .now)) (fields-bits 8 (a .args .sig .now))) n (g .0 .both-is) in
     let h = hint-is (c .before .before .before .before) in
     let z = z-is (c .before .before .before .before) in
     let hl = ap (λ (l : List ℤ). length l) h ∙ g .1 in
