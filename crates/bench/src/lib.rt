@@ -6,7 +6,8 @@ ghost use mathlib.Core.Bool.{true, false};
 ghost use Rattle.hash.specs.Lists.{pick};
 ghost use Rattle.ring.specs.Words.{q, allBelow};
 ghost use Rattle.ring.specs.Transform.{ntt, mul};
-ghost use Rattle.ring.specs.Uniform.{sampleQ, heldOf};
+ghost use Rattle.ring.specs.Uniform.{sampleQ};
+ghost use Rattle.ring.specs.UniformSteps.{heldOf};
 ghost use Rattle.hash.specs.Keccak.{lane};
 ghost use Rattle.hash.specs.Shake.{zeroState, after, shake256};
 

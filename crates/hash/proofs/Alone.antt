@@ -6,7 +6,8 @@ use lib.ListN.{length, getD}
 use Rattle.hash.specs.Lists.{table}
 use Rattle.hash.specs.Keccak.{keccakF}
 use Rattle.hash.specs.Shake.{zeroState, xorByte, xorBytes, padding, absorbed, absorbByte, absorbFrom, finish}
-use Rattle.hash.specs.Endian.{le, alone}
+use Rattle.hash.specs.Endian.{le}
+use Rattle.hash.specs.ShakeSteps.{alone}
 use Rattle.hash.proofs.Table.{listed}
 use Rattle.hash.proofs.Sponge.{finish-two}
 use Rattle.hash.proofs.Lanes.{xored, le-xored}

@@ -6,7 +6,8 @@ use native.Mathlib.Nat.{zero-add}
 use native.Mathlib.Omega.{arith}
 use lib.ListN.{length, getD, drop}
 use lib.Seq.{drop-length}
-use Rattle.hash.specs.Lists.{table, pasted}
+use Rattle.hash.specs.Lists.{table}
+use Rattle.hash.specs.ShakeSteps.{pasted}
 use Rattle.hash.specs.Keccak.{State, keccakF}
 use Rattle.hash.specs.Shake.{byteAt, stream, rate, after}
 use Rattle.hash.proofs.Table.{getD-table}

@@ -12,7 +12,8 @@ use lib.Bits.{bitXor, differ, xor-step, xor-zero-r}
 use lib.ListN.{length, getD, set, drop}
 use lib.Seq.{set-set, set-out, set-getD, getD-set-same, drop-cons}
 use Rattle.hash.specs.Keccak.{State, lane, keccakF}
-use Rattle.hash.specs.Shake.{xorByte, turn, absorbByte, absorbFrom, xorLane}
+use Rattle.hash.specs.Shake.{xorByte, turn, absorbByte, absorbFrom}
+use Rattle.hash.specs.ShakeSteps.{xorLane}
 use Rattle.hash.specs.Endian.{le}
 use Rattle.hash.proofs.Word.{on-top}
 

@@ -8,7 +8,8 @@ use native.Mathlib.Omega.{arith}
 use lib.ListN.{length, take, drop, set, getD, length-append, take-append-drop}
 use lib.Seq.{drop-cons, set-at, take-at, drop-append-add, drop-drop, length-take-le}
 use Rattle.hash.proofs.Table.{length-table}
-use Rattle.hash.specs.Lists.{table, pasted}
+use Rattle.hash.specs.Lists.{table}
+use Rattle.hash.specs.ShakeSteps.{pasted}
 
 -- a table in two parts
 pub table-more : (f g : ℕ → ℕ) (n m : ℕ) → ((j : ℕ) → j < m → g j ≡ f (n + j)) → table f (n + m) ≡ table f n ++ table g m

@@ -8,7 +8,8 @@ use lib.Pow.{pow-add, split, shr-shr, shr-lt}
 use Rattle.hash.specs.Lists.{table}
 use Rattle.hash.specs.Keccak.{State}
 use Rattle.hash.specs.Shake.{byteAt, stream, after}
-use Rattle.hash.specs.Endian.{byteOf, le, laneAt, rateLanes, word}
+use Rattle.hash.specs.Endian.{le, laneAt, word}
+use Rattle.hash.specs.ShakeSteps.{byteOf, rateLanes}
 use Rattle.hash.proofs.Paste.{table-same}
 use Rattle.hash.proofs.Output.{after-none, stream-after}
 

@@ -1,8 +1,8 @@
--- Lists by a rule, lists written in part, and a choice by a test.
+-- Lists by a rule, and a choice by a test.
 use mathlib.Core.Bool.{Bool, true, false}
 use mathlib.Core.List.{List, [], _∷_, _++_}
-use Prim.Native.Nat.{ℕ, zero, suc, _+_, _<_}
-use lib.ListN.{take, drop, replicate}
+use Prim.Native.Nat.{ℕ, zero, suc, _<_}
+use lib.ListN.{replicate}
 
 -- f 0, f 1, .., f (n - 1)
 unfoldable pub table : (ℕ → ℕ) → ℕ → List ℕ
@@ -12,10 +12,6 @@ table f (suc n) = table f n ++ (f n ∷ [])
 -- n zeros
 abbrev pub zeros : ℕ → List ℕ
 zeros n = replicate n 0
-
--- l with f 0, .., f (n - 1) laid at the place at
-abbrev pub pasted : (ℕ → ℕ) → List ℕ → ℕ → ℕ → List ℕ
-pasted f l at n = take at l ++ (table f n ++ drop (at + n) l)
 
 -- numbers below 256
 abbrev pub Bytes : List ℕ → Type 0

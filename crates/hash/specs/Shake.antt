@@ -16,10 +16,6 @@ byteAt A k = lane A (k / 8 % 5) (k / 8 / 5) / 2 ^ (8 * (k % 8)) % 256
 unfoldable pub xorByte : State → ℕ → ℕ → State
 xorByte A k b = setLane A (k / 8 % 5) (k / 8 / 5) (bitXor (lane A (k / 8 % 5) (k / 8 / 5)) (b * 2 ^ (8 * (k % 8))))
 
--- the state with x xored into lane k
-unfoldable pub xorLane : State → ℕ → ℕ → State
-xorLane A k x = setLane A (k % 5) (k / 5) (bitXor (lane A (k % 5) (k / 5)) x)
-
 -- .. with bs xored in from byte k on
 unfoldable pub xorBytes : State → ℕ → List ℕ → State
 xorBytes A k [] = A

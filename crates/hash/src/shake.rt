@@ -4,9 +4,10 @@ ghost use mathlib.Core.Path.{_≡_};
 ghost use mathlib.Core.List.{_++_};
 ghost use Prim.Native.Nat.{_+_, _-_, _*_, _/_, _%_, _<_, _≤_};
 ghost use lib.ListN.{getD, length, drop};
-ghost use Rattle.hash.specs.Lists.{table, pasted};
+ghost use Rattle.hash.specs.Lists.{table};
 ghost use Rattle.hash.specs.Keccak.{keccakF};
-ghost use Rattle.hash.specs.Endian.{rateLanes, word, alone};
+ghost use Rattle.hash.specs.Endian.{word};
+ghost use Rattle.hash.specs.ShakeSteps.{rateLanes, alone, pasted};
 ghost use Rattle.hash.specs.Shake.{absorbed, byteAt, xorByte, absorbByte, absorbFrom, finish, rate, zeroState, after, stream, shake256};
 use crate::endian::load;
 

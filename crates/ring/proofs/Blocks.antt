@@ -12,8 +12,8 @@ use lib.Seq.{take-at, drop-at, length-take-le, take-all}
 use borrow.Rule.Slice.PartMut.{putMid, same-len-mid}
 use Rattle.ring.specs.Words.{Below, Residues}
 use Rattle.ring.specs.Poly.{mapN, map2}
-use Rattle.ring.specs.Residue.{prime, zeta, over512, up, down, join, part, halves, fwd, bwd, scale, mods, backOne, Block}
-use Rattle.ring.specs.Loose.{LooseList, CooleyTukey, GentlemanSande, Stepped, forthRange}
+use Rattle.ring.specs.Residue.{prime, zeta, over512, up, down, join, part, halves, fwd, bwd, scale, mods, backOne}
+use Rattle.ring.specs.Loose.{LooseList, CooleyTukey, GentlemanSande, Stepped, forthRange, Block}
 use Rattle.ring.proofs.Sums.{below-at, below-take, below-drop, below-append}
 use Rattle.ring.proofs.Places.{length-map2, length-mods, residues-mods, mods-append, mods-mods, mods-take, mods-drop}
 use Rattle.ring.proofs.Inverse.{pow-two}

@@ -22,7 +22,8 @@ use Rattle.hash.proofs.Output.{after-next, after-add, stream-after}
 use Rattle.hash.proofs.Word.{le-same}
 use Rattle.ring.specs.Words.{q, Below, Words}
 use Rattle.ring.specs.Checks.{filled}
-use Rattle.ring.specs.Uniform.{draw, keep, kept, draws, uniform, sampleQ, sampledOf, heldOf, Gathered}
+use Rattle.ring.specs.Uniform.{draw, keep, kept, draws, uniform, sampleQ, sampledOf}
+use Rattle.ring.specs.UniformSteps.{heldOf, Gathered}
 use Rattle.ring.specs.declared.uniform.Sampled.{Sampled}
 use Rattle.ring.proofs.Sums.{below-append, below-take, words-zeros}
 

@@ -7,7 +7,7 @@ use Prim.Native.Nat.{ℕ}
 use native.Mathlib.Omega.{arith}
 use Rattle.ring.specs.Words.{Words}
 use Rattle.ring.specs.Checks.{filled, heldOr}
-use Rattle.ring.specs.Uniform.{heldOf}
+use Rattle.ring.specs.UniformSteps.{heldOf}
 use Rattle.ring.specs.declared.uniform.Sampled.{Sampled}
 use Rattle.ring.proofs.Checks.{absurd-bool}
 use Rattle.ring.proofs.Sums.{words-zeros}

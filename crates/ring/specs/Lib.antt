@@ -6,3 +6,4 @@ pub mod Loose
 pub mod Transform
 pub mod Round
 pub mod Uniform
+pub mod UniformSteps

@@ -2,7 +2,8 @@
 -- least one and below so many primes, and how many these are at each level of the transform. No layer above cites this file.
 use mathlib.Core.Path.{_≡_}
 use mathlib.Core.List.{List}
-use Prim.Native.Nat.{ℕ, _+_, _*_, _-_, _%_, _/_, _^_, _<_, _≤_}
+use Prim.Native.Nat.{ℕ, suc, _+_, _*_, _-_, _%_, _/_, _^_, _<_, _≤_}
+use lib.ListN.{length}
 use Rattle.ring.specs.Words.{Below}
 use Rattle.ring.specs.Residue.{up, down, join, part, mods}
 
@@ -42,3 +43,9 @@ forthRange d = 19 - 2 * d
 -- .. and back, where a block of 2^d ends; each level doubles, and the fifth ends reduced: 1, 2, 4, 8, 16, 2, 4, 8, 16, 32
 unfoldable pub backRange : ℕ → ℕ
 backRange d = 2 ^ (d / 5 + d % 5)
+
+-- a block of 2^d entries below m at node k of the tree with 512 leaves
+pub record Block (m d k : ℕ) (a : List ℕ) : Type 0 where
+  pub long : length a ≡ 2 ^ d
+  pub inside : suc k * 2 ^ d ≤ 1024
+  pub low : Below m a

@@ -1,12 +1,10 @@
 -- Inside the layer: the transform and its inverse modulo one prime, by halves (000, 2.7.2), and the number below q with two given rests.
 -- No layer above cites this file.
-use mathlib.Core.Path.{_≡_}
 use mathlib.Core.Bool.{Bool, true, false}
 use mathlib.Core.List.{List, _++_}
-use Prim.Native.Nat.{ℕ, zero, suc, _+_, _*_, _-_, _%_, _/_, _^_, _≤_}
-use lib.ListN.{length, take, drop}
+use Prim.Native.Nat.{ℕ, zero, suc, _+_, _*_, _-_, _%_, _/_, _^_}
+use lib.ListN.{take, drop}
 use Rattle.hash.specs.Lists.{table}
-use Rattle.ring.specs.Words.{Below}
 use Rattle.ring.specs.Poly.{mapN, map2}
 
 -- the lowest b bits of k, in reverse (2.7.1)
@@ -87,9 +85,3 @@ backOne s f = scale (prime s) (over512 s) (bwd (prime s) (zeta s) 9 1 f)
 -- the number below q with the least residue r1 modulo q1, and congruent to r2 modulo q2
 abbrev pub crtOf : ℕ → ℕ → ℕ
 crtOf r2 r1 = r1 + 16515073 * (((r2 + (33292289 - r1)) * 520194) % 33292289)
-
--- a block of 2^d entries below m at node k of the tree with 512 leaves
-pub record Block (m d k : ℕ) (a : List ℕ) : Type 0 where
-  pub long : length a ≡ 2 ^ d
-  pub inside : suc k * 2 ^ d ≤ 1024
-  pub low : Below m a

@@ -1,17 +1,15 @@
 -- Uniform polynomials: 49-bit draws of seven bytes each, of which those below q are kept (000, Algorithm 5; 01, "Streams and shares").
 use Prim.Native.Nat.{ℕ, zero, suc, min, _+_, _*_, _/_, _%_, _^_}
-use mathlib.Core.Path.{_≡_}
 use mathlib.Core.Bool.{Bool, true, false}
 use mathlib.Core.List.{List, [], _∷_, _++_}
 use mathlib.Core.Option.{Option, some, none}
-use lib.ListN.{length, getD, take, replicate}
+use lib.ListN.{length, getD, take}
 use lib.Dec.{ltb, leb}
 use Rattle.hash.specs.Lists.{pick}
 use Rattle.hash.specs.Shake.{shake256}
 use Rattle.hash.specs.Endian.{le}
 use Rattle.ring.specs.Words.{q}
 use Rattle.ring.specs.Checks.{firstNo, polynomialSized, filled, sampleLeaves}
-use Rattle.ring.specs.declared.uniform.Sampled.{Sampled}
 
 -- draw number n of the bytes s: the low 49 bits of seven bytes, the lowest first
 unfoldable pub draw : List ℕ → ℕ → ℕ
@@ -46,14 +44,3 @@ uniformChecks s out = (8, polynomialSized out) ∷ (10, filled (uniform s)) ∷ 
 -- its status, and what out holds afterwards
 unfoldable pub sampledOf : List ℕ → List ℕ → ℕ × List ℕ
 sampledOf s out = sampleLeaves (firstNo (uniformChecks s out)) (uniform s) out
-
--- the answer of SampleQ: a polynomial, or zero where there is none
-unfoldable pub heldOf : Option (List ℕ) → Sampled
-heldOf (some f) = record { ok = true; poly = f }
-heldOf none = record { ok = false; poly = replicate 512 0 }
-
--- those kept of the first n draws of s, behind the first k words of a, and no more than 512 in all: they are the first r words of a′
-pub record Gathered (s : List ℕ) (n : ℕ) (a : List ℕ) (k : ℕ) (a′ : List ℕ) (r : ℕ) : Type 0 where
-  pub long : length a′ ≡ 512
-  pub count : r ≡ length (take 512 (take k a ++ kept s n))
-  pub front : take r a′ ≡ take 512 (take k a ++ kept s n)

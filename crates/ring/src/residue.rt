@@ -5,8 +5,8 @@ ghost use Prim.Native.Nat.{ℕ, _+_, _*_, _-_, _%_, _<_, _≤_};
 ghost use lib.ListN.{length};
 ghost use Rattle.ring.specs.Words.{q, Below, Residues};
 ghost use Rattle.ring.specs.Poly.{map2};
-ghost use Rattle.ring.specs.Residue.{prime, zeta, over512, powers, up, down, join, part, halves, fwd, bwd, scale, mods, backOne, crtOf, Block};
-ghost use Rattle.ring.specs.Loose.{Loose, LooseList, CooleyTukey, GentlemanSande, Stepped, forthRange, backRange};
+ghost use Rattle.ring.specs.Residue.{prime, zeta, over512, powers, up, down, join, part, halves, fwd, bwd, scale, mods, backOne, crtOf};
+ghost use Rattle.ring.specs.Loose.{Loose, LooseList, CooleyTukey, GentlemanSande, Stepped, forthRange, backRange, Block};
 use crate::powers::powers;
 
 // The two primes, q = q1 q2 (000, 2.7.2).

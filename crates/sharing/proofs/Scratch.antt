@@ -5,7 +5,8 @@ use Prim.Native.Nat.{ℕ, zero, suc, _+_, _*_}
 use native.Mathlib.Nat.{add-zero, add-suc, zero-mul}
 use native.Mathlib.Numerals.{add-one}
 use native.Mathlib.Omega.{arith}
-use Rattle.sharing.specs.Encoding.{Generator, skip, zeroAt, lastZero}
+use Rattle.sharing.specs.Encoding.{Generator, skip, zeroAt}
+use Rattle.sharing.specs.EncodingSteps.{lastZero}
 use Rattle.sharing.proofs.Totals.{zero-later, zero-here}
 
 module _ (G : Generator) (d : ℕ) where

@@ -43,11 +43,6 @@ module _ (G : Generator) where
   unfoldable pub zeroAt : ℕ → ℕ → G .State → List ℕ
   zeroAt d n g = zeroEncoding (orderIndex d) (skip d n g)
 
-  -- what the scratch holds behind n zero encodings, xs before them: the last one, or xs where there is none
-  unfoldable pub lastZero : ℕ → G .State → ℕ → List ℕ → List ℕ
-  lastZero d g zero xs = xs
-  lastZero d g (suc n) xs = zeroAt d n g
-
   -- Algorithm 8 at one polynomial, r repetitions: f t is the noise of repetition t for all shares; a refresh after each
   unfoldable pub addRep : ℕ → G .State → ℕ → (ℕ → List ℕ) → List ℕ → List ℕ
   addRep d g zero f xs = xs

@@ -12,7 +12,7 @@ use Rattle.hash.specs.Shake.{absorbed, stream}
 use Rattle.hash.specs.declared.params.Params.{Params}
 use Rattle.hash.proofs.Table.{length-table}
 use Rattle.ring.specs.Words.{Below}
-use Rattle.ring.specs.Uniform.{heldOf}
+use Rattle.ring.specs.UniformSteps.{heldOf}
 use Rattle.ring.proofs.Checks.{absurd-bool}
 use Rattle.ring.proofs.Filled.{filled-some, not-filled}
 use Rattle.ring.proofs.Mapped.{rounded-residues}

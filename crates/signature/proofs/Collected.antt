@@ -8,7 +8,7 @@ use native.Mathlib.Decide.{decLt}
 use native.Mathlib.Omega.{arith}
 use Rattle.hash.specs.declared.params.Edition.{Edition}
 use Rattle.ring.specs.Words.{addW, subW}
-use Rattle.ring.specs.Uniform.{heldOf}
+use Rattle.ring.specs.UniformSteps.{heldOf}
 use Rattle.ring.specs.declared.uniform.Sampled.{Sampled}
 use Rattle.ring.proofs.Filled.{filled-some, not-filled, held-ok, held-there}
 use Rattle.sharing.specs.Blocks.{block, build}

@@ -12,7 +12,7 @@ use native.Mathlib.Omega.{arith}
 use lib.ListN.{length}
 use Rattle.ring.specs.Words.{Words}
 use Rattle.ring.specs.Transform.{ntt, intt}
-use Rattle.ring.specs.Uniform.{heldOf}
+use Rattle.ring.specs.UniformSteps.{heldOf}
 use Rattle.ring.proofs.Draws.{sampleQ-words}
 use Rattle.ring.proofs.Theorems.{ntt-words, intt-ntt}
 use Rattle.ring.proofs.Filled.{none-some, some-filled, none-filled, not-filled, filled-some, held-is}

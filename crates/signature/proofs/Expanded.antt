@@ -10,7 +10,7 @@ use lib.ListN.{length, take, drop, length-drop}
 use lib.Seq.{take-all}
 use Rattle.hash.specs.declared.params.Params.{Params}
 use Rattle.ring.specs.Words.{q, Below}
-use Rattle.ring.specs.Uniform.{heldOf}
+use Rattle.ring.specs.UniformSteps.{heldOf}
 use Rattle.ring.specs.declared.uniform.Sampled.{Sampled}
 use Rattle.ring.proofs.Filled.{filled-some, some-filled, held-is, held-ok}
 use Rattle.hash.specs.Lists.{zeros}

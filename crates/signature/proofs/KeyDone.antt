@@ -8,7 +8,7 @@ use native.Mathlib.Nat.{mul-le-mul}
 use native.Mathlib.Omega.{arith}
 use lib.ListN.{length, take, drop}
 use Rattle.hash.specs.declared.params.Params.{Params}
-use Rattle.ring.specs.Uniform.{heldOf}
+use Rattle.ring.specs.UniformSteps.{heldOf}
 use Rattle.hash.specs.Lists.{zeros}
 use Rattle.sharing.specs.Region.{span}
 use Rattle.sharing.proofs.Regions.{length-span}

@@ -11,7 +11,7 @@ use Rattle.hash.specs.declared.params.Params.{Params}
 use Rattle.hash.proofs.Rows.{Rule}
 use Rattle.ring.specs.Words.{q, addW, subW, Below, Residues, Words}
 use Rattle.ring.specs.Transform.{ntt}
-use Rattle.ring.specs.Uniform.{heldOf}
+use Rattle.ring.specs.UniformSteps.{heldOf}
 use Rattle.ring.proofs.Sums.{below-at, words-add, words-sub}
 use Rattle.ring.proofs.Filled.{some-same, none-some}
 use Rattle.ring.proofs.Mapped.{rounded-residues}
@@ -26,7 +26,8 @@ use Rattle.sharing.proofs.Decode.{totals-words}
 use Rattle.signature.specs.Bits.{repack}
 use Rattle.signature.specs.Compress.{exchanged, collectedOf, compressedOf}
 use Rattle.signature.specs.Matrix.{matrix}
-use Rattle.signature.specs.Keys.{vkSeed, vkVector, publicKey, fullShare, seededShare, collected, compressed, keygenBytes, noisePart, sharePart, keyShares, keyVector, keygenOf}
+use Rattle.signature.specs.Keys.{vkSeed, vkVector, publicKey, fullShare, seededShare, compressed, keygenBytes, noisePart, sharePart, keyShares, keyVector, keygenOf}
+use Rattle.signature.specs.KeygenSteps.{collected}
 use Rattle.signature.proofs.Packing.{length-repack, repack-trip}
 use Rattle.signature.proofs.Entries.{all-some}
 

@@ -9,7 +9,8 @@ use lib.ListN.{length, take}
 use Rattle.hash.specs.declared.params.Params.{Params}
 use Rattle.hash.proofs.Rows.{Rule}
 use Rattle.ring.specs.Words.{addW, subW, Words}
-use Rattle.ring.specs.Uniform.{sampleQ, heldOf}
+use Rattle.ring.specs.Uniform.{sampleQ}
+use Rattle.ring.specs.UniformSteps.{heldOf}
 use Rattle.ring.proofs.Filled.{held-is, held-words}
 use Rattle.ring.proofs.Sums.{words-zeros, words-sub, add-comm, add-assoc, add-sub}
 use Rattle.ring.proofs.Draws.{sampleQ-words}
@@ -23,7 +24,8 @@ use Rattle.signature.specs.Bits.{repack}
 use Rattle.signature.specs.Matrix.{buildAll}
 use Rattle.signature.specs.Compress.{shareHeader, seededShareOf, compressedOf}
 use Rattle.signature.specs.ExpandedKey.{secretAt, Holds}
-use Rattle.signature.specs.Keys.{seedBytes, fullShare, seededShare, shareAt, decompressed, collected, compressed, keygenBytes, noisePart, sharePart, keyShares, keygenOf, expandOf, generatedOf}
+use Rattle.signature.specs.Keys.{seedBytes, fullShare, seededShare, shareAt, decompressed, compressed, keygenBytes, noisePart, sharePart, keyShares, keygenOf, expandOf, generatedOf}
+use Rattle.signature.specs.KeygenSteps.{collected}
 use Rattle.signature.proofs.Entries.{All, all-some}
 use Rattle.signature.proofs.Secrets.{holds-as}
 use Rattle.signature.proofs.KeyMade.{Step, collected-step, collected-first, collected-words, key-words, share-part-long, made, expand-made}

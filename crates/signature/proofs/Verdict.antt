@@ -8,7 +8,7 @@ use lib.IntN.{ℤ}
 use Rattle.hash.specs.Lists.{pick}
 use Rattle.hash.specs.Shake.{shake256}
 use Rattle.hash.specs.declared.params.Params.{Params}
-use Rattle.ring.specs.Uniform.{heldOf}
+use Rattle.ring.specs.UniformSteps.{heldOf}
 use Rattle.ring.proofs.Filled.{not-filled, filled-some}
 use Rattle.signature.specs.Challenge.{headed, ordered, chalHash, chalPoly}
 use Rattle.signature.specs.ChallengeSteps.{chalHeld}

@@ -2,7 +2,7 @@
 use mathlib.Core.List.{List}
 use Prim.Native.Nat.{ℕ, _+_, _-_, _*_}
 use Rattle.hash.specs.declared.params.Params.{Params}
-use Rattle.ring.specs.Uniform.{heldOf}
+use Rattle.ring.specs.UniformSteps.{heldOf}
 use Rattle.sharing.specs.Blocks.{build}
 use Rattle.signature.specs.Keys.{seedBytes, shareAt}
 

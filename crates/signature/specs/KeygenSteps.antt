@@ -11,7 +11,8 @@ use Rattle.sharing.specs.Masks.{maskStart}
 use Rattle.sharing.specs.Region.{span, Wrote}
 use Rattle.sharing.specs.declared.masks.MaskGen.{MaskGen}
 use Rattle.signature.specs.Bits.{repack}
-use Rattle.signature.specs.Keys.{vkSeed, sharePart, keyShares, keyVector, compressed}
+use Rattle.signature.specs.Compress.{collectedOf}
+use Rattle.signature.specs.Keys.{seedBytes, vkSeed, sharePart, keyShares, keyVector, compressed}
 use Rattle.signature.specs.Layout.{atS, atT, atX}
 use Rattle.signature.specs.Masked.{seeded, maskedImage}
 
@@ -28,6 +29,10 @@ pub record Generated (p : Params) (coins : List ℕ) (g : MaskGen) (A x ys : Lis
       → span ys (p .shares * 512) (p .shares * 512) ≡ block (p .shares * 512) i (maskedImage p (seeded p (p .ut) coins) g A .shares)
   pub vector : span ys (atT (p .l) (p .shares)) (p .k * 512) ≡ keyVector p coins g A
   pub full : span ys (atX (p .k) (p .l) (p .shares)) (p .l * 512) ≡ x
+
+-- the compression at polynomial j, of the sharing xs, up to share i
+abbrev pub collected : Params → List ℕ → List ℕ → ℕ → ℕ → Option (List ℕ)
+collected p seeds xs j i = collectedOf (p .edition) (seedBytes p) seeds xs j i
 
 -- the share that the compression of s writes in full, if the share seeds fill
 abbrev pub fullShareOf : Params → List ℕ → List ℕ → List ℕ → Option (List ℕ)

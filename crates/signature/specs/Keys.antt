@@ -14,7 +14,7 @@ use Rattle.sharing.specs.Noise.{noiseBytes}
 use Rattle.sharing.specs.declared.masks.MaskGen.{MaskGen}
 use Rattle.signature.specs.Bits.{repack}
 use Rattle.signature.specs.ExpandedKey.{ExpandedKey}
-use Rattle.signature.specs.Compress.{seededShareOf, collectedOf, compressedOf}
+use Rattle.signature.specs.Compress.{seededShareOf, compressedOf}
 use Rattle.signature.specs.Matrix.{buildAll, matrix}
 use Rattle.signature.specs.Masked.{seeded, maskedNoise, maskedImage}
 
@@ -49,10 +49,7 @@ shareAt p part j (suc i) = seededShare p part j (suc i)
 unfoldable pub decompressed : Params → List ℕ → Option (List ℕ)
 decompressed p part = buildAll (p .l) (λ (j : ℕ). buildAll (p .shares) (shareAt p part j))
 
--- Algorithm 14: at polynomial j, of the sharing xs, up to share i; and of all polynomials
-abbrev pub collected : Params → List ℕ → List ℕ → ℕ → ℕ → Option (List ℕ)
-collected p seeds xs j i = collectedOf (p .edition) (seedBytes p) seeds xs j i
-
+-- Algorithm 14
 abbrev pub compressed : Params → List ℕ → List ℕ → Option (List ℕ)
 compressed p seeds s = compressedOf (p .edition) (seedBytes p) seeds (p .l) (p .shares) s
 

@@ -5,7 +5,7 @@ ghost use mathlib.Core.Option.{some};
 ghost use Prim.Native.Nat.{ℕ, _+_, _-_, _*_, _≤_, _<_};
 ghost use lib.ListN.{length};
 ghost use Rattle.ring.specs.Words.{q, addW, subW, Below, Words};
-ghost use Rattle.ring.specs.Uniform.{heldOf};
+ghost use Rattle.ring.specs.UniformSteps.{heldOf};
 ghost use Rattle.sharing.specs.Region.{span, Wrote};
 ghost use Rattle.signature.specs.Matrix.{filled};
 ghost use Rattle.signature.specs.Compress.{shareHeader, seededShareOf, collectedOf, compressedOf};

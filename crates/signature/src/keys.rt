@@ -6,7 +6,7 @@ ghost use Prim.Native.Nat.{_*_, _≤_, _<_};
 ghost use lib.ListN.{length, drop};
 ghost use Rattle.hash.specs.Params.{ShareCount};
 ghost use Rattle.ring.specs.Words.{q, Below, Words};
-ghost use Rattle.ring.specs.Uniform.{heldOf};
+ghost use Rattle.ring.specs.UniformSteps.{heldOf};
 ghost use Rattle.sharing.specs.Blocks.{build};
 ghost use Rattle.sharing.specs.Region.{Wrote};
 ghost use Rattle.sharing.specs.Encoding.{skip, refreshed};

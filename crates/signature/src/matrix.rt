@@ -6,7 +6,7 @@ ghost use mathlib.Core.Option.{some};
 ghost use Prim.Native.Nat.{ℕ, _+_, _*_, _≤_, _<_};
 ghost use lib.ListN.{length};
 ghost use Rattle.ring.specs.Words.{q, Below, Words};
-ghost use Rattle.ring.specs.Uniform.{heldOf};
+ghost use Rattle.ring.specs.UniformSteps.{heldOf};
 ghost use Rattle.sharing.specs.Region.{Wrote};
 ghost use Rattle.signature.specs.MaskedSteps.{untransformed};
 ghost use Rattle.signature.specs.Matrix.{matrixAt, matrixOf, filled};

@@ -4,7 +4,8 @@ use mathlib.Core.Logic.{⊎-elim}
 use native.Mathlib.Nat.{add-zero}
 use native.Mathlib.Omega.{arith}
 use lib.ListN.{length, getD, drop}
-use Rattle.hash.specs.Shake.{absorbFrom, xorLane}
+use Rattle.hash.specs.Shake.{absorbFrom}
+use Rattle.hash.specs.ShakeSteps.{xorLane}
 use Rattle.hash.proofs.Lanes.{last-turn, next-turn}
 use borrow.Author.Needs.{needs}
 use Rattle.hash.proofs.shake.absorb_lanes.Statement.{statement}

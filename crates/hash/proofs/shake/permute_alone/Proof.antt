@@ -1,4 +1,4 @@
-use Rattle.hash.specs.Endian.{alone}
+use Rattle.hash.specs.ShakeSteps.{alone}
 use borrow.Author.Needs.{needs}
 use Rattle.hash.proofs.shake.permute_alone.Statement.{statement}
 use Rattle.hash.proofs.shake.permute_alone.Tie as tie

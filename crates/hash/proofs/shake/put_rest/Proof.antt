@@ -6,7 +6,7 @@ use Rattle.hash.proofs.Paste.{pasted-none, pasted-one}
 use borrow.Author.Needs.{needs}
 use Rattle.hash.proofs.shake.put_rest.Statement.{statement}
 use Rattle.hash.proofs.shake.put_rest.Tie as tie
-use Rattle.hash.specs.Lists.{pasted}
+use Rattle.hash.specs.ShakeSteps.{pasted}
 
 abbrev Inv-loop : tie.InvT-loop
 Inv-loop out₀ at b n j₀ out j = (j ≤ n) × (length out ≡ length out₀) × (out ≡ pasted (λ k. getD b k 0) out₀ at j)

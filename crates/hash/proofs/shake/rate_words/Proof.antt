@@ -1,7 +1,7 @@
 use mathlib.Core.Path.{refl}
 use Prim.Native.Nat.{_/_, _%_}
 use Rattle.hash.specs.Lists.{table}
-use Rattle.hash.specs.Endian.{rateLanes}
+use Rattle.hash.specs.ShakeSteps.{rateLanes}
 use Rattle.hash.proofs.Shape.{low}
 use Rattle.hash.proofs.Word.{rate-words-are}
 use borrow.Author.Needs.{needs}

@@ -6,8 +6,8 @@ use lib.Seq.{length-take-le}
 use borrow.Author.Needs.{needs}
 use borrow.Fn.Kinds.{In}
 use borrow.Fn.PlainCycle.{Measures, is, falls, and}
-use Rattle.ring.specs.Residue.{prime, zeta, bwd, mods, Block}
-use Rattle.ring.specs.Loose.{LooseList, backRange}
+use Rattle.ring.specs.Residue.{prime, zeta, bwd, mods}
+use Rattle.ring.specs.Loose.{LooseList, backRange, Block}
 use Rattle.ring.proofs.Bounds.{zeta-below}
 use Rattle.ring.proofs.Blocks.{node-lt, long-half, first-part, second-part, after-part, laid-long, laid-low, whole-bwd}
 use Rattle.ring.proofs.residue.+invert.{statement}

@@ -6,8 +6,8 @@ use lib.Seq.{length-take-le}
 use borrow.Author.Needs.{needs}
 use borrow.Fn.Kinds.{In}
 use borrow.Fn.PlainCycle.{Measures, is, falls, and}
-use Rattle.ring.specs.Residue.{prime, zeta, fwd, mods, Block}
-use Rattle.ring.specs.Loose.{LooseList, forthRange}
+use Rattle.ring.specs.Residue.{prime, zeta, fwd, mods}
+use Rattle.ring.specs.Loose.{LooseList, forthRange, Block}
 use Rattle.ring.proofs.Bounds.{zeta-below}
 use Rattle.ring.proofs.Blocks.{node-lt, long-half, first-block, second-block, after-first, both-kept, whole-fwd}
 use Rattle.ring.proofs.LevelRanges.{forth-low, forth-more}

@@ -7,7 +7,7 @@ use Rattle.hash.specs.Lists.{table}
 use Rattle.hash.specs.Shake.{after, stream}
 use Rattle.hash.proofs.Table.{length-table}
 use Rattle.hash.proofs.Output.{after-none}
-use Rattle.ring.specs.Uniform.{Gathered}
+use Rattle.ring.specs.UniformSteps.{Gathered}
 use Rattle.ring.proofs.Draws.{gathered-none, gathered-room, refill-next, refilled, held-some, held-none}
 use borrow.Author.Needs.{needs}
 use Rattle.ring.proofs.uniform.sample_q.Statement.{statement}

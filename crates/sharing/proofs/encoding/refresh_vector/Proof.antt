@@ -4,7 +4,8 @@ use native.Mathlib.Omega.{arith}
 use Rattle.sharing.specs.Blocks.{build}
 use Rattle.sharing.specs.Region.{span, Wrote}
 use Rattle.sharing.proofs.Regions.{wrote-start}
-use Rattle.sharing.specs.Encoding.{skip, lastZero}
+use Rattle.sharing.specs.Encoding.{skip}
+use Rattle.sharing.specs.EncodingSteps.{lastZero}
 use Rattle.sharing.specs.Masks.{masks}
 use Rattle.sharing.proofs.Lists.{inside}
 use Rattle.sharing.proofs.Scratch.{last-none, last-next}

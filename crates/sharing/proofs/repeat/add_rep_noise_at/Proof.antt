@@ -3,7 +3,8 @@ use Prim.Native.Nat.{_-_, _*_, _/_, _≤_}
 use native.Mathlib.Omega.{arith}
 use Rattle.sharing.specs.Region.{span, Wrote}
 use Rattle.sharing.proofs.Regions.{wrote-value}
-use Rattle.sharing.specs.Encoding.{skip, lastZero, addRep}
+use Rattle.sharing.specs.Encoding.{skip, addRep}
+use Rattle.sharing.specs.EncodingSteps.{lastZero}
 use Rattle.sharing.specs.Masks.{masks}
 use Rattle.sharing.proofs.Regions.{wrote-wide}
 use Rattle.sharing.proofs.Totals.{skip-none, skip-next}

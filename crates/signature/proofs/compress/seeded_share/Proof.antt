@@ -4,7 +4,7 @@ use native.Mathlib.Omega.{arith}
 use Rattle.sharing.proofs.Lists.{inside}
 use Rattle.sharing.proofs.Built.{block-is}
 use Rattle.signature.specs.Compress.{shareHeader, seededShareOf}
-use Rattle.ring.specs.Uniform.{heldOf}
+use Rattle.ring.specs.UniformSteps.{heldOf}
 use Rattle.sharing.specs.Region.{span}
 use Rattle.ring.specs.Uniform.{sampleQ}
 use mathlib.Core.List.{List}

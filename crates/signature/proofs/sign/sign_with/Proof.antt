@@ -4,7 +4,7 @@ use mathlib.Core.Path.{sym, ap, subst, _∙_}
 use Prim.Native.Nat.{ℕ}
 use lib.ListN.{length}
 use borrow.Author.Tests.{not-true, not-false}
-use Rattle.ring.specs.Uniform.{heldOf}
+use Rattle.ring.specs.UniformSteps.{heldOf}
 use Rattle.ring.specs.Words.{Below}
 use Rattle.signature.specs.AttemptSteps.{keyLent, coinsLent, keyIn}
 use Rattle.signature.specs.Keys.{vkVector, sharesOf}

@@ -10,7 +10,7 @@ use borrow.Rule.Slice.PartMut.{mid-len}
 use Rattle.hash.specs.Lists.{pick}
 use Rattle.ring.specs.Words.{q}
 use Rattle.ring.specs.Round.{residues}
-use Rattle.ring.specs.Uniform.{heldOf}
+use Rattle.ring.specs.UniformSteps.{heldOf}
 use Rattle.signature.specs.AnswerSteps.{fieldsOf}
 use Rattle.signature.specs.Challenge.{chalPoly}
 use Rattle.signature.specs.ChallengeSteps.{chalHeld}
