@@ -38,14 +38,14 @@ keyFrom false bytes words = expanded (expandedIn bytes words)
 abbrev pub coinsOf : Bool → List ℕ → List ℕ → List ℕ → Coins
 coinsOf explicit seeds words masks = record { explicit = explicit; noise = pick explicit words seeds; masks = masks }
 
--- both of the slices that are lent
+-- both, of the slices that are lent
 abbrev pub keyLent : Bool → RefT (List ℕ) → RefT (List ℕ) → Key
 keyLent isPacked bytes words = keyFrom isPacked (bytes .now) (words .now)
 
 abbrev pub coinsLent : Bool → RefT (List ℕ) → RefT (List ℕ) → RefT (List ℕ) → Coins
 coinsLent explicit seeds words masks = coinsOf explicit (seeds .now) (words .now) (masks .now)
 
--- they hold attempt number a + 1, and explicit noise is words below q
+-- the coins hold attempt number a + 1, and explicit noise is words below q
 pub record Within (p : Params) (T : Coins) (a : ℕ) : Type 0 where
   pub noise-long : a * noiseSize p (T .explicit) + noiseSize p (T .explicit) ≤ length (T .noise)
   pub noise-low : T .explicit ≡ true → Below q (T .noise)
@@ -84,7 +84,7 @@ LastRow p N g A ys =
 pub record Committed (p : Params) (N : Noise) (g : MaskGen) (A s : List ℕ) (h : MaskGen) (ys : List ℕ) : Type 0 where
   pub begun : Begun p N g s ys
   pub row : LastRow p N g A ys
-  pub image : span ys (atT (p .l) (p .shares)) (p .k * 512) ≡ totals (p .k) (p .shares) (maskedImage p N g A .shares)
+  pub image : commitmentIn p ys ≡ totals (p .k) (p .shares) (maskedImage p N g A .shares)
   pub next : h ≡ maskedImage p N g A .next
 
 -- ---- line 14 by the transform: c is the transform of the challenge, X the shares of s in the transform domain, Y those of r
@@ -138,10 +138,10 @@ pub record Answered (p : Params) (N : Noise) (g : MaskGen) (A mu s : List ℕ) (
   pub hash-is : hash ≡ hashOf p N g A mu
   pub challenge-is : o ≡ chalHeld (chalPoly p (hashOf p N g A mu))
   pub row : LastRow p N g A ys
-  pub commitment : span ys (atT (p .l) (p .shares)) (p .k * 512) ≡ roundW (commitmentOf p N g A)
+  pub commitment : commitmentIn p ys ≡ roundW (commitmentOf p N g A)
   pub idle : chalPoly p (hashOf p N g A mu) ≡ none → Begun p N g s ys
   pub key : (c : List ℤ) → chalPoly p (hashOf p N g A mu) ≡ some c → keyIn p ys ≡ refreshedKey p N g A s .shares
   pub shares : (c : List ℤ) → chalPoly p (hashOf p N g A mu) ≡ some c
       → span ys (atR (p .l) (p .shares)) (p .l * (p .shares * 512)) ≡ refreshedResponse p N g A s (residues q c) .shares
   pub response : (c : List ℤ) → chalPoly p (hashOf p N g A mu) ≡ some c
-      → span ys (atX (p .k) (p .l) (p .shares)) (p .l * 512) ≡ totals (p .l) (p .shares) (refreshedResponse p N g A s (residues q c) .shares)
+      → responseIn p ys ≡ totals (p .l) (p .shares) (refreshedResponse p N g A s (residues q c) .shares)
