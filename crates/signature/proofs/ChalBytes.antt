@@ -15,7 +15,7 @@ use Rattle.hash.proofs.Lanes.{absorb-mod}
 use Rattle.hash.proofs.Output.{after-none, after-next, finish-mod}
 use Rattle.hash.proofs.Table.{length-table, getD-table, filled-more}
 use Rattle.hash.proofs.Sponge.{absorb-append, finish-two, stream-block}
-use Rattle.signature.specs.Challenge.{draw, draws, ordered}
+use Rattle.signature.specs.Challenge.{chalDraw, chalDraws, ordered}
 use Rattle.signature.specs.ChallengeSteps.{bytesOf, drawsOf, blockOf, nextOf, behind}
 
 -- ---- blocks
@@ -33,7 +33,7 @@ pub state-next : (b : Bool) (i : ℕ) (S : State) → nextOf b (stateOf b i S) �
 state-next true i S = sym (ap (λ (n : ℕ). after n S) (add-one i) ∙ after-next i S)
 state-next false i S = refl
 
-pub draws-are : (b : Bool) (S : State) (lent : List ℕ) → draws (length (bytesOf b S lent)) ≡ drawsOf b (length lent)
+pub draws-are : (b : Bool) (S : State) (lent : List ℕ) → chalDraws (length (bytesOf b S lent)) ≡ drawsOf b (length lent)
 draws-are true S lent = rw length-table
 draws-are false S lent = refl
 
@@ -49,7 +49,7 @@ byte-of true S lent i j h l =
 byte-of false S lent i j h l = getD-table (λ (k : ℕ). getD lent (i * 136 + k) 0) 136 j l
 
 pub draw-of : (b : Bool) (S : State) (lent : List ℕ) (i j : ℕ) → i < 16 → j < 68
-    → draw (blockOf b (stateOf b i S) lent i) j ≡ draw (bytesOf b S lent) (i * 68 + j)
+    → chalDraw (blockOf b (stateOf b i S) lent i) j ≡ chalDraw (bytesOf b S lent) (i * 68 + j)
 draw-of b S lent i j h l =
     let e : i * 136 + j * 2 ≡ (i * 68 + j) * 2 = omega arith in
     let f : i * 136 + (j * 2 + 1) ≡ (i * 68 + j) * 2 + 1 = omega arith in
@@ -60,7 +60,7 @@ draw-of b S lent i j h l =
     ap₂ (λ (u v : ℕ). u + v * 256) x y
 
 pub block-draws : (b : Bool) (S A : State) (lent bytes : List ℕ) (i m : ℕ) → A ≡ stateOf b i S → bytes ≡ blockOf b A lent i → i < 16 → m ≤ 68
-    → (j : ℕ) → j < m → draw bytes j ≡ draw (bytesOf b S lent) (i * 68 + j)
+    → (j : ℕ) → j < m → chalDraw bytes j ≡ chalDraw (bytesOf b S lent) (i * 68 + j)
 block-draws b S A lent bytes i m e f h l j g = rw (f, e) (draw-of b S lent i j h (omega arith))
 
 -- a block filled byte by byte

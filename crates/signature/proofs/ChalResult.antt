@@ -19,7 +19,7 @@ use Rattle.hash.proofs.Output.{output-length, output-bytes}
 use Rattle.hash.proofs.Rows.{found}
 use Rattle.ring.proofs.Checks.{absurd-bool}
 use Rattle.ring.proofs.Filled.{some-filled, none-filled}
-use Rattle.signature.specs.Challenge.{draw, place, minusBit, sign, nz, weight, step, run, draws, challenge, chalPoly, ordered, chalHash, sampledChallenge, headed}
+use Rattle.signature.specs.Challenge.{chalDraw, place, minusBit, sign, nz, weight, step, run, chalDraws, challenge, chalPoly, ordered, chalHash, sampledChallenge, headed}
 use Rattle.signature.specs.ChallengeSteps.{chalHeld}
 use Rattle.signature.specs.declared.challenge.Challenged.{Challenged}
 
@@ -38,9 +38,9 @@ unfolding run
 run-length e s w zero = length-replicate 512 (pos 0)
 run-length e s w (suc n) = go (eqb (weight (run e s w n)) w) (run-length e s w n)
   where
-    go : (b : Bool) → length (run e s w n) ≡ 512 → length (pick b (run e s w n) (step e (run e s w n) (draw s n))) ≡ 512
+    go : (b : Bool) → length (run e s w n) ≡ 512 → length (pick b (run e s w n) (step e (run e s w n) (chalDraw s n))) ≡ 512
     go true h = h
-    go false h = step-length e (run e s w n) (draw s n) ∙ h
+    go false h = step-length e (run e s w n) (chalDraw s n) ∙ h
 
 -- coefficients -1, 0 and 1
 abbrev Small : List ℤ → Type 0
@@ -78,19 +78,19 @@ unfolding run
 run-small e s w zero = none-small 512
 run-small e s w (suc n) = go (eqb (weight (run e s w n)) w) (run-small e s w n)
   where
-    go : (b : Bool) → Small (run e s w n) → Small (pick b (run e s w n) (step e (run e s w n) (draw s n)))
+    go : (b : Bool) → Small (run e s w n) → Small (pick b (run e s w n) (step e (run e s w n) (chalDraw s n)))
     go true h = h
-    go false h = step-small e (run e s w n) (draw s n) h
+    go false h = step-small e (run e s w n) (chalDraw s n) h
 
 -- the run that a challenge is
 pub challenge-run : (e : Edition) (w : ℕ) (s : List ℕ) (c : List ℤ) → challenge e w s ≡ some c
-    → (c ≡ run e s w (draws (length s))) × (weight c ≡ w)
+    → (c ≡ run e s w (chalDraws (length s))) × (weight c ≡ w)
 unfolding challenge
-challenge-run e w s c = go (eqb (weight (run e s w (draws (length s)))) w) (eqb-true (weight (run e s w (draws (length s)))) w)
+challenge-run e w s c = go (eqb (weight (run e s w (chalDraws (length s)))) w) (eqb-true (weight (run e s w (chalDraws (length s)))) w)
   where
-    go : (b : Bool) → (b ≡ true → weight (run e s w (draws (length s))) ≡ w) → pick b (some (run e s w (draws (length s)))) none ≡ some c
-        → (c ≡ run e s w (draws (length s))) × (weight c ≡ w)
-    go true f h = let x : c ≡ run e s w (draws (length s)) = cc in (x, ap weight x ∙ f refl)
+    go : (b : Bool) → (b ≡ true → weight (run e s w (chalDraws (length s))) ≡ w) → pick b (some (run e s w (chalDraws (length s)))) none ≡ some c
+        → (c ≡ run e s w (chalDraws (length s))) × (weight c ≡ w)
+    go true f h = let x : c ≡ run e s w (chalDraws (length s)) = cc in (x, ap weight x ∙ f refl)
     go false f h = let z : _≡_ {A = ℕ} 0 1 = cc in absurd (omega arith)
 
 module _ (e : Edition) (w : ℕ) (s : List ℕ) (c : List ℤ) (is : challenge e w s ≡ some c) where
@@ -98,10 +98,10 @@ module _ (e : Edition) (w : ℕ) (s : List ℕ) (c : List ℤ) (is : challenge e
   challenge-weight = challenge-run e w s c is .1
 
   pub challenge-length : length c ≡ 512
-  challenge-length = ap length (challenge-run e w s c is .0) ∙ run-length e s w (draws (length s))
+  challenge-length = ap length (challenge-run e w s c is .0) ∙ run-length e s w (chalDraws (length s))
 
   pub challenge-small : (i : ℕ) → natAbs (getD c i (pos 0)) ≤ 1
-  challenge-small i = rw (challenge-run e w s c is .0) (run-small e s w (draws (length s)) i)
+  challenge-small i = rw (challenge-run e w s c is .0) (run-small e s w (chalDraws (length s)) i)
 
 -- ---- of a record's edition and weight
 

@@ -20,7 +20,7 @@ use mir.Val.{toZ, ofZ}
 use Rattle.hash.specs.Lists.{pick}
 use Rattle.hash.specs.Keccak.{State}
 use Rattle.hash.specs.declared.params.Edition.{Edition}
-use Rattle.signature.specs.Challenge.{draw, place, minusBit, sign, nz, weight, step, run, draws, challenge}
+use Rattle.signature.specs.Challenge.{chalDraw, place, minusBit, sign, nz, weight, step, run, chalDraws, challenge}
 use Rattle.signature.specs.ChallengeSteps.{chalHeld, bytesOf, blockOf, bitAt, onesOf}
 use Rattle.signature.specs.declared.challenge.Challenged.{Challenged}
 use Rattle.signature.proofs.ChalBytes.{stateOf, block-draws}
@@ -74,7 +74,7 @@ run-start e s w at h = record {
 }
 
 module _ {e : Edition} {s : List ℕ} {w : ℕ} {m : List ℕ} {c : List ℤ} {at : ℕ} (held : Held e s w m c at)
-    (few : weight c ≡ w → ⊥) (d : ℕ) (is-draw : d ≡ draw s at) where
+    (few : weight c ≡ w → ⊥) (d : ℕ) (is-draw : d ≡ chalDraw s at) where
   low : place d < 512
   low = omega arith
 
@@ -112,7 +112,7 @@ module _ {e : Edition} {s : List ℕ} {w : ℕ} {m : List ℕ} {c : List ℤ} {a
 
 -- a draw in the terms of the code: k the ones of the map, d the draw, p its position, t the bit there, m' the map and z the sign that are stored
 module _ {e : Edition} {s : List ℕ} {w : ℕ} {m : List ℕ} {c : List ℤ} {at : ℕ} (held : Held e s w m c at)
-    (k : ℕ) (is-count : k ≡ onesOf m) (few : k ≡ w → ⊥) (d p t : ℕ) (is-draw : d ≡ draw s at) (is-place : p ≡ place d) (is-bit : t ≡ bitAt m p) where
+    (k : ℕ) (is-count : k ≡ onesOf m) (few : k ≡ w → ⊥) (d p t : ℕ) (is-draw : d ≡ chalDraw s at) (is-place : p ≡ place d) (is-bit : t ≡ bitAt m p) where
   few-taken : weight c ≡ w → ⊥
   few-taken x = few (is-count ∙ held .count ∙ x)
 
@@ -124,13 +124,13 @@ module _ {e : Edition} {s : List ℕ} {w : ℕ} {m : List ℕ} {c : List ℤ} {a
 
 -- the draws of a block b, m of them, from the map m₀ and the polynomial c₀ to m₁ and c₁ after j: whatever stream they are part of
 pub record Carried (e : Edition) (w m : ℕ) (b m₀ : List ℕ) (c₀ : List ℤ) (m₁ : List ℕ) (c₁ : List ℤ) (j : ℕ) : Type 0 where
-  pub on : (s : List ℕ) (at : ℕ) → ((i : ℕ) → i < m → draw b i ≡ draw s (at + i)) → Held e s w m₀ c₀ at → Held e s w m₁ c₁ (at + j)
+  pub on : (s : List ℕ) (at : ℕ) → ((i : ℕ) → i < m → chalDraw b i ≡ chalDraw s (at + i)) → Held e s w m₀ c₀ at → Held e s w m₁ c₁ (at + j)
 
 pub carried-none : (e : Edition) (w m : ℕ) (b m₀ : List ℕ) (c₀ : List ℤ) → Carried e w m b m₀ c₀ m₀ c₀ 0
 carried-none e w m b m₀ c₀ = record { on = λ s at h x. rw add-zero x }
 
 module _ {e : Edition} {w m : ℕ} {b m₀ : List ℕ} {c₀ : List ℤ} {m₁ : List ℕ} {c₁ : List ℤ} {j : ℕ} (held : Carried e w m b m₀ c₀ m₁ c₁ j) (inside : j < m)
-    (k : ℕ) (is-count : k ≡ onesOf m₁) (few : k ≡ w → ⊥) (d p t : ℕ) (is-draw : d ≡ draw b j) (is-place : p ≡ place d) (is-bit : t ≡ bitAt m₁ p) where
+    (k : ℕ) (is-count : k ≡ onesOf m₁) (few : k ≡ w → ⊥) (d p t : ℕ) (is-draw : d ≡ chalDraw b j) (is-place : p ≡ place d) (is-bit : t ≡ bitAt m₁ p) where
   pub carried-drop : (t ≡ 0 → ⊥) → Carried e w m b m₀ c₀ m₁ c₁ (j + 1)
   carried-drop h = record {
     on = λ s at f x. rw add-assoc at (turn-drop (held .on s at f x) k is-count few d p t (is-draw ∙ f j inside) is-place is-bit h);
@@ -165,16 +165,16 @@ unfolding run
 stays e s w i n x h = le-ind (λ (k : ℕ). run e s w k ≡ run e s w i) refl (λ k l ih. rw (run, eq-eqb _ _ (ap weight ih ∙ x)) ih) n h
 
 module _ {e : Edition} {s : List ℕ} {w : ℕ} {m : List ℕ} {c : List ℤ} {at : ℕ} (held : Held e s w m c at) (k : ℕ) (is-count : k ≡ onesOf m) where
-  pub full : at ≤ draws (length s) → k ≡ w → _≡_ {A = Challenged} (record { ok = true; poly = c }) (chalHeld (challenge e w s))
+  pub full : at ≤ chalDraws (length s) → k ≡ w → _≡_ {A = Challenged} (record { ok = true; poly = c }) (chalHeld (challenge e w s))
   unfolding challenge chalHeld
   full h x =
       let f : weight (run e s w at) ≡ w = ap weight (sym (held .is)) ∙ sym (held .count) ∙ sym is-count ∙ x in
-      rw (stays e s w at (draws (length s)) f h, eq-eqb _ _ f, ← held .is)
+      rw (stays e s w at (chalDraws (length s)) f h, eq-eqb _ _ f, ← held .is)
 
-  pub gone : (onesOf m ≡ w) ⊎ (at ≡ draws (length s)) → (k ≡ w → ⊥)
+  pub gone : (onesOf m ≡ w) ⊎ (at ≡ chalDraws (length s)) → (k ≡ w → ⊥)
       → _≡_ {A = Challenged} (record { ok = false; poly = replicate 512 (pos 0) }) (chalHeld (challenge e w s))
   unfolding challenge chalHeld
   gone h x =
-      let n : weight (run e s w (draws (length s))) ≡ w → ⊥ =
+      let n : weight (run e s w (chalDraws (length s))) ≡ w → ⊥ =
       λ y. x (is-count ∙ ⊎-elim (λ f. f) (λ f. held .count ∙ ap weight (held .is ∙ ap (run e s w) f) ∙ y) h) in
       rw (ne-eqb _ _ n)

@@ -18,8 +18,8 @@ use Rattle.signature.specs.Outcome.{setKnown, foundIn}
 -- ---- Algorithm 10 over a stream of bytes
 
 -- draw number n: two bytes, the lower first; bit 0 is the sign, bits 1 to 9 the position
-abbrev pub draw : List ℕ → ℕ → ℕ
-draw s n = getD s (n * 2) 0 + getD s (n * 2 + 1) 0 * 256
+abbrev pub chalDraw : List ℕ → ℕ → ℕ
+chalDraw s n = getD s (n * 2) 0 + getD s (n * 2 + 1) 0 * 256
 
 abbrev pub place : ℕ → ℕ
 place d = d / 2 % 512
@@ -49,15 +49,15 @@ step e c d = pick (eqb (nz (getD c (place d) (pos 0))) 0) (set c (place d) (sign
 -- the polynomial after n draws of the stream s, for weight w
 unfoldable pub run : Edition → List ℕ → ℕ → ℕ → List ℤ
 run e s w zero = replicate 512 (pos 0)
-run e s w (suc n) = pick (eqb (weight (run e s w n)) w) (run e s w n) (step e (run e s w n) (draw s n))
+run e s w (suc n) = pick (eqb (weight (run e s w n)) w) (run e s w n) (step e (run e s w n) (chalDraw s n))
 
 -- how many draws n bytes give: at most 1,088
-abbrev pub draws : ℕ → ℕ
-draws n = min 1088 (n / 2)
+abbrev pub chalDraws : ℕ → ℕ
+chalDraws n = min 1088 (n / 2)
 
 -- the challenge polynomial of a stream, if w positions are taken in time (check 11)
 unfoldable pub challenge : Edition → ℕ → List ℕ → Option (List ℤ)
-challenge e w s = pick (eqb (weight (run e s w (draws (length s)))) w) (some (run e s w (draws (length s)))) none
+challenge e w s = pick (eqb (weight (run e s w (chalDraws (length s)))) w) (some (run e s w (chalDraws (length s)))) none
 
 -- the header of eight bytes: a letter and a number
 abbrev pub headed : ℕ → ℕ → List ℕ

@@ -10,7 +10,7 @@ use Rattle.hash.specs.Lists.{table}
 use Rattle.hash.specs.Keccak.{State, keccakF}
 use Rattle.hash.specs.Shake.{absorbFrom, finish, rate, stream}
 use Rattle.signature.specs.declared.challenge.Challenged.{Challenged}
-use Rattle.signature.specs.Challenge.{draws}
+use Rattle.signature.specs.Challenge.{chalDraws}
 
 -- ---- the map of taken positions: bit p of eight words, and the ones of all of them
 
@@ -35,7 +35,7 @@ bytesOf false S lent = lent
 
 abbrev pub drawsOf : Bool → ℕ → ℕ
 drawsOf true n = 1088
-drawsOf false n = draws n
+drawsOf false n = chalDraws n
 
 -- block i, of the state that gives it or of the lent bytes; and the state that gives the block behind it
 abbrev pub blockOf : Bool → State → List ℕ → ℕ → List ℕ

@@ -7,7 +7,7 @@ ghost use lib.Bits.{bitOr};
 ghost use lib.ListN.{length, getD, set};
 ghost use Rattle.hash.specs.Lists.{table};
 ghost use Rattle.hash.specs.Shake.{stream, shake256};
-ghost use Rattle.signature.specs.Challenge.{draw, place, minusBit, sign, challenge, ordered, sampledChallenge, headed};
+ghost use Rattle.signature.specs.Challenge.{chalDraw, place, minusBit, sign, challenge, ordered, sampledChallenge, headed};
 ghost use Rattle.signature.specs.ChallengeSteps.{bitAt, onesOf, chalHeld, blockOf, bytesOf, drawsOf, nextOf, behind};
 use hash::num::least;
 use hash::num::wide;
@@ -23,7 +23,7 @@ pub struct Challenged {
 // Draw number n of a block.
 fn draw_at(b: [u8; 136], n: usize) -> u64
     requires { ⌜ n < 68 ⌝ }
-    ensures { λ r. ⌜ r ≡ draw b n ⌝ }
+    ensures { λ r. ⌜ r ≡ chalDraw b n ⌝ }
 {
     wide(b[n * 2]) + wide(b[n * 2 + 1]) * 256
 }

@@ -3,7 +3,7 @@ use mathlib.Core.Path.{_≡_, sym, ap, _∙_}
 use mathlib.Core.Logic.{_⊎_, inl, inr, ⊎-elim}
 use native.Mathlib.Omega.{arith}
 use lib.ListN.{length, length-set}
-use Rattle.signature.specs.Challenge.{draws}
+use Rattle.signature.specs.Challenge.{chalDraws}
 use Rattle.signature.specs.ChallengeSteps.{onesOf, bytesOf, nextOf}
 use Rattle.signature.proofs.ChalRun.{Held, Carried, run-start, carried-none, carried-drop, carried-put, through, stored-sign, full, gone}
 use Rattle.signature.proofs.ChalBytes.{stateOf, state-first, state-next, draws-are, draws-low}
@@ -29,8 +29,8 @@ abbrev μ-blocks2 : tie.MeasureT-blocks2
 ended : (c : tie.Left-blocks2 Inv-loop μ-loop Inv-blocks2 μ-blocks2) →
     let a = c .before .before .before .before .args in
     let t = bytesOf (a .streamed) (a .a) (a .lent .now) in
-    (at : ℕ) × (at ≤ draws (length t)) × Held (a .edition) t (a .omega) (c .blocks2-test .map) (c .blocks2-test .c) at
-    × ((onesOf (c .blocks2-test .map) ≡ a .omega) ⊎ (at ≡ draws (length t)))
+    (at : ℕ) × (at ≤ chalDraws (length t)) × Held (a .edition) t (a .omega) (c .blocks2-test .map) (c .blocks2-test .c) at
+    × ((onesOf (c .blocks2-test .map) ≡ a .omega) ⊎ (at ≡ chalDraws (length t)))
 ended c =
     let a = c .before .before .before .before .args in
     let l = c .before .blocks2 in
