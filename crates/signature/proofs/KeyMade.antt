@@ -27,7 +27,7 @@ use Rattle.signature.specs.Bits.{repack}
 use Rattle.signature.specs.Compress.{exchanged, collectedOf, compressedOf}
 use Rattle.signature.specs.Matrix.{matrix}
 use Rattle.signature.specs.Keys.{vkSeed, vkVector, publicKey, fullShare, seededShare, compressed, keygenBytes, noisePart, sharePart, keyShares, keyVector, keygenOf}
-use Rattle.signature.specs.KeygenSteps.{collected}
+use Rattle.signature.specs.KeygenSteps.{collected, fullShareOf}
 use Rattle.signature.proofs.Packing.{length-repack, repack-trip}
 use Rattle.signature.proofs.Entries.{all-some}
 
@@ -35,7 +35,7 @@ use Rattle.signature.proofs.Entries.{all-some}
 
 -- the share that is written in full, if the share seeds fill
 abbrev pub fullOf : Params → List ℕ → List ℕ → Option (List ℕ)
-fullOf p seeds mask = compressed p (sharePart p seeds) (keyShares p (noisePart p seeds) (maskStart mask))
+fullOf p seeds mask = fullShareOf p (sharePart p seeds) (noisePart p seeds) mask
 
 abbrev pub vectorOf : Params → List ℕ → List ℕ → List ℕ → List ℕ
 vectorOf p seeds mask A = keyVector p (noisePart p seeds) (maskStart mask) A
