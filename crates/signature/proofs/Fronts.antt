@@ -1,16 +1,18 @@
 -- The first n words of a local array: written there as a part, and read back.
 use mathlib.Core.Path.{_≡_, sym, ap, _∙_}
 use mathlib.Core.List.{List, _++_}
-use Prim.Native.Nat.{ℕ, _+_, _-_, _≤_}
+use Prim.Native.Nat.{ℕ, _+_, _-_, _*_, _/_, _≤_}
 use native.Mathlib.Omega.{arith}
 use lib.ListN.{length, take, drop, replicate, length-replicate}
 use lib.Seq.{take-at, length-take-le}
 use borrow.Rule.Slice.PartMut.{midOf, postOf, putMid, same-len-mid, mid-len}
+use Rattle.hash.specs.declared.params.Params.{Params}
 use Rattle.hash.specs.Shake.{absorbed, stream, shake256}
 use Rattle.hash.proofs.Table.{length-table}
 use Rattle.sharing.specs.Region.{span}
 use Rattle.sharing.proofs.Regions.{length-span}
 use Rattle.signature.specs.Bits.{repack}
+use Rattle.signature.specs.Keys.{vkVector}
 use Rattle.signature.specs.Recover.{keyHash, boundTo}
 use Rattle.signature.proofs.Packing.{length-repack}
 
@@ -55,6 +57,24 @@ module _ (w n : ℕ) (xs ys bs : List ℕ) (h : n ≤ length xs) (e : ys ≡ rep
 
   pub unpacked-is : take (n - 0) (putMid 0 (n - 0) xs ys) ≡ repack 8 w n bs
   unpacked-is = front-is n xs ys h long ∙ unpacked
+
+-- .. of t, from a public key's bytes, into an array of 4608 words
+module _ (p : Params) (key ys : List ℕ) (h : p .k ≤ 9)
+    (e : ys ≡ repack 8 7 (length {A = ℕ} (midOf 0 (p .k * 512 - 0) (replicate 4608 0))) (take (p .kappa / 8 + p .k * 448 - p .kappa / 8) (drop (p .kappa / 8) key))) where
+  pub vector-in : p .k * 512 ≤ length (putMid 0 (p .k * 512 - 0) (replicate 4608 0) ys)
+  vector-in = unpacked-in 7 (p .k * 512) (replicate 4608 0) ys _ (omega arith) e
+
+  pub vector-is : take (p .k * 512 - 0) (putMid 0 (p .k * 512 - 0) (replicate 4608 0) ys) ≡ vkVector p key
+  unfolding vkVector
+  vector-is =
+      let m : p .kappa / 8 + p .k * 448 - p .kappa / 8 ≡ p .k * 448 = omega arith in
+      unpacked-is 7 (p .k * 512) (replicate 4608 0) ys _ (omega arith) e
+      ∙ ap (λ (j : ℕ). repack 8 7 (p .k * 512) (take j (drop (p .kappa / 8) key))) m
+
+-- all of t is k polynomials
+pub vector-long : (p : Params) (key : List ℕ) → length (vkVector p key) ≡ p .k * 512
+unfolding vkVector
+vector-long p key = length-repack 8 7 (p .k * 512) _
 
 -- .. by a hash
 module _ (n : ℕ) (xs ys m : List ℕ) (h : n ≤ length xs) (e : ys ≡ shake256 m (length (midOf 0 (n - 0) xs))) where

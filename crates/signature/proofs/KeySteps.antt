@@ -3,21 +3,24 @@ use mathlib.Core.Path.{_≡_, sym, ap, subst, _∙_}
 use mathlib.Core.Bool.{Bool, true, false}
 use mathlib.Core.List.{List}
 use mathlib.Core.Option.{some}
-use Prim.Native.Nat.{ℕ, suc, _+_, _*_, _/_, _^_, _≤_}
+use Prim.Native.Nat.{ℕ, suc, _+_, _-_, _*_, _/_, _^_, _≤_, _<_}
 use native.Mathlib.Omega.{arith}
-use lib.ListN.{length, drop}
+use lib.ListN.{length, take, drop}
+use Rattle.hash.specs.Lists.{zeros}
 use Rattle.hash.specs.Params.{orderIndex}
 use Rattle.hash.specs.declared.params.Params.{Params}
-use Rattle.ring.specs.Words.{q, Below}
+use Rattle.hash.proofs.Rows.{count-power}
+use Rattle.ring.specs.Words.{q, Below, Words}
 use Rattle.ring.specs.Round.{roundT}
+use Rattle.ring.proofs.Filled.{not-there}
 use Rattle.sharing.specs.Blocks.{block, totals}
 use Rattle.sharing.specs.Region.{span, Wrote}
 use Rattle.sharing.specs.Encoding.{addNoise}
 use Rattle.sharing.specs.Masks.{masks}
-use Rattle.sharing.specs.Noise.{seedNoise}
+use Rattle.sharing.specs.Noise.{noiseBytes, seedNoise}
 use Rattle.sharing.specs.declared.masks.MaskGen.{MaskGen}
 use Rattle.sharing.proofs.Regions.{wrote-value, wrote-wide, wrote-over}
-use Rattle.signature.specs.Checks.{both}
+use Rattle.signature.specs.Checks.{both, workWords}
 use Rattle.signature.specs.KeygenSteps.{Rounded, Generated}
 use Rattle.signature.specs.Keys.{keyShares, keyVector, compressed}
 use Rattle.signature.specs.Compress.{compressedOf}
@@ -25,8 +28,10 @@ use Rattle.signature.specs.Layout.{atS, atT, atX}
 use Rattle.signature.specs.Masked.{Noise, seeded, maskedNoise, maskedImage}
 use Rattle.signature.specs.MaskedSteps.{matrixIn, MatrixHeld, transformed, rowsOf, SummedAll}
 use Rattle.signature.specs.Matrix.{matrix, matrixOf, filled}
+use Rattle.signature.specs.Table.{Tabled}
 use Rattle.signature.proofs.Masking.{image-is}
 use Rattle.signature.proofs.Product.{transformed-each}
+use Rattle.signature.proofs.Sizes.{cleared, room, coins-first, coins-second, matrix-fits, part-all}
 
 -- lines 5 to 8: a sum, rounded where it is
 pub rounded-made : (p : Params) (to : ℕ) (W s₀ s₁ s₂ : List ℕ) → p .shares * 512 + p .shares * 512 ≤ to
@@ -43,25 +48,36 @@ rounded-made p to W s₀ s₁ s₂ h u v =
 both-right : (a b : Bool) → a ≡ true → both a b ≡ b
 both-right a b e = ap (λ (c : Bool). both c b) e
 
-pub both-no : (p : Params) (seed coins shares : List ℕ) (g : MaskGen) → filled (matrixOf (p .k) (p .l) seed) ≡ false
+both-no : (p : Params) (seed coins shares : List ℕ) (g : MaskGen) → filled (matrixOf (p .k) (p .l) seed) ≡ false
     → false ≡ both (filled (matrix p seed)) (filled (compressed p shares (keyShares p coins g)))
 both-no p seed coins shares g e = sym (ap (λ (c : Bool). both c (filled (compressed p shares (keyShares p coins g)))) e)
 
-abbrev pub Said : Params → List ℕ → List ℕ → List ℕ → Bool → List ℕ → MaskGen → Type 0
+abbrev Said : Params → List ℕ → List ℕ → List ℕ → Bool → List ℕ → MaskGen → Type 0
 Said p seed coins shares c s g =
     (c ≡ both (filled (matrix p seed)) (filled (compressed p shares (keyShares p coins g))))
     × ((A X : List ℕ) → matrix p seed ≡ some A → compressed p shares (keyShares p coins g) ≡ some X
     → Generated p coins g A X s)
 
+-- what `make_parts` ensures: the same, with the work buffer s₀ before
+abbrev pub Made : Params → MaskGen → Bool → List ℕ → List ℕ → List ℕ → List ℕ → List ℕ → Type 0
+Made p g r s₀ s seed coins shares =
+    ((r ≡ both (filled (matrix p seed)) (filled (compressed p shares (keyShares p coins g)))) × (length s ≡ length s₀) × Below q s)
+    × ((A x : List ℕ) → matrix p seed ≡ some A → compressed p shares (keyShares p coins g) ≡ some x
+    → Generated p coins g A x s)
+
 -- the noise of key generation, and its seeds behind those of s
 abbrev noiseOf : Params → List ℕ → Noise
 noiseOf p coins = seeded p (p .ut) coins
 
-abbrev pub restOf : Params → List ℕ → List ℕ
+abbrev restOf : Params → List ℕ → List ℕ
 restOf p coins = drop (p .l * p .rep * p .shares * (p .kappa / 8)) coins
 
+-- .. as they are lent
+abbrev lentRest : Params → List ℕ → List ℕ
+lentRest p coins = take (length coins - p .l * p .rep * p .shares * (p .kappa / 8)) (restOf p coins)
+
 -- the shares of all rows of t, of the rest of the noise seeds, the matrix M, the list at s and the generator x behind it
-abbrev pub imageOf : Params → List ℕ → MaskGen → List ℕ → List ℕ → List ℕ
+abbrev imageOf : Params → List ℕ → MaskGen → List ℕ → List ℕ → List ℕ
 imageOf p rest x M S =
     addNoise masks (p .shares) x (p .k) (p .rep) (seedNoise (p .shares) (p .rep) (p .ut) (p .kappa / 8) rest) (rowsOf (p .shares) (p .k) (p .l) M S)
 
@@ -115,16 +131,80 @@ module _ (p : Params) (power : p .shares ≡ 2 ^ orderIndex (p .shares)) (coins 
           full = z .new;
         }
 
-    pub made-parts : (g′ : MaskGen) → g ≡ g′ → Said p seed coins shares c s₃ g′
+    made-parts : (g′ : MaskGen) → g ≡ g′ → Said p seed coins shares c s₃ g′
     made-parts g′ e = subst (Said p seed coins shares c s₃) e (key-filled, key-made)
+
+-- ---- the calls of `make_parts`, one behind the other: s₀ is the work buffer behind `clear`, the others as above; s stands at `at`, t at `to`
+
+module _ (p : Params) (work s₀ : List ℕ) (clear : s₀ ≡ zeros (length work)) where
+  -- all words of it are 0
+  start : Words (length work) s₀
+  start = cleared work s₀ clear
+
+  -- what is left where the matrix does not fill
+  pub none-made : (seed coins shares : List ℕ) (g : MaskGen) (found : Bool) → found ≡ filled (matrixOf (p .k) (p .l) seed) → found ≡ false
+      → Made p g false work s₀ seed coins shares
+  none-made seed coins shares g found e f =
+      let no = sym e ∙ f in
+      ((both-no p seed coins shares g no, start .long, start .low), λ A X m k. not-there _ A m no)
+
+  module _ (h : Tabled p) (coins : List ℕ) (at to : ℕ) (long : length work ≡ workWords p) (coins-long : length coins ≡ noiseBytes p)
+      (at-s : at ≡ atS (p .shares)) (at-t : to ≡ atT (p .l) (p .shares)) where
+    -- what `noise_seeds` requires
+    pub noise-asked : (Tabled p × (1 ≤ p .ut) × (p .ut ≤ 48) × (p .l * p .rep * p .shares * (p .kappa / 8) ≤ length coins))
+        × ((p .shares * 512 ≤ at) × (at + p .l * (p .shares * 512) ≤ length s₀) × Below q s₀)
+    noise-asked =
+        let R = room p h (length work) long in
+        ((h, h .ut-pos, omega (arith, h .ut-low), coins-first p h (length coins) coins-long), (omega arith, omega (arith, R .0, start .long), start .low))
+
+    module _ (g : MaskGen) (M s₁ : List ℕ) (M-long : length M ≡ 32256) (M-low : Below q M)
+        (u : Wrote (p .shares * 512) at (p .l * (p .shares * 512)) (transformed (p .l * p .shares) (maskedNoise p (noiseOf p coins) g .shares)) s₀ s₁) where
+      -- the matrix is in its array
+      held-in : MatrixHeld p M
+      held-in = (matrix-fits p h M-long, M-low)
+
+      -- what `public_vector` requires
+      pub vector-asked : (Tabled p × (p .k * p .rep * p .shares * (p .kappa / 8) ≤ length (lentRest p coins)) × MatrixHeld p M)
+          × ((p .shares * 512 + p .shares * 512 ≤ at) × (at + p .l * (p .shares * 512) ≤ to) × (to + p .k * 512 ≤ length s₁) × Below q s₁)
+      vector-asked =
+          let R = room p h (length work) long in
+          ((h, coins-second p h coins coins-long, held-in), (omega arith, omega arith, omega (arith, R .1, u .long, start .long), u .low))
+
+      module _ (x : MaskGen) (s₂ shares : List ℕ) (from : ℕ) (at-x : from ≡ atX (p .k) (p .l) (p .shares))
+          (v : Rounded p to (imageOf p (lentRest p coins) x M (span s₁ at (p .l * (p .shares * 512)))) s₁ s₂) where
+        -- the work buffer is as long as before
+        still-long : length s₂ ≡ length work
+        still-long = v .vector .long ∙ u .long ∙ start .long
+
+        -- what `compress_vector` requires
+        pub compress-asked : length shares ≡ (p .shares - 1) * (p .kappa / 8)
+            → (1 ≤ p .shares) × (p .shares < 256) × (p .l ≤ 256) × (at + p .l * (p .shares * 512) ≤ from) × (from + p .l * 512 ≤ length s₂) × Below q s₂
+            × ((p .shares - 1) * (p .kappa / 8) ≤ length shares)
+        compress-asked e =
+            let R = room p h (length work) long in (
+              h .shares-pos,
+              omega (arith, h .shares-low),
+              omega (arith, h .columns-low),
+              omega arith,
+              omega (arith, R .2, still-long),
+              v .vector .low,
+              omega arith,
+            )
+
+        -- what is left where it does
+        pub parts-made : (seed s₃ : List ℕ) (g′ : MaskGen) (found r : Bool) → g ≡ g′ → found ≡ filled (matrixOf (p .k) (p .l) seed) → found ≡ true
+            → ((A : List ℕ) → matrixOf (p .k) (p .l) seed ≡ some A → matrixIn p M ≡ A) → x ≡ maskedNoise p (noiseOf p coins) g .next
+            → (r ≡ filled (compressedOf (p .edition) (p .kappa / 8) shares (p .l) (p .shares) (span s₂ at (p .l * (p .shares * 512)))))
+            × (length s₃ ≡ length s₂) × Below q s₃
+            → ((X : List ℕ) → compressedOf (p .edition) (p .kappa / 8) shares (p .l) (p .shares) (span s₂ at (p .l * (p .shares * 512))) ≡ some X
+            → Wrote 0 from (p .l * 512) X s₂ s₃) → Made p g′ r work s₃ seed coins shares
+        parts-made seed s₃ g′ found r g-is e there is x-is full wrote =
+            let m = made-parts p (count-power (p .shares) (h .count)) coins shares g seed M (lentRest p coins) s₀ s₁ s₂ s₃ x
+            (part-all (p .l * p .rep * p .shares * (p .kappa / 8)) coins) (rw at-s at u) x-is held-in (sym e ∙ there) is (rw (at-s, at-t) at v) r
+            (rw at-s at (full .0)) (rw (at-s, at-x) at wrote) g′ g-is in
+            ((m .0, full .1 ∙ still-long, full .2), m .1)
 
 -- what is said of the parts of the seeds, said of the seeds
 pub three-parts : {a a′ b b′ c c′ : List ℕ} (P : List ℕ → List ℕ → List ℕ → Type 0) → a ≡ a′ → b ≡ b′ → c ≡ c′ → P a b c → P a′ b′ c′
 three-parts {a} {a′} {b} {b′} {c} {c′} P e f h x =
     subst (λ (t : List ℕ). P a′ b′ t) h (subst (λ (t : List ℕ). P a′ t c) f (subst (λ (t : List ℕ). P t b c) e x))
-
-abbrev pub Made : Params → MaskGen → Bool → List ℕ → List ℕ → List ℕ → List ℕ → List ℕ → Type 0
-Made p g r s₀ s seed coins shares =
-    ((r ≡ both (filled (matrix p seed)) (filled (compressed p shares (keyShares p coins g)))) × (length s ≡ length s₀) × Below q s)
-    × ((A x : List ℕ) → matrix p seed ≡ some A → compressed p shares (keyShares p coins g) ≡ some x
-    → Generated p coins g A x s)

@@ -9,7 +9,7 @@ use lib.Seq.{take-all, length-take-le}
 use mir.Syntax.{w64}
 use mir.Val.{Fits}
 use Rattle.hash.specs.declared.params.Params.{Params}
-use Rattle.ring.specs.Words.{Words}
+use Rattle.ring.specs.Words.{q, Below, Words}
 use Rattle.hash.specs.Lists.{zeros}
 use Rattle.ring.proofs.Sums.{words-zeros}
 use Rattle.sharing.specs.Noise.{noiseBytes}
@@ -25,9 +25,6 @@ cleared xs ys e = subst (Words (length xs)) (sym e) (words-zeros (length xs))
 pub fits-low : (x : ℕ) → x ≤ 262400 → Fits w64 x
 fits-low x h = record { fits = omega arith }
 
-pub same-le : {a b : ℕ} → a ≡ b → b ≤ a
-same-le e = omega arith
-
 -- a part that ends with its whole
 pub part-all : (b : ℕ) (xs : List ℕ) → take (length xs - b) (drop b xs) ≡ drop b xs
 part-all b xs = let e : length (drop b xs) ≡ length xs - b = length-drop b xs in take-all (length xs - b) (drop b xs) (omega arith)
@@ -40,13 +37,13 @@ module _ (p : Params) (h : Tabled p) where
   seed-low : p .kappa / 8 ≤ 32
   seed-low = let k = h .kappa-low in omega arith
 
-  -- the seeds of s
-  pub first-low : (p .l * p .rep ≤ 56) × (p .l * p .rep * p .shares ≤ 3584) × (p .l * p .rep * p .shares * (p .kappa / 8) ≤ 114688)
-  first-low =
+  -- how many seeds s has, and their bytes
+  pub first-fits : Fits w64 (p .l * p .rep) × Fits w64 (p .l * p .rep * p .shares) × Fits w64 (p .l * p .rep * p .shares * (p .kappa / 8))
+  first-fits =
       let x : p .l * p .rep ≤ 7 * 8 = mul-le-mul (h .columns-low) (h .rep-low) in
       let y : p .l * p .rep * p .shares ≤ 7 * 8 * 32 = mul-le-mul x (h .shares-low) in
       let z : p .l * p .rep * p .shares * (p .kappa / 8) ≤ 7 * 8 * 32 * 32 = mul-le-mul y seed-low in
-      (omega arith, omega arith, omega arith)
+      (fits-low _ (omega arith), fits-low _ (omega arith), fits-low (p .l * p .rep * p .shares * (p .kappa / 8)) (omega arith))
 
   -- the noise seeds of one attempt
   pub coins-low : ((p .l + p .k) * p .shares ≤ 1024) × ((p .l + p .k) * p .shares * p .rep ≤ 8192)
@@ -108,3 +105,7 @@ pub matrix-fits : (p : Params) → Tabled p → {n : ℕ} → n ≡ 32256 → p 
 matrix-fits p h {n} e =
     let a : p .k * p .l ≤ 9 * 7 = mul-le-mul (h .rows-low) (h .columns-low) in
     omega (arith, a, e)
+
+-- .. new as it is lent to `expand_matrix`
+pub matrix-new : (p : Params) → Tabled p → (p .k * (p .l * 512) ≤ length (zeros 32256)) × Below q (zeros 32256) × (p .k ≤ 9) × (p .l ≤ 7)
+matrix-new p h = let w = words-zeros 32256 in (matrix-fits p h (w .long), w .low, h .rows-low, h .columns-low)

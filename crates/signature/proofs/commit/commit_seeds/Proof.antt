@@ -6,7 +6,7 @@ use Rattle.sharing.specs.Noise.{seedNoise}
 use Rattle.signature.specs.Masked.{seeded}
 use Rattle.hash.proofs.Rows.{count-power}
 use Rattle.signature.proofs.Commits.{commit-made}
-use Rattle.signature.proofs.Sizes.{fits-low, part-all, first-low, room, coins-first, coins-second}
+use Rattle.signature.proofs.Sizes.{part-all, first-fits, room, coins-first, coins-second}
 use borrow.Author.Needs.{needs}
 use Rattle.signature.proofs.commit.commit_seeds.Statement.{statement}
 use Rattle.signature.proofs.commit.commit_seeds.Tie as tie
@@ -18,23 +18,13 @@ at-t-requires : tie.Need-at-t-requires
 at-t-requires c κs = let h = c .before .before .before .before .before .pre .0 in (h .columns-low, h .shares-low)
 
 mul-b : tie.Need-mul-b
-mul-b c =
-    let a = c .before .before .before .before .before .before in
-    let m = first-low (a .args .p) (a .pre .0) .0 in
-    fits-low _ (omega (arith, m))
+mul-b c = let a = c .before .before .before .before .before .before in first-fits (a .args .p) (a .pre .0) .0
 
 mul-b-2 : tie.Need-mul-b-2
-mul-b-2 c =
-    let a = c .before .before .before .before .before .before in
-    let m = first-low (a .args .p) (a .pre .0) .1 in
-    fits-low _ (omega (arith, m))
+mul-b-2 c = let a = c .before .before .before .before .before .before in first-fits (a .args .p) (a .pre .0) .1
 
 mul-b-3 : tie.Need-mul-b-3
-mul-b-3 c =
-    let a = c .before .before .before .before .before .before in
-    let p = a .args .p in
-    let m = first-low p (a .pre .0) .2 in
-    fits-low (p .l * p .rep * p .shares * (p .kappa / 8)) (omega (arith, m))
+mul-b-3 c = let a = c .before .before .before .before .before .before in first-fits (a .args .p) (a .pre .0) .2
 
 noise-seeds-requires : tie.Need-noise-seeds-requires
 noise-seeds-requires c κs =

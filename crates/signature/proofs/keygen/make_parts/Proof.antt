@@ -1,12 +1,6 @@
-use Rattle.ring.proofs.Sums.{words-zeros}
-use mathlib.Core.Path.{sym, _∙_}
-use Prim.Native.Nat.{_*_, _/_}
-use native.Mathlib.Omega.{arith}
 use borrow.Author.Tests.{not-true, not-false}
-use Rattle.hash.proofs.Rows.{count-power}
-use Rattle.ring.proofs.Filled.{not-there}
-use Rattle.signature.proofs.KeySteps.{both-no, made-parts}
-use Rattle.signature.proofs.Sizes.{same-le, cleared, matrix-fits, fits-low, part-all, first-low, room, coins-first, coins-second}
+use Rattle.signature.proofs.KeySteps.{none-made, noise-asked, vector-asked, compress-asked, parts-made}
+use Rattle.signature.proofs.Sizes.{first-fits, matrix-new, coins-first}
 use Rattle.sharing.specs.Masks.{maskStart}
 use lib.ListN.{length}
 use borrow.Author.Needs.{needs}
@@ -17,48 +11,27 @@ at-t-requires : tie.Need-at-t-requires
 at-t-requires c κs = let h = c .before .before .before .before .before .before .before .pre .0 in (h .columns-low, h .shares-low)
 
 mul-b : tie.Need-mul-b
-mul-b c =
-    let a = c .before .before .before .before .before .before .before .before in
-    let m = first-low (a .args .p) (a .pre .0) .0 in
-    fits-low _ (omega (arith, m))
+mul-b c = let a = c .before .before .before .before .before .before .before .before in first-fits (a .args .p) (a .pre .0) .0
 
 mul-b-2 : tie.Need-mul-b-2
-mul-b-2 c =
-    let a = c .before .before .before .before .before .before .before .before in
-    let m = first-low (a .args .p) (a .pre .0) .1 in
-    fits-low _ (omega (arith, m))
+mul-b-2 c = let a = c .before .before .before .before .before .before .before .before in first-fits (a .args .p) (a .pre .0) .1
 
 mul-b-3 : tie.Need-mul-b-3
-mul-b-3 c =
-    let a = c .before .before .before .before .before .before .before .before in
-    let p = a .args .p in
-    let m = first-low p (a .pre .0) .2 in
-    fits-low (p .l * p .rep * p .shares * (p .kappa / 8)) (omega (arith, m))
+mul-b-3 c = let a = c .before .before .before .before .before .before .before .before in first-fits (a .args .p) (a .pre .0) .2
 
 expand-matrix-requires : tie.Need-expand-matrix-requires
-expand-matrix-requires c κs =
-    let h = c .before .before .before .before .before .before .before .before .before .before .before .before .before .pre .0 in
-    (matrix-fits (c .before .before .before .before .before .before .before .before .before .before .before .before .before .args .p) h (words-zeros 32256 .long), words-zeros 32256 .low, h .rows-low, h .columns-low)
+expand-matrix-requires c κs = let a = c .before .before .before .before .before .before .before .before .before .before .before .before .before in matrix-new (a .args .p) (a .pre .0)
 
 returns : tie.Need-returns
 returns c =
-    let a = c .before .before .before .before .before .before .before .before .before .before .before .before .before .before .before .before in
-    let b = a .args in
-    let p = b .p in
-    let w = cleared (b .work .now) _ (c .before .before .before .before .before .before .clear .ensures) in
-    let no = sym (c .before .before .expand-matrix .ensures .0 .0) ∙ not-true _ (c .if1 .taken) in
-    ((both-no p (b .seed .now) (b .coins .now) (b .shares .now) (maskStart (b .mask-seed .now)) no, w .long, w .low), λ A X m k. not-there _ A m no)
+    let b = c .before .before .before .before .before .before .before .before .before .before .before .before .before .before .before .before .args in
+    none-made (b .p) (b .work .now) _ (c .before .before .before .before .before .before .clear .ensures) (b .seed .now) (b .coins .now) (b .shares .now) (maskStart (b .mask-seed .now)) _ (c .before .before .expand-matrix .ensures .0 .0) (not-true _ (c .if1 .taken))
 
 noise-seeds-requires : tie.Need-noise-seeds-requires
 noise-seeds-requires c κs =
     let a = c .before .before .before .before .before .before .before .before .before .before .before .before .before .before .before .before .before .before in
     let b = a .args in
-    let p = b .p in
-    let h = a .pre .0 in
-    let w = cleared (b .work .now) _ (c .before .before .before .before .before .before .before .before .clear .ensures) in
-    let r0 = room p h (length (b .work .now)) (a .pre .1) .0 in
-    let n = w .long in
-    ((h, h .ut-pos, omega (arith, h .ut-low), coins-first p h (length (b .coins .now)) (a .pre .2)), rw (c .before .before .before .before .before .before .before .before .before .before .before .at-s .ensures) (omega arith, omega (arith, r0, n), w .low))
+    noise-asked (b .p) (b .work .now) _ (c .before .before .before .before .before .before .before .before .clear .ensures) (a .pre .0) (b .coins .now) _ _ (a .pre .1) (a .pre .2) (c .before .before .before .before .before .before .before .before .before .before .before .at-s .ensures) (c .before .before .before .before .before .before .before .before .before .before .at-t .ensures)
 
 sub-public-vector : tie.Need-sub-public-vector
 sub-public-vector c =
@@ -74,14 +47,8 @@ public-vector-requires : tie.Need-public-vector-requires
 public-vector-requires c κs =
     let a = c .before .before .before .before .before .before .before .before .before .before .before .before .before .before .before .before .before .before .before .before .before .before .before .before in
     let b = a .args in
-    let p = b .p in
-    let h = a .pre .0 in
-    let z = c .before .before .before .before .before .before .before .before .before .before .expand-matrix .ensures .0 in
-    let w = cleared (b .work .now) _ (c .before .before .before .before .before .before .before .before .before .before .before .before .before .before .clear .ensures) in
-    let u = c .before .before .before .before .before .noise-seeds .ensures .0 in
-    let n = u .long ∙ w .long in
-    let r1 = room p h (length (b .work .now)) (a .pre .1) .1 in
-    ((h, coins-second p h (b .coins .now) (a .pre .2), (matrix-fits p h (z .1), z .2)), rw (c .before .before .before .before .before .before .before .before .before .before .before .before .before .before .before .before .before .at-s .ensures, c .before .before .before .before .before .before .before .before .before .before .before .before .before .before .before .before .at-t .ensures) (omega arith, omega arith, omega (arith, r1, n), u .low))
+    let m = c .before .before .before .before .before .before .before .before .before .before .expand-matrix in
+    vector-asked (b .p) (b .work .now) _ (c .before .before .before .before .before .before .before .before .before .before .before .before .before .before .clear .ensures) (a .pre .0) (b .coins .now) _ _ (a .pre .1) (a .pre .2) (c .before .before .before .before .before .before .before .before .before .before .before .before .before .before .before .before .before .at-s .ensures) (c .before .before .before .before .before .before .before .before .before .before .before .before .before .before .before .before .at-t .ensures) (c .before .before .before .before .before .before .before .start .result) (m .last .0) _ (m .ensures .0 .1) (m .ensures .0 .2) (c .before .before .before .before .before .noise-seeds .ensures .0)
 
 at-x-requires : tie.Need-at-x-requires
 at-x-requires c κs = let h = c .before .before .before .before .before .before .before .before .before .before .before .before .before .before .before .before .before .before .before .before .before .before .before .before .before .before .before .before .pre .0 in (h .rows-low, h .columns-low, h .shares-low)
@@ -90,34 +57,21 @@ compress-vector-requires : tie.Need-compress-vector-requires
 compress-vector-requires c κs =
     let a = c .before .before .before .before .before .before .before .before .before .before .before .before .before .before .before .before .before .before .before .before .before .before .before .before .before .before .before .before .before in
     let b = a .args in
-    let p = b .p in
-    let h = a .pre .0 in
-    let w = cleared (b .work .now) _ (c .before .before .before .before .before .before .before .before .before .before .before .before .before .before .before .before .before .before .before .clear .ensures) in
-    let z = c .before .before .before .before .public-vector .ensures .0 .vector in
-    let n = z .long ∙ c .before .before .before .before .before .before .before .before .before .before .noise-seeds .ensures .0 .long ∙ w .long in
-    let r2 = room p h (length (b .work .now)) (a .pre .1) .2 in
-    rw (c .before .before .before .before .before .before .before .before .before .before .before .before .before .before .before .before .before .before .before .before .before .before .at-s .ensures, c .at-x .ensures) (h .shares-pos, omega (arith, h .shares-low), omega (arith, h .columns-low), omega arith, omega (arith, r2, n), z .low, same-le (a .pre .3))
-
-same-length-2 : tie.Need-same-length-2
-same-length-2 c =
-    let w = cleared (c .before .before .before .before .before .before .before .before .before .before .before .before .before .before .before .before .before .before .before .before .before .before .before .before .before .before .before .before .before .before .before .before .args .work .now) _ (c .before .before .before .before .before .before .before .before .before .before .before .before .before .before .before .before .before .before .before .before .before .before .clear .ensures) in
-    c .before .before .compress-vector .ensures .0 .1 ∙ c .before .before .before .before .before .before .before .public-vector .ensures .0 .vector .long ∙ c .before .before .before .before .before .before .before .before .before .before .before .before .before .noise-seeds .ensures .0 .long ∙ w .long
+    let m = c .before .before .before .before .before .before .before .before .before .before .before .before .before .before .before .expand-matrix in
+    compress-asked (b .p) (b .work .now) _ (c .before .before .before .before .before .before .before .before .before .before .before .before .before .before .before .before .before .before .before .clear .ensures) (a .pre .0) (b .coins .now) _ _ (a .pre .1) (a .pre .2) (c .before .before .before .before .before .before .before .before .before .before .before .before .before .before .before .before .before .before .before .before .before .before .at-s .ensures) (c .before .before .before .before .before .before .before .before .before .before .before .before .before .before .before .before .before .before .before .before .before .at-t .ensures) (c .before .before .before .before .before .before .before .before .before .before .before .before .start .result) (m .last .0) _ (m .ensures .0 .1) (m .ensures .0 .2) (c .before .before .before .before .before .before .before .before .before .before .noise-seeds .ensures .0) _ _ (b .shares .now) _ (c .at-x .ensures) (c .before .before .before .before .public-vector .ensures .0) (a .pre .3)
 
 returns-2 : tie.Need-returns-2
 returns-2 c =
     let a = c .before .before .before .before .before .before .before .before .before .before .before .before .before .before .before .before .before .before .before .before .before .before .before .before .before .before .before .before .before .before .before .before in
     let b = a .args in
-    let p = b .p in
-    let h = a .pre .0 in
-    let w = cleared (b .work .now) _ (c .before .before .before .before .before .before .before .before .before .before .before .before .before .before .before .before .before .before .before .before .before .before .clear .ensures) in
-    let e = c .before .before .before .before .before .before .before .before .before .before .before .before .before .before .before .before .before .before .before .before .before .before .before .before .before .at-s .ensures in
-    let s = c .before .before .before .before .before .before .before .before .before .before .before .before .before .noise-seeds .ensures in
-    let z = rw (e, c .before .before .before .before .before .before .before .before .before .before .before .before .before .before .before .before .before .before .before .before .before .before .before .before .at-t .ensures) at (c .before .before .before .before .before .before .before .public-vector .ensures .0) in
-    let x = c .before .before .before .before .before .before .before .before .before .before .before .before .before .before .before .before .before .before .expand-matrix .ensures in
-    let t = rw (e, c .before .before .before .at-x .ensures) at (c .before .before .compress-vector .ensures) in
+    let m = c .before .before .before .before .before .before .before .before .before .before .before .before .before .before .before .before .before .before .expand-matrix in
+    let u = c .before .before .before .before .before .before .before .before .before .before .before .before .before .noise-seeds .ensures in
     let g = c .before .before .before .before .before .before .before .before .before .before .before .before .before .before .before .start in
-    let m = made-parts p (count-power (p .shares) (h .count)) (b .coins .now) (b .shares .now) (g .result) (b .seed .now) _ _ _ _ _ _ _ (part-all (p .l * p .rep * p .shares * (p .kappa / 8)) (b .coins .now)) (rw e at (s .0)) (s .1) (matrix-fits p h (x .0 .1), x .0 .2) (sym (x .0 .0) ∙ not-false _ (c .before .before .before .before .before .before .before .before .before .before .before .before .before .before .before .before .if1 .left)) (x .1) z _ (t .0 .0) (t .1) (maskStart (b .mask-seed .now)) (g .ensures) in
-    ((m .0, t .0 .1 ∙ z .vector .long ∙ s .0 .long ∙ w .long, t .0 .2), m .1)
+    let f = c .before .before .compress-vector .ensures in
+    parts-made (b .p) (b .work .now) _ (c .before .before .before .before .before .before .before .before .before .before .before .before .before .before .before .before .before .before .before .before .before .before .clear .ensures) (a .pre .0) (b .coins .now) _ _ (a .pre .1) (a .pre .2) (c .before .before .before .before .before .before .before .before .before .before .before .before .before .before .before .before .before .before .before .before .before .before .before .before .before .at-s .ensures) (c .before .before .before .before .before .before .before .before .before .before .before .before .before .before .before .before .before .before .before .before .before .before .before .before .at-t .ensures) (g .result) (m .last .0) _ (m .ensures .0 .1) (m .ensures .0 .2) (u .0) _ _ (b .shares .now) _ (c .before .before .before .at-x .ensures) (c .before .before .before .before .before .before .before .public-vector .ensures .0) (b .seed .now) _ (maskStart (b .mask-seed .now)) _ _ (g .ensures) (m .ensures .0 .0) (not-false _ (c .before .before .before .before .before .before .before .before .before .before .before .before .before .before .before .before .if1 .left)) (m .ensures .1) (u .1) (f .0) (f .1)
+
+same-length-2 : tie.Need-same-length-2
+same-length-2 c = returns-2 c .0 .1
 
 pub make-parts-spec : {M : Type 1} → statement M
 make-parts-spec =

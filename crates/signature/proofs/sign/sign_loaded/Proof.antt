@@ -4,14 +4,13 @@ use Prim.Native.Nat.{ℕ, _/_}
 use native.Mathlib.Omega.{arith}
 use lib.ListN.{replicate}
 use borrow.Author.Tests.{not-true, not-false}
-use Rattle.ring.proofs.Sums.{words-zeros}
 use Rattle.signature.specs.AttemptSteps.{coinsOf, keyIn}
 use Rattle.signature.specs.Keys.{vkSeed}
 use Rattle.signature.specs.Matrix.{matrix, filled}
 use Rattle.signature.proofs.AttemptEnds.{told-as, matrix-none, matrix-made}
 use Rattle.signature.proofs.Fronts.{bound-in, bound-is}
 use Rattle.signature.proofs.SignEnds.{seed-front}
-use Rattle.signature.proofs.Sizes.{matrix-fits}
+use Rattle.signature.proofs.Sizes.{matrix-fits, matrix-new}
 use borrow.Author.Needs.{needs}
 use Rattle.signature.proofs.sign.sign_loaded.Statement.{statement}
 use Rattle.signature.proofs.sign.sign_loaded.Tie as tie
@@ -22,9 +21,7 @@ part-expand-matrix-end c =
     omega (arith, a .pre .1 .0 .0, a .pre .0 .0 .vk)
 
 expand-matrix-requires : tie.Need-expand-matrix-requires
-expand-matrix-requires c κs =
-    let h = c .before .before .before .before .before .before .before .before .before .before .before .pre .0 .0 in
-    (matrix-fits (c .before .before .before .before .before .before .before .before .before .before .before .args .p) h (words-zeros 32256 .long), words-zeros 32256 .low, h .rows-low, h .columns-low)
+expand-matrix-requires c κs = let a = c .before .before .before .before .before .before .before .before .before .before .before in matrix-new (a .args .p) (a .pre .0 .0)
 
 returns : tie.Need-returns
 returns c =

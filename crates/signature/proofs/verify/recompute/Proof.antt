@@ -1,22 +1,20 @@
 use mathlib.Core.Path.{_≡_, sym, ap, subst, _∙_}
 use mathlib.Core.List.{List}
 use mathlib.Core.Option.{some}
-use Prim.Native.Nat.{ℕ, _+_, _-_, _*_, _/_}
+use Prim.Native.Nat.{ℕ, _-_, _*_, _/_}
 use native.Mathlib.Omega.{arith}
-use lib.ListN.{length, take, drop, replicate}
+use lib.ListN.{length, take}
 use Rattle.ring.specs.Words.{q, Below, Words}
 use Rattle.ring.specs.Transform.{ntt}
 use Rattle.ring.specs.Round.{residues}
 use Rattle.ring.proofs.Sums.{words-zeros}
 use Rattle.ring.proofs.Signs.{below-residues}
 use Rattle.sharing.specs.Region.{span}
-use Rattle.signature.specs.Bits.{repack}
 use Rattle.signature.specs.Keys.{vkSeed, vkVector}
 use Rattle.signature.specs.MaskedSteps.{transformed}
 use Rattle.signature.specs.Matrix.{matrix, matrixOf, filled}
 use Rattle.signature.proofs.Adjusted.{adjusted-all, adjusted-parts}
-use Rattle.signature.proofs.Fronts.{unpacked-in, unpacked-is}
-use Rattle.signature.proofs.Packing.{length-repack}
+use Rattle.signature.proofs.Fronts.{vector-in, vector-is, vector-long}
 use Rattle.ring.proofs.Reduced.{length-residues}
 use borrow.Author.Needs.{needs}
 use Rattle.signature.proofs.verify.recompute.Statement.{statement}
@@ -93,27 +91,26 @@ part-adjust-rows-start-2 c = search needs
 
 part-adjust-rows-end-2 : tie.Need-part-adjust-rows-end-2
 part-adjust-rows-end-2 c = let a = c .before .before .before .before .before .before .before .before .before .before .before .before .before .before .before in
-    unpacked-in 7 (a .args .p .k * 512) (replicate 4608 0) (c .before .before .before .before .before .before .before .before .before .unpack .last .1 .1 .0) _ (omega (arith, a .pre .0 .0 .rows-low)) (c .before .before .before .before .before .before .before .before .before .unpack .ensures)
+    let u = c .before .before .before .before .before .before .before .before .before .unpack in
+    vector-in (a .args .p) (a .args .vk .now) (u .last .1 .1 .0) (a .pre .0 .0 .rows-low) (u .ensures)
 
 adjust-rows-requires : tie.Need-adjust-rows-requires
-unfolding vkVector
 adjust-rows-requires c κs = let a = c .before .before .before .before .before .before .before .before .before .before .before .before .before .before .before .before .before in
     let p = a .args .p in
     let T = a .pre .0 .0 in
-    let m : p .kappa / 8 + p .k * 448 - p .kappa / 8 ≡ p .k * 448 = omega arith in
-    let t = unpacked-is 7 (p .k * 512) (replicate 4608 0) (c .before .before .before .before .before .before .before .before .before .before .before .unpack .last .1 .1 .0) _ (omega (arith, T .rows-low)) (c .before .before .before .before .before .before .before .before .before .before .before .unpack .ensures)
-    ∙ ap (λ (j : ℕ). repack 8 7 (p .k * 512) (take j (drop (p .kappa / 8) (a .args .vk .now)))) m in
+    let u = c .before .before .before .before .before .before .before .before .before .before .before .unpack in
+    let t = vector-is p (a .args .vk .now) (u .last .1 .1 .0) (T .rows-low) (u .ensures) in
     let s = c .before .before .before .before .before .before .before .before .place .ensures in
     let n = s .1 in (
       (omega (arith, n, T .columns-low), s .2, T .rows-low, T .columns-low, c .before .before .before .before .before .ntt .ensures .1),
-      ((ap (λ (l : List ℕ). length l) t ∙ length-repack 8 7 (p .k * 512) _, subst (Below 125) (sym t) (a .pre .0 .2), a .pre .1 .0 .0, a .pre .1 .0 .2), a .pre .1 .1 .0),
+      ((ap (λ (l : List ℕ). length l) t ∙ vector-long p (a .args .vk .now), subst (Below 125) (sym t) (a .pre .0 .2), a .pre .1 .0 .0, a .pre .1 .0 .2), a .pre .1 .1 .0),
     )
 
 same-length : tie.Need-same-length
 same-length c = search needs
 
 returns : tie.Need-returns
-unfolding vkVector vkSeed
+unfolding vkSeed
 returns c = let a = c .before .before .before .before .before .before .before .before .before .before .before .before .before .before .before .before .before .before .before .before .before in
     let b = a .args in
     let p = b .p in
@@ -123,11 +120,10 @@ returns c = let a = c .before .before .before .before .before .before .before .b
     let seed : List ℕ = take (p .kappa / 8) (b .vk .now) in
     let z = residues q (b .z .now) in
     let x = residues q (b .c) in
-    let m : p .kappa / 8 + p .k * 448 - p .kappa / 8 ≡ p .k * 448 = omega arith in
     let o : p .kappa / 8 - 0 ≡ p .kappa / 8 = omega arith in
     let e = ap (λ (j : ℕ). take j (b .vk .now)) o in
-    let t = unpacked-is 7 (p .k * 512) (replicate 4608 0) (c .before .before .before .before .before .before .before .before .before .before .before .before .before .before .before .unpack .last .1 .1 .0) _ (omega (arith, T .rows-low)) (c .before .before .before .before .before .before .before .before .before .before .before .before .before .before .before .unpack .ensures)
-    ∙ ap (λ (j : ℕ). repack 8 7 (p .k * 512) (take j (drop (p .kappa / 8) (b .vk .now)))) m in
+    let u = c .before .before .before .before .before .before .before .before .before .before .before .before .before .before .before .unpack in
+    let t = vector-is p (b .vk .now) (u .last .1 .1 .0) (T .rows-low) (u .ensures) in
     let s : span (c .before .before .before .before .before .before .before .before .before .before .before .before .place .last .1 .1 .0) 512 (l * 512) ≡ transformed l z = c .before .before .before .before .before .before .before .before .before .before .before .before .place .ensures .0 in
     let y : c .before .before .before .before .before .before .before .before .before .ntt .result ≡ ntt x = c .before .before .before .before .before .before .before .before .before .ntt .ensures .0 ∙ ap ntt (c .before .before .before .before .before .before .before .before .before .before .from-signed .ensures .0) in
     let r = c .before .before .before .adjust-rows .ensures in
@@ -137,7 +133,7 @@ returns c = let a = c .before .before .before .before .before .before .before .b
           r .1 (f ∙ some-filled (matrix p seed) A g)
           ∙ adjusted-parts k l (b .hint .now) e s y t
           ∙ adjusted-all p seed A z x (vkVector p (b .vk .now)) (b .hint .now) g (record { long = length-residues q (b .z .now) ∙ a .pre .1 .0 .1; low = below-residues (b .z .now) })
-          (subst (Words 512) (c .before .before .before .before .before .before .before .before .before .before .from-signed .ensures .0) (c .before .before .before .before .before .before .before .before .before .before .from-signed .ensures .1)) (length-repack 8 7 (p .k * 512) _),
+          (subst (Words 512) (c .before .before .before .before .before .before .before .before .before .before .from-signed .ensures .0) (c .before .before .before .before .before .before .before .before .before .before .from-signed .ensures .1)) (vector-long p (b .vk .now)),
     )
 
 pub recompute-spec : {M : Type 1} → statement M
