@@ -59,8 +59,8 @@ Said p seed coins shares c s g =
     → Generated p coins g A X s)
 
 -- what `make_parts` ensures: the same, with the work buffer s₀ before
-abbrev pub Made : Params → MaskGen → Bool → List ℕ → List ℕ → List ℕ → List ℕ → List ℕ → Type 0
-Made p g r s₀ s seed coins shares =
+abbrev pub PartsLeft : Params → MaskGen → Bool → List ℕ → List ℕ → List ℕ → List ℕ → List ℕ → Type 0
+PartsLeft p g r s₀ s seed coins shares =
     ((r ≡ both (filled (matrix p seed)) (filled (compressed p shares (keyShares p coins g)))) × (length s ≡ length s₀) × Below q s)
     × ((A x : List ℕ) → matrix p seed ≡ some A → compressed p shares (keyShares p coins g) ≡ some x
     → Generated p coins g A x s)
@@ -143,7 +143,7 @@ module _ (p : Params) (work s₀ : List ℕ) (clear : s₀ ≡ zeros (length wor
 
   -- what is left where the matrix does not fill
   pub none-made : (seed coins shares : List ℕ) (g : MaskGen) (found : Bool) → found ≡ filled (matrixOf (p .k) (p .l) seed) → found ≡ false
-      → Made p g false work s₀ seed coins shares
+      → PartsLeft p g false work s₀ seed coins shares
   none-made seed coins shares g found e f =
       let no = sym e ∙ f in
       ((both-no p seed coins shares g no, start .long, start .low), λ A X m k. not-there _ A m no)
@@ -197,7 +197,7 @@ module _ (p : Params) (work s₀ : List ℕ) (clear : s₀ ≡ zeros (length wor
             → (r ≡ filled (compressedOf (p .edition) (p .kappa / 8) shares (p .l) (p .shares) (span s₂ at (p .l * (p .shares * 512)))))
             × (length s₃ ≡ length s₂) × Below q s₃
             → ((X : List ℕ) → compressedOf (p .edition) (p .kappa / 8) shares (p .l) (p .shares) (span s₂ at (p .l * (p .shares * 512))) ≡ some X
-            → Wrote 0 from (p .l * 512) X s₂ s₃) → Made p g′ r work s₃ seed coins shares
+            → Wrote 0 from (p .l * 512) X s₂ s₃) → PartsLeft p g′ r work s₃ seed coins shares
         parts-made seed s₃ g′ found r g-is e there is x-is full wrote =
             let m = made-parts p (count-power (p .shares) (h .count)) coins shares g seed M (lentRest p coins) s₀ s₁ s₂ s₃ x
             (part-all (p .l * p .rep * p .shares * (p .kappa / 8)) coins) (rw at-s at u) x-is held-in (sym e ∙ there) is (rw (at-s, at-t) at v) r

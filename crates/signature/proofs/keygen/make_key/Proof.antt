@@ -2,7 +2,7 @@ use mathlib.Core.Path.{refl, ap, _∙_}
 use Prim.Native.Nat.{_+_, _*_, _/_}
 use native.Mathlib.Omega.{arith}
 use Rattle.signature.specs.Keys.{vkSeed}
-use Rattle.signature.proofs.KeySteps.{three-parts, Made}
+use Rattle.signature.proofs.KeySteps.{three-parts, PartsLeft}
 use Rattle.signature.proofs.Sizes.{fits-low, coins-low, coins-ends, seed-long, coins-part, share-part, coins-long, share-long}
 use Rattle.sharing.specs.Masks.{maskStart}
 use lib.ListN.{length}
@@ -106,7 +106,7 @@ returns c =
     let h = a .pre .0 in
     let xs = b .seeds .now in
     let e = a .pre .2 in
-    three-parts (Made p (maskStart (b .mask-seed .now)) _ (b .work .now) _) refl (coins-part p h xs e) (share-part p h xs e) (c .before .before .make-parts .ensures)
+    three-parts (PartsLeft p (maskStart (b .mask-seed .now)) _ (b .work .now) _) refl (coins-part p h xs e) (share-part p h xs e) (c .before .before .make-parts .ensures)
 
 pub make-key-spec : {M : Type 1} → statement M
 make-key-spec =
