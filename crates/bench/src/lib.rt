@@ -46,7 +46,7 @@ pub extern "C" fn bench_ntt(f: &mut [u64; 512]) -> bool
     ensures { λ r. ⌜ (r ≡ allBelow q (now (f .entry)))
         × (now (f .exit) ≡ pick (allBelow q (now (f .entry))) (ntt (now (f .entry))) (now (f .entry))) ⌝ }
 {
-    if !ring::poly::all_below(f, 549824583172097) {
+    if !ring::poly::all_below(f, ring::poly::Q) {
         return false;
     }
     *f = ring::poly::ntt(*f);
@@ -59,10 +59,10 @@ pub extern "C" fn bench_product(f: &mut [u64; 512], g: &[u64; 512]) -> bool
     ensures { λ r. ⌜ (r ≡ pick (allBelow q (now (f .entry))) (allBelow q (now (g .entry))) false)
         × (now (f .exit) ≡ pick r (mul (now (f .entry)) (now (g .entry))) (now (f .entry))) ⌝ }
 {
-    if !ring::poly::all_below(f, 549824583172097) {
+    if !ring::poly::all_below(f, ring::poly::Q) {
         return false;
     }
-    if !ring::poly::all_below(g, 549824583172097) {
+    if !ring::poly::all_below(g, ring::poly::Q) {
         return false;
     }
     let a = ring::poly::ntt(*f);

@@ -82,6 +82,6 @@ timesp p a b = (a * b) % p
 unfoldable pub backOne : Bool → List ℕ → List ℕ
 backOne s f = scale (prime s) (over512 s) (bwd (prime s) (zeta s) 9 1 f)
 
--- the number below q with the least residue r1 modulo q1, and congruent to r2 modulo q2
+-- the number below q with the least residue r1 modulo q1, and congruent to r2 modulo q2; 520194 is 1 / q1 modulo q2
 abbrev pub crtOf : ℕ → ℕ → ℕ
-crtOf r2 r1 = r1 + 16515073 * (((r2 + (33292289 - r1)) * 520194) % 33292289)
+crtOf r2 r1 = r1 + prime false * (((r2 + (prime true - r1)) * 520194) % prime true)

@@ -16,6 +16,13 @@ use crate::residue::reduce;
 // The modulus q (000, Tables 2 to 4).
 pub const Q: u64 = 549824583172097;
 
+// Rounding divides t by 2^42 and w by 2^44 (2.2): 2^42, and half of each.
+const SCALE_T: u64 = 4398046511104;
+
+const HALF_T: u64 = 2199023255552;
+
+const HALF_W: u64 = 8796093022208;
+
 // The transform.
 pub fn ntt(f: [u64; 512]) -> [u64; 512]
     ensures { λ r. ⌜ (r ≡ ntt f) × Words 512 r ⌝ }
@@ -169,14 +176,14 @@ fn rounded_t(x: u64) -> u64
     requires { ⌜ x < q ⌝ }
     ensures { λ r. ⌜ r ≡ rounded 42 125 x ⌝ }
 {
-    ((x + 2199023255552) >> 42) % 125
+    ((x + HALF_T) >> 42) % 125
 }
 
 fn rounded_w(x: u64) -> u64
     requires { ⌜ x < q ⌝ }
     ensures { λ r. ⌜ r ≡ rounded 44 31 x ⌝ }
 {
-    ((x + 8796093022208) >> 44) % 31
+    ((x + HALF_W) >> 44) % 31
 }
 
 // The rounded t of a public key.
@@ -211,7 +218,7 @@ fn scaled_t(x: u64) -> u64
     requires { ⌜ x < 125 ⌝ }
     ensures { λ r. ⌜ r ≡ x * 2 ^ 42 % q ⌝ }
 {
-    x * 4398046511104 % Q
+    x * SCALE_T % Q
 }
 
 // The rounded t, scaled up again.

@@ -1,7 +1,8 @@
 // Inside the layer: polynomials modulo one prime of q (000, 2.7.2), in place. One code for both primes; `second` says which.
 // From `reduce_all` to `combined` residues are loose (02, #109).
+ghost use mathlib.Core.Bool.{true, false};
 ghost use mathlib.Core.Path.{_≡_};
-ghost use Prim.Native.Nat.{ℕ, _+_, _*_, _-_, _%_, _<_, _≤_};
+ghost use Prim.Native.Nat.{ℕ, _+_, _*_, _-_, _%_, _^_, _<_, _≤_};
 ghost use lib.ListN.{length};
 ghost use Rattle.ring.specs.Words.{q, Below, Residues};
 ghost use Rattle.ring.specs.Poly.{map2};
@@ -13,6 +14,9 @@ use crate::powers::powers;
 const Q1: u64 = 16515073;
 
 const Q2: u64 = 33292289;
+
+// 2^32
+const TWO_32: u64 = 4294967296;
 
 // The two results of a butterfly.
 struct Pair {
@@ -52,10 +56,10 @@ pub fn narrow(second: bool, x: u64) -> u64
 
 // x as it is, seen to have 32 bits: products of such factors are taken two at a time.
 fn low32(x: u64) -> u64
-    requires { ⌜ x < 4294967296 ⌝ }
+    requires { ⌜ x < 2 ^ 32 ⌝ }
     ensures { λ r. ⌜ r ≡ x ⌝ }
 {
-    x % 4294967296
+    x % TWO_32
 }
 
 // Barrett's quotient: t by the prime, rounded down, or one less. The factors are 2^55 by the prime, rounded down; t has 55 bits.
@@ -80,7 +84,7 @@ fn barrett(second: bool, t: u64) -> u64
 
 // The product of two words of 32 bits, so reduced.
 fn barrett_mul(second: bool, a: u64, b: u64) -> u64
-    requires { ⌜ (a < 4294967296) × (b < 4294967296) × (a * b < 32 * (prime second * prime second)) ⌝ }
+    requires { ⌜ (a < 2 ^ 32) × (b < 2 ^ 32) × (a * b < 32 * (prime second * prime second)) ⌝ }
     ensures { λ r. ⌜ Loose (prime second) 2 ((a * b) % prime second) r ⌝ }
 {
     barrett(second, low32(a) * low32(b))
@@ -290,7 +294,7 @@ pub fn backward(second: bool, a: &mut [u64])
 
 // The number below q with the least residue r1 modulo the first prime, and congruent to r2 modulo the second.
 pub fn combine(r2: u64, r1: u64) -> u64
-    requires { ⌜ (r2 < 32 * 33292289) × (r1 < 16515073) ⌝ }
+    requires { ⌜ (r2 < 32 * prime true) × (r1 < prime false) ⌝ }
     ensures { λ r. ⌜ (r ≡ crtOf r2 r1) × (r < q) ⌝ }
 {
     let t = ((r2 + (Q2 - r1)) * 520194) % Q2;
@@ -299,8 +303,8 @@ pub fn combine(r2: u64, r1: u64) -> u64
 
 // From residues modulo the second prime, in a, and modulo the first, in b, to the numbers below q: here they are made least.
 pub fn combined(a: &mut [u64], b: &[u64])
-    requires { ⌜ Residues (32 * 33292289) 512 (now a) × (length (now b) ≡ 512) ⌝ }
-    ensures { λ _. ⌜ (now (a .exit) ≡ map2 crtOf (mods 33292289 (now (a .entry))) (mods 16515073 (now (b .entry))))
+    requires { ⌜ Residues (32 * prime true) 512 (now a) × (length (now b) ≡ 512) ⌝ }
+    ensures { λ _. ⌜ (now (a .exit) ≡ map2 crtOf (mods (prime true) (now (a .entry))) (mods (prime false) (now (b .entry))))
         × Residues q 512 (now (a .exit)) ⌝ }
 {
     let mut i = 0;

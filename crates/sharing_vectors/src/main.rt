@@ -26,7 +26,7 @@ fn refreshed(p: Params)
     let mut s = [0u64; 32768];
     let m = p.shares * 512;
     let g = sharing::masks::fill(&mut s, sharing::masks::start(b"sharing"));
-    if ring::poly::all_below(&s, 549824583172097) {
+    if ring::poly::all_below(&s, ring::poly::Q) {
         let h = sharing::encoding::refresh_at(&mut s, m, p, sharing::masks::start(b"refresh"));
         let e = m + m;
         print_digest(&s[m..e]);

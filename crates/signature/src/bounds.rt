@@ -7,6 +7,9 @@ ghost use Rattle.signature.specs.Bounds.{boundsOf};
 ghost use Rattle.signature.specs.AnswerSteps.{normOf};
 use crate::int;
 
+// 2^(2 * 44 - 64): the hint counts in 2^44, and the sum in 2^64 (lines 5 to 7).
+const SCALE_HINT: u64 = 16777216;
+
 pub enum Norm {
     Square(u64),
     Over,
@@ -56,5 +59,5 @@ pub(crate) fn check_bounds(
     let Norm::Square(z) = measure(response, binf, 32) else {
         return false;
     };
-    16777216 * h + z <= b22
+    SCALE_HINT * h + z <= b22
 }

@@ -110,7 +110,7 @@ fn sampled<T>(mut xof: Shake256, first: usize, all: usize, sample: impl Fn(&[u8]
     })
 }
 
-/// SampleQ: nothing after 777 draws (question 10). 28 blocks are 544 draws: too few for one polynomial in a million.
+/// SampleQ: nothing after 777 draws (check 10). 28 blocks are 544 draws: too few for one polynomial in a million.
 fn uniform(header: [u8; 8], seed: &[u8]) -> Option<Poly> {
     sampled(xof(&header, seed), 28 * 136, 777 * 7, sample_q)
 }
@@ -311,7 +311,7 @@ pub fn refresh(p: &Params, words: &[u64], mask_seed: &[u8]) -> Vec<u64> {
     s.concat().concat()
 }
 
-/// Algorithm 10 over a stream: nothing after 1,088 draws (question 11).
+/// Algorithm 10 over a stream: nothing after 1,088 draws (check 11).
 pub fn challenge(edition: Edition, omega: usize, stream: &[u8]) -> Option<[i8; N]> {
     let mut c = [0i8; N];
     let mut taken = 0;

@@ -115,7 +115,7 @@ impl Args {
         Path::new(self.value(name).expect("a required option is there"))
     }
 
-    /// An option as a number. One that is too large for the type is too large for every question, too.
+    /// An option as a number. One that is too large for the type is too large for every check, too.
     pub fn number(&self, name: &str) -> Result<Option<u32>, Trouble> {
         let Some(value) = self.value(name) else { return Ok(None) };
         match value.to_string_lossy().parse() {

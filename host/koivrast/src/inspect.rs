@@ -88,9 +88,9 @@ fn chart(text: &mut String, rows: &[(String, usize)]) {
     }
 }
 
-/// A good word, or the question that is answered with no.
-fn verdict(yes: bool, good: &str, question: Refusal) -> String {
-    if yes { good.into() } else { format!("refused, {question}") }
+/// A good word, or the check that is answered with no.
+fn verdict(yes: bool, good: &str, check: Refusal) -> String {
+    if yes { good.into() } else { format!("refused, {check}") }
 }
 
 /// The answer of the unit to what a key holds.

@@ -78,7 +78,7 @@ fn found(file: &Contents) -> String {
     }
 }
 
-/// Question 3 answered with no: what the file is and what was wanted; if it is nothing, the lengths that would do.
+/// Check 3 answered with no: what the file is and what was wanted; if it is nothing, the lengths that would do.
 fn wrong_key(file: &Contents, wanted: &[Form]) -> Trouble {
     let said: String = match kind_of_length(file.len()) {
         Some(_) => wanted.iter().map(|form| format!("\n{}", form.origin())).collect(),

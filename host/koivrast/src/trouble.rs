@@ -11,7 +11,7 @@ pub enum Trouble {
     Usage { message: String, help: String },
     /// A file or the system: exit status 2.
     System(String),
-    /// The unit answered a question with no: exit status 1.
+    /// The unit answered a check with no: exit status 1.
     Refused { answer: String, advice: String },
     /// All was said already.
     Said(u8),

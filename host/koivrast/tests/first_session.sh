@@ -156,15 +156,15 @@ expect 'inspect what is nothing' 1 'order.txt has 16 bytes: no key and no signat
 
 # ---- Refusals, by their number
 
-expect 'question 1' 1 'refused, 1: Is the set 128, 192 or 256? No' keygen 129 4 x.key x.pub
-expect 'question 1 in the demonstration' 1 'refused, 1: ' "$tool" bench-demo --set 512
-expect 'question 2' 1 'refused, 2: Is the share count' keygen 128 3 x.key x.pub
+expect 'check 1' 1 'refused, 1: Is the set 128, 192 or 256? No' keygen 129 4 x.key x.pub
+expect 'check 1 in the demonstration' 1 'refused, 1: ' "$tool" bench-demo --set 512
+expect 'check 2' 1 'refused, 2: Is the share count' keygen 128 3 x.key x.pub
 expect 'a count beyond all numbers' 1 'refused, 2: ' keygen 128 99999999999999 x.key x.pub
 : >empty
-expect 'question 3, empty key' 1 'refused, 3: Is the key exactly as long' sign empty order.txt x.sig
-holds 'question 3: length found' grep -q 'empty has 0 bytes' .said
-holds 'question 3: lengths of signing keys' grep -q 'set 128: 14800, 14816, 14848, 14912, 15040, 15296 bytes' .said
-holds 'question 3: lengths of expanded keys' grep -q 'set 256: .*, 921568 bytes' .said
+expect 'check 3, empty key' 1 'refused, 3: Is the key exactly as long' sign empty order.txt x.sig
+holds 'check 3: length found' grep -q 'empty has 0 bytes' .said
+holds 'check 3: lengths of signing keys' grep -q 'set 128: 14800, 14816, 14848, 14912, 15040, 15296 bytes' .said
+holds 'check 3: lengths of expanded keys' grep -q 'set 256: .*, 921568 bytes' .said
 head -c 14000 gate.key >cut.key
 expect 'cut key' 1 'cut.key has 14000 bytes' "$tool" open cut.key --out x.open
 expect 'endless key' 1 'has more than 921568 bytes' sign /dev/zero order.txt x.sig
@@ -176,41 +176,41 @@ expect 'expanded key opened again' 1 'like an expanded key of set 128 with 4 sha
 expect 'signing key refreshed' 1 'An expanded key is what `koivrast open` makes' "$tool" refresh gate.key --out x.open
 expect 'empty public key' 1 'set 192: 3160 bytes' verify empty order.txt order.sig
 bytes 2256 377 >bad.pub
-expect 'question 4' 1 'refused, 4: Are all public key coefficients below 125' verify bad.pub order.txt order.sig
-expect 'question 4 in inspect' 1 '125..127' "$tool" inspect bad.pub
+expect 'check 4' 1 'refused, 4: Are all public key coefficients below 125' verify bad.pub order.txt order.sig
+expect 'check 4 in inspect' 1 '125..127' "$tool" inspect bad.pub
 { head -c 14000 gate.key && bytes 848 377; } >bad.key
-expect 'question 5, signing key' 1 'refused, 5: Are all words of the full share' sign bad.key order.txt x.sig
+expect 'check 5, signing key' 1 'refused, 5: Are all words of the full share' sign bad.key order.txt x.sig
 { head -c 67784 gate.open && bytes 8 377; } >bad.open
-expect 'question 5, expanded key' 1 'The key is damaged: do not use it' "$tool" refresh bad.open --out x.open
-expect 'question 5 in inspect' 1 'contents  *refused, 5: ' "$tool" inspect bad.open
-expect 'question 6, no attempt' 1 'refused, 6: ' sign gate.key order.txt x.sig --attempts 0
-expect 'question 6, 17 attempts' 1 'Take --attempts from 1 to 16' sign gate.key order.txt x.sig --attempts=17
+expect 'check 5, expanded key' 1 'The key is damaged: do not use it' "$tool" refresh bad.open --out x.open
+expect 'check 5 in inspect' 1 'contents  *refused, 5: ' "$tool" inspect bad.open
+expect 'check 6, no attempt' 1 'refused, 6: ' sign gate.key order.txt x.sig --attempts 0
+expect 'check 6, 17 attempts' 1 'Take --attempts from 1 to 16' sign gate.key order.txt x.sig --attempts=17
 bytes 4096 101 >long
 expect 'message of 4096 bytes' 0 'long.sig' sign gate.key long long.sig
 expect 'message of 4096 bytes verified' 0 '^good: ' verify gate.pub long long.sig
 bytes 4097 101 >longer
-expect 'question 9 in signing' 1 'refused, 9: ' sign gate.key longer x.sig
-holds 'question 9: sign the hash' grep -q 'Sign its hash' .said
-expect 'question 9 in verifying' 1 'refused, 9: ' verify gate.pub longer long.sig
-expect 'question 9 before 13' 1 'refused, 9: ' verify gate.pub /dev/zero empty
+expect 'check 9 in signing' 1 'refused, 9: ' sign gate.key longer x.sig
+holds 'check 9: sign the hash' grep -q 'Sign its hash' .said
+expect 'check 9 in verifying' 1 'refused, 9: ' verify gate.pub longer long.sig
+expect 'check 9 before 13' 1 'refused, 9: ' verify gate.pub /dev/zero empty
 expect 'empty message' 0 'empty.sig' sign gate.key empty empty.sig
 expect 'empty message verified' 0 '^good: ' verify gate.pub /dev/null empty.sig
 { cat 128-4.pub && tail -c +2257 gate.open; } >mixed.open
-expect 'question 12' 1 'refused, 12: .* (after 3 attempts)' sign mixed.open order.txt x.sig --attempts 3
-expect 'question 13, cut pipe' 1 'refused, 13: ' eval 'head -c 5000 order.sig | verify gate.pub order.txt -'
-holds 'question 13: lengths' grep -q 'standard input has 5000 bytes. .* set 128, whose signatures have 11524' .said
-expect 'question 13, other set' 1 'like a signature of set 192' verify gate.pub order.txt 192-1.sig
-expect 'question 13, public key' 1 'like a public key of set 128' verify gate.pub order.txt gate.pub
+expect 'check 12' 1 'refused, 12: .* (after 3 attempts)' sign mixed.open order.txt x.sig --attempts 3
+expect 'check 13, cut pipe' 1 'refused, 13: ' eval 'head -c 5000 order.sig | verify gate.pub order.txt -'
+holds 'check 13: lengths' grep -q 'standard input has 5000 bytes. .* set 128, whose signatures have 11524' .said
+expect 'check 13, other set' 1 'like a signature of set 192' verify gate.pub order.txt 192-1.sig
+expect 'check 13, public key' 1 'like a public key of set 128' verify gate.pub order.txt gate.pub
 { head -c 6524 order.sig && bytes 5000 377; } >bad.sig
-expect 'question 14' 1 'refused, 14: ' verify gate.pub order.txt bad.sig
-expect 'question 14 in inspect' 1 'form  *refused, 14: ' "$tool" inspect bad.sig
+expect 'check 14' 1 'refused, 14: ' verify gate.pub order.txt bad.sig
+expect 'check 14 in inspect' 1 'form  *refused, 14: ' "$tool" inspect bad.sig
 { bytes 32 000 && bytes 1 037 && bytes 11491 000; } >wide.sig
-expect 'question 15' 1 'refused, 15: ' verify gate.pub order.txt wide.sig
-expect 'question 15 in inspect' 1 'largest hint  *5 of 2 (250.0 %)' "$tool" inspect wide.sig
+expect 'check 15' 1 'refused, 15: ' verify gate.pub order.txt wide.sig
+expect 'check 15 in inspect' 1 'largest hint  *5 of 2 (250.0 %)' "$tool" inspect wide.sig
 echo 'release tram 18' >other.txt
-expect 'question 16, other message' 1 'refused, 16: Is the recomputed challenge hash equal? No' \
+expect 'check 16, other message' 1 'refused, 16: Is the recomputed challenge hash equal? No' \
     verify gate.pub other.txt order.sig
-expect 'question 16, other key' 1 'refused, 16: ' verify 128-4.pub order.txt order.sig
+expect 'check 16, other key' 1 'refused, 16: ' verify 128-4.pub order.txt order.sig
 for place in 0 31 40 400 3000 11000 11523; do
     cp order.sig altered.sig && flip altered.sig $place
     expect "byte $place altered" 1 'refused, 1[456]: ' verify gate.pub order.txt altered.sig

@@ -24,7 +24,7 @@
 //! * [`SigningKey`], [`ExpandedKey`], [`PublicKey`], [`Signature`]: the byte forms of paper 000, section 2.5.
 //! * [`Secret`]: bytes or words that are wiped when they are dropped.
 //! * [`KeygenSeeds`], [`SigningSeeds`], [`ExplicitNoise`]: what a call is lent besides.
-//! * [`Refusal`]: the sixteen numbers and their questions.
+//! * [`Refusal`]: the sixteen numbers and their checks.
 //! * [`call`]: the calls themselves, on slices of any length.
 //!
 //! All follow the printed text of the submission; the edition of its response files is in [`call`] alone.

@@ -2,14 +2,14 @@
 
 use std::fmt;
 
-/// The first question that was answered with no.
+/// The first check that was answered with no.
 ///
 /// ```
 /// use raccoon::Refusal;
 ///
 /// assert_eq!(Refusal::from_status(0), Ok(()));
 /// assert_eq!(Refusal::from_status(13), Err(Refusal::BadSignatureLength));
-/// assert_eq!(Refusal::BadSignatureLength.question(), "Is the signature exactly as long as the set says?");
+/// assert_eq!(Refusal::BadSignatureLength.check(), "Is the signature exactly as long as the set says?");
 /// ```
 #[derive(Clone, Copy, PartialEq, Eq, PartialOrd, Ord, Hash, Debug)]
 pub enum Refusal {
@@ -70,8 +70,8 @@ impl Refusal {
         self as u32
     }
 
-    /// The paper's question.
-    pub const fn question(self) -> &'static str {
+    /// The check, in the paper's words.
+    pub const fn check(self) -> &'static str {
         match self {
             BadSet => "Is the set 128, 192 or 256?",
             BadShareCount => "Is the share count 1, 2, 4, 8, 16 or 32?",
@@ -95,7 +95,7 @@ impl Refusal {
 
 impl fmt::Display for Refusal {
     fn fmt(&self, f: &mut fmt::Formatter) -> fmt::Result {
-        write!(f, "{}: {} No.", self.number(), self.question())
+        write!(f, "{}: {} No.", self.number(), self.check())
     }
 }
 

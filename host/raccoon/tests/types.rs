@@ -1,4 +1,4 @@
-//! The types over the unit's calls: sizes, questions, what each constructor refuses, and signing in its four forms.
+//! The types over the unit's calls: sizes, checks, what each constructor refuses, and signing in its four forms.
 
 use independent::raccoon::{Edition, Params as Other};
 use raccoon::*;
@@ -51,7 +51,7 @@ fn questions_are_those_of_the_header() {
         let line =
             header.lines().find(|line| line.contains(&format!(" = {},", i + 1)) || line.contains(&format!(" = {} ", i + 1)));
         let line = line.unwrap_or_else(|| panic!("the header has no {}", i + 1));
-        assert!(line.contains(&format!("/* {}", refusal.question())), "{line}");
+        assert!(line.contains(&format!("/* {}", refusal.check())), "{line}");
     }
 }
 
