@@ -5,13 +5,10 @@ use mathlib.Core.Bool.{Bool, true, false}
 use mathlib.Core.List.{List, [], _∷_, _++_, append-assoc}
 use mathlib.Core.Option.{Option, some, none}
 use native.Mathlib.Omega.{arith}
-use native.Mathlib.Nat.{le-of-suc-le-suc, mod-eq-of-lt, mod-lt}
-use native.Mathlib.Decide.{decLt}
-use lib.Arith.{digits-lt}
+use native.Mathlib.Nat.{le-of-suc-le-suc, mod-eq-of-lt}
 use lib.Dec.{lit<, leb}
-use lib.IntN.{ℤ, pos, natAbs}
-use lib.ListN.{length, getD, take, drop, replicate, length-append, length-take, length-replicate, take-append-drop, List·getD-eq-default}
-use lib.Pow.{split, pow-pos, pow-add, pow-mono}
+use lib.IntN.{ℤ, natAbs}
+use lib.ListN.{length, getD, take, drop, replicate, length-append, length-replicate, take-append-drop}
 use lib.Seq.{take-at, drop-at, length-take-le}
 use borrow.Author.Tests.{le-leb, lt-leb, leb-true}
 use Rattle.hash.specs.Lists.{pick, Bytes}
@@ -22,8 +19,7 @@ use Rattle.signature.specs.Form.{Fields, hashBytes, formBits, bitCount, 
 use Rattle.signature.specs.AnswerSteps.{fieldsOf, allZero}
 use Rattle.signature.proofs.Strings.{Bits, bits-drop, bits-join, are-bits, fields-bits, length-bits, length-fields}
 use Rattle.signature.proofs.Packing.{val-bits, chop-fields, fields-append, length-chop, fields-chop, bytes-lt}
-use Rattle.signature.proofs.Codes.{neg-lt, code-length}
-use Rattle.signature.proofs.Lists.{codes-room}
+use Rattle.signature.proofs.Codes.{neg-lt}
 use Rattle.signature.proofs.Filled.{zeros-are, are-zeros, bits-length}
 use Rattle.signature.proofs.Reading.{both-trip, both-canon, ZeroFilled}
 
@@ -269,25 +265,3 @@ module _ (p : Params) (b : List ℕ) (byte : Bytes b) (long : length b ≡ p .«
       let r = read-found p b f g in
       let z = ap allZero (sym (fill-is p b f size r)) ∙ canonical-zero p b f size r long k in
       never (f .hint) (f .response) (record { place = r .place; both-is = r .both-is; fill-zero = z })
-
--- ---- numbers that were read are small
-
-code-small : (w : ℕ) (z : ℤ) → w ≤ 40 → length (code w z) < 2 ^ 20 → natAbs z < 2 ^ 61
-code-small w z h l =
-    let m = natAbs z in
-    let q : m / 2 ^ w < 2 ^ 20 = omega (arith, code-length w m (negOf z)) in
-    omega (arith, split m w, digits-lt q (mod-lt m (pow-pos w)), pow-add 2 20 w, pow-mono {i = 20 + w} {j = 60} (omega arith))
-
-codes-small : (w : ℕ) (zs : List ℤ) → w ≤ 40 → length (codes w zs) < 2 ^ 20 → (i : ℕ) → natAbs (getD zs i (pos 0)) < 2 ^ 61
-codes-small w zs h l i = go (decLt i (length zs))
-  where
-    go : Dec (i < length zs) → natAbs (getD zs i (pos 0)) < 2 ^ 61
-    go (yes s) = code-small w (getD zs i (pos 0)) h (omega (arith, codes-room w zs i s))
-    go (no s) = let o : length zs ≤ i = omega (arith, s) in rw (List·getD-eq-default zs (pos 0) o) (lit< tt)
-
-pub both-small : (n m : ℕ) (t : List ℕ) (h z : List ℤ) (k : ℕ) → Bits t → length t < 2 ^ 20 → readBoth n m t ≡ some (h, z, k)
-    → ((i : ℕ) → natAbs (getD h i (pos 0)) < 2 ^ 61) × ((i : ℕ) → natAbs (getD z i (pos 0)) < 2 ^ 61)
-both-small n m t h z k all l e =
-    let c = both-canon n m t h z k all e .0 in
-    let o : length (codes 0 h) + length (codes 40 z) < 2 ^ 20 = omega (arith, ap length c, length-append (codes 0 h) (codes 40 z), length-take k t) in
-    (codes-small 0 h (omega arith) (omega arith), codes-small 40 z (omega arith) (omega arith))

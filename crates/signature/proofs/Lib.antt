@@ -13,6 +13,7 @@ pub mod Codes
 pub mod Collected
 pub mod Commits
 pub mod Counts
+pub mod Decision
 pub mod Entries
 pub mod Filled
 pub mod Finished
@@ -30,6 +31,7 @@ pub mod Listing
 pub mod Lists
 pub mod Loads
 pub mod Masking
+pub mod Measured
 pub mod Norms
 pub mod Expanded
 pub mod Packer

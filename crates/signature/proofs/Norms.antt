@@ -1,101 +1,79 @@
--- Laws of the norms.
-use Prim.Native.Nat.{ℕ, zero, suc, _+_, _*_, _/_, _^_, _≤_, _<_}
-use mathlib.Core.Path.{_≡_, refl}
+-- Laws of CheckBounds by full sums (000, Algorithm 4).
+use Prim.Native.Nat.{ℕ, zero, suc, _+_, _*_, _^_, _≤_, _<_}
+use mathlib.Core.Path.{_≡_, refl, sym, subst}
 use mathlib.Core.Bool.{Bool, true, false}
 use mathlib.Core.List.{List, [], _∷_}
 use native.Mathlib.Omega.{arith}
-use native.Mathlib.Nat.{not-suc-le-zero, le-of-suc-le-suc, mul-le-mul, suc-mul}
-use native.Mathlib.Numerals.{add-one}
+use native.Mathlib.Nat.{not-suc-le-zero}
+use lib.Dec.{T, leb, leb→le}
 use lib.IntN.{ℤ, pos, natAbs}
 use lib.ListN.{length, getD, take}
-use lib.Dec.{leb}
-use lib.Pow.{shr-mono}
-use borrow.Author.Tests.{le-leb, lt-leb, leb-true}
+use borrow.Author.Tests.{le-leb, leb-true}
 use Rattle.hash.specs.Lists.{pick}
-use Rattle.signature.specs.declared.bounds.Norm.{Norm}
+use Rattle.ring.proofs.Checks.{absurd-bool}
 use Rattle.signature.specs.Bounds.{within, squares, boundsOf}
-use Rattle.signature.specs.AnswerSteps.{normOf}
 
-both-false : (b : Bool) → pick b false false ≡ false
-both-false true = refl
-both-false false = refl
+-- ---- one list
 
-both-on : (b : Bool) {c d : Bool} → (c ≡ true → d ≡ true) → pick b c false ≡ true → pick b d false ≡ true
-both-on true f e = f e
-both-on false f e = e
-
-within-suc : (most : ℕ) (zs : List ℤ) (i : ℕ) → i < length zs → within most (take i zs) ≡ true → natAbs (getD zs i (pos 0)) ≤ most → within most (take (suc i) zs) ≡ true
+within-at : (most : ℕ) (zs : List ℤ) → within most zs ≡ true → (i : ℕ) → i < length zs → natAbs (getD zs i (pos 0)) ≤ most
 unfolding within
-within-suc most [] i h e k = absurd (not-suc-le-zero h)
-within-suc most (z ∷ zs) zero h e k = rw (le-leb _ _ k)
-within-suc most (z ∷ zs) (suc i) h e k = both-on (leb (natAbs z) most) (λ f. within-suc most zs i (le-of-suc-le-suc h) f k) e
+within-at most [] e i h = absurd (not-suc-le-zero h)
+within-at most (z ∷ zs) e i h = go (leb (natAbs z) most) refl e i h (within-at most zs)
+  where
+    go : (t : Bool) → leb (natAbs z) most ≡ t → pick t (within most zs) false ≡ true → (i : ℕ) → i < length (z ∷ zs)
+        → (within most zs ≡ true → (i : ℕ) → i < length zs → natAbs (getD zs i (pos 0)) ≤ most) → natAbs (getD (z ∷ zs) i (pos 0)) ≤ most
+    go false g f i h r = absurd-bool (sym f)
+    go true g f zero h r = leb→le (natAbs z) most (subst T (sym g) tt)
+    go true g f (suc i) h r = r f i (omega arith)
 
-pub within-more : (most : ℕ) (zs : List ℤ) (i : ℕ) → i < length zs → within most (take i zs) ≡ true → natAbs (getD zs i (pos 0)) ≤ most → within most (take (i + 1) zs) ≡ true
-within-more most zs i h e k = rw add-one (within-suc most zs i h e k)
-
-pub within-not : (most : ℕ) (zs : List ℤ) (i : ℕ) → i < length zs → most < natAbs (getD zs i (pos 0)) → within most zs ≡ false
+-- a prefix of what is within the limit is, and its sum is not more
+within-take : (most : ℕ) (cs : List ℤ) (m : ℕ) → within most cs ≡ true → within most (take m cs) ≡ true
 unfolding within
-within-not most [] i h k = absurd (not-suc-le-zero h)
-within-not most (z ∷ zs) zero h k = rw (lt-leb _ _ k)
-within-not most (z ∷ zs) (suc i) h k = rw (within-not most zs i (le-of-suc-le-suc h) k) (both-false (leb (natAbs z) most))
+within-take most cs zero e = refl
+within-take most [] (suc m) e = refl
+within-take most (c ∷ cs) (suc m) e = go (leb (natAbs c) most) e (within-take most cs m)
+  where
+    go : (b : Bool) → pick b (within most cs) false ≡ true → (within most cs ≡ true → within most (take m cs) ≡ true) → pick b (within most (take m cs)) false ≡ true
+    go true g f = f g
+    go false g f = g
 
-squares-suc : (v : ℕ) (zs : List ℤ) (i x : ℕ) → i < length zs → x ≡ natAbs (getD zs i (pos 0)) / 2 ^ v → squares v (take (suc i) zs) ≡ squares v (take i zs) + x * x
+pub squares-take : (v : ℕ) (cs : List ℤ) (m : ℕ) → squares v (take m cs) ≤ squares v cs
 unfolding squares
-squares-suc v [] i x h e = absurd (not-suc-le-zero h)
-squares-suc v (z ∷ zs) zero x h e = rw e (omega arith)
-squares-suc v (z ∷ zs) (suc i) x h e = omega (arith, squares-suc v zs i x (le-of-suc-le-suc h) e)
+squares-take v cs zero = omega arith
+squares-take v [] (suc m) = omega arith
+squares-take v (c ∷ cs) (suc m) = omega (arith, squares-take v cs m)
 
-pub squares-more : (v : ℕ) (zs : List ℤ) (i x : ℕ) → i < length zs → x ≡ natAbs (getD zs i (pos 0)) / 2 ^ v → squares v (take (i + 1) zs) ≡ squares v (take i zs) + x * x
-squares-more v zs i x h e = rw add-one (squares-suc v zs i x h e)
+is-no : (b : Bool) → (b ≡ true → ⊥) → b ≡ false
+is-no true f = absurd (f refl)
+is-no false f = refl
 
--- a square of what is within the bound
-pub square-le : (m most v : ℕ) → m ≤ most → most / 2 ^ v < 2 ^ 18 → m / 2 ^ v * (m / 2 ^ v) ≤ 2 ^ 36
-square-le m most v h k =
-    let x : m / 2 ^ v ≤ 2 ^ 18 = omega (arith, shr-mono v h) in
-    mul-le-mul x x
+-- ---- hint and response
 
--- the sum is small where no number is above the limit
-pub squares-le : (most v b : ℕ) (zs : List ℤ) → most / 2 ^ v < b → within most zs ≡ true → squares v zs ≤ length zs * (b * b)
-unfolding squares within
-squares-le most v b [] k e = omega arith
-squares-le most v b (z ∷ zs) k e = go (leb (natAbs z) most) refl (λ g. squares-le most v b zs k g) e
-  where
-    go : (d : Bool) → leb (natAbs z) most ≡ d → (within most zs ≡ true → squares v zs ≤ length zs * (b * b)) → pick d (within most zs) false ≡ true
-        → natAbs z / 2 ^ v * (natAbs z / 2 ^ v) + squares v zs ≤ suc (length zs) * (b * b)
-    go true f ih g =
-        let x : natAbs z / 2 ^ v ≤ b = omega (arith, shr-mono v (leb-true (natAbs z) most f)) in
-        omega (arith, mul-le-mul x x, ih g, suc-mul (length zs) (b * b))
-    go false f ih g = let x : _≡_ {A = ℕ} 0 1 = cc in absurd (omega arith)
+module _ (limit most all : ℕ) where
+  -- lines 3, 4 and 7 do not fail
+  abbrev pub Both : List ℤ → List ℤ → Type 0
+  Both h z = (within limit h ≡ true) × (within most z ≡ true) × (2 ^ 24 * squares 0 h + squares 32 z ≤ all)
 
--- ---- the answer of one list
-
-pub norm-over : (most v : ℕ) (zs : List ℤ) → Norm.Over ≡ normOf most v zs → within most zs ≡ false
-unfolding normOf
-norm-over most v zs e = go (within most zs) e
-  where
-    go : (b : Bool) → Norm.Over ≡ pick b (Norm.Square (squares v zs)) Norm.Over → b ≡ false
-    go true e = let x : _≡_ {A = ℕ} 0 1 = cc in absurd (omega arith)
-    go false e = refl
-
-pub norm-square : (most v s : ℕ) (zs : List ℤ) → Norm.Square s ≡ normOf most v zs → (within most zs ≡ true) × (s ≡ squares v zs)
-unfolding normOf
-norm-square most v s zs e = go (within most zs) e
-  where
-    go : (b : Bool) → Norm.Square s ≡ pick b (Norm.Square (squares v zs)) Norm.Over → (b ≡ true) × (s ≡ squares v zs)
-    go true e = (refl, cc)
-    go false e = let x : _≡_ {A = ℕ} 0 1 = cc in absurd (omega arith)
-
--- ---- Algorithm 4
-
-module _ (limit most all : ℕ) (h z : List ℤ) where
-  pub hint-over : within limit h ≡ false → boundsOf limit most all h z ≡ false
+  pub bounds-yes : (h z : List ℤ) → Both h z → boundsOf limit most all h z ≡ true
   unfolding boundsOf
-  hint-over e = rw e
+  bounds-yes h z b = rw (b .0, b .1) (le-leb _ _ (b .2))
 
-  pub response-over : within limit h ≡ true → within most z ≡ false → boundsOf limit most all h z ≡ false
+  pub bounds-both : (h z : List ℤ) → boundsOf limit most all h z ≡ true → Both h z
   unfolding boundsOf
-  response-over e f = rw (e, f)
+  bounds-both h z e = go (within limit h) refl (within most z) refl e
+    where
+      go : (a : Bool) → within limit h ≡ a → (b : Bool) → within most z ≡ b → pick a (pick b (leb (2 ^ 24 * squares 0 h + squares 32 z) all) false) false ≡ true → Both h z
+      go true a true b g = (a, b, leb-true _ _ g)
+      go true a false b g = absurd-bool (sym g)
+      go false a b _ g = absurd-bool (sym g)
 
-  pub by-sum : within limit h ≡ true → within most z ≡ true → boundsOf limit most all h z ≡ leb (2 ^ 24 * squares 0 h + squares 32 z) all
-  unfolding boundsOf
-  by-sum e f = rw (e, f)
+  pub bounds-no : (h z : List ℤ) → (Both h z → ⊥) → boundsOf limit most all h z ≡ false
+  bounds-no h z f = is-no (boundsOf limit most all h z) (λ e. f (bounds-both h z e))
+
+  pub both-take : (h z : List ℤ) (m n : ℕ) → Both h z → Both (take m h) (take n z)
+  both-take h z m n b = (within-take limit h m (b .0), within-take most z n (b .1), omega (arith, b .2, squares-take 0 h m, squares-take 32 z n))
+
+  -- no number is above its limit
+  pub bounds-small : (h z : List ℤ) → boundsOf limit most all h z ≡ true
+      → ((i : ℕ) → i < length h → natAbs (getD h i (pos 0)) ≤ limit) × ((i : ℕ) → i < length z → natAbs (getD z i (pos 0)) ≤ most)
+  bounds-small h z e = let b = bounds-both h z e in (within-at limit h (b .0), within-at most z (b .1))

@@ -1,18 +1,15 @@
 -- Check 14 from what the reader of the code answers, and the checks of lengths and bounds around it.
-use mathlib.Core.Path.{_≡_, refl, sym, ap, subst, _∙_}
+use mathlib.Core.Path.{_≡_, refl, sym, ap, _∙_}
 use mathlib.Core.Bool.{Bool, true, false}
 use mathlib.Core.List.{List, [], _∷_}
 use mathlib.Core.Option.{Option, some, none}
-use Prim.Native.Nat.{ℕ, zero, suc, _+_, _*_, _^_, _≤_, _<_}
+use Prim.Native.Nat.{ℕ, suc, _*_, _≤_, _<_}
 use native.Mathlib.Omega.{arith}
-use native.Mathlib.Nat.{not-suc-le-zero}
-use lib.Dec.{T, leb, leb→le}
 use lib.IntN.{ℤ, pos, natAbs}
 use lib.ListN.{length, getD, take}
 use Rattle.hash.specs.Lists.{pick, Bytes}
 use Rattle.hash.specs.declared.params.Params.{Params}
 use Rattle.signature.specs.AnswerSteps.{fieldsOf, ReadOf}
-use Rattle.signature.specs.Bounds.{within, squares, boundsOf}
 use Rattle.signature.specs.Checks.{firstNo, writtenAs, properFields, properForm}
 use Rattle.signature.specs.Form.{Fields, hashBytes, write, readBoth, read}
 use Rattle.signature.specs.Verify.{hashChecks, fieldsIn}
@@ -84,34 +81,7 @@ module _ (t : List ℕ) (n m n′ m′ : ℕ) (r : Bool) (h z : List ℤ) (a : n
   pub read-no : r ≡ false → (h′ z′ : List ℤ) → ZeroFilled n m t h′ z′ → ⊥
   read-no e = read-false n m t h z (rw (a, b, e) at u)
 
--- ---- the bounds
-
-within-at : (most : ℕ) (zs : List ℤ) → within most zs ≡ true → (i : ℕ) → i < length zs → natAbs (getD zs i (pos 0)) ≤ most
-unfolding within
-within-at most [] e i h = absurd (not-suc-le-zero h)
-within-at most (z ∷ zs) e i h = go (leb (natAbs z) most) refl e i h (within-at most zs)
-  where
-    go : (t : Bool) → leb (natAbs z) most ≡ t → pick t (within most zs) false ≡ true → (i : ℕ) → i < length (z ∷ zs)
-        → (within most zs ≡ true → (i : ℕ) → i < length zs → natAbs (getD zs i (pos 0)) ≤ most) → natAbs (getD (z ∷ zs) i (pos 0)) ≤ most
-    go false g f i h r = absurd-bool (sym f)
-    go true g f zero h r = leb→le (natAbs z) most (subst T (sym g) tt)
-    go true g f (suc i) h r = r f i (omega arith)
-
-pub bounds-small : (limit most all : ℕ) (h z : List ℤ) → boundsOf limit most all h z ≡ true
-    → ((i : ℕ) → i < length h → natAbs (getD h i (pos 0)) ≤ limit) × ((i : ℕ) → i < length z → natAbs (getD z i (pos 0)) ≤ most)
-unfolding boundsOf
-bounds-small limit most all h z e = go (within limit h) refl (within most z) refl e
-  where
-    go : (t : Bool) → within limit h ≡ t → (u : Bool) → within most z ≡ u → pick t (pick u (leb (2 ^ 24 * squares 0 h + squares 32 z) all) false) false ≡ true
-        → ((i : ℕ) → i < length h → natAbs (getD h i (pos 0)) ≤ limit) × ((i : ℕ) → i < length z → natAbs (getD z i (pos 0)) ≤ most)
-    go false a u b f = absurd-bool (sym f)
-    go true a false b f = absurd-bool (sym f)
-    go true a true b f = (within-at limit h a, within-at most z b)
-
 -- ---- the same of equal lists
-
-pub small-part : {xs ys : List ℤ} (m : ℕ) → xs ≡ ys → ((i : ℕ) → natAbs (getD ys i (pos 0)) < m) → (i : ℕ) → natAbs (getD xs i (pos 0)) < m
-small-part m e f i = subst (λ (l : List ℤ). natAbs (getD l i (pos 0)) < m) (sym e) (f i)
 
 pub bounded-part : {xs ys : List ℤ} (m n : ℕ) → xs ≡ ys → n < m → ((i : ℕ) → i < length xs → natAbs (getD xs i (pos 0)) ≤ n) → (i : ℕ) → i < length xs → natAbs (getD xs i (pos 0)) < m
 bounded-part m n e l f i h = omega (arith, f i h, l)
@@ -119,6 +89,3 @@ bounded-part m n e l f i h = omega (arith, f i h, l)
 pub hash-same : {c c′ : List ℕ} {h h′ z z′ : List ℤ} (p : Params) (vk msg : List ℕ) → c ≡ c′ → h ≡ h′ → z ≡ z′
     → firstNo (hashChecks p vk msg (fieldsOf c h z)) ≡ firstNo (hashChecks p vk msg (fieldsOf c′ h′ z′))
 hash-same p vk msg a b e = cc (a, b, e)
-
-pub bounds-parts : {h h′ z z′ : List ℤ} (a b c : ℕ) → h ≡ h′ → z ≡ z′ → boundsOf a b c h z ≡ boundsOf a b c h′ z′
-bounds-parts a b c e g = cc (e, g)

@@ -1,10 +1,10 @@
 -- Laws of signed numbers of 64 bits, as the machine's operations give them.
-use Prim.Native.Nat.{ℕ, zero, suc, _^_, _<_}
+use Prim.Native.Nat.{ℕ, zero, suc, _+_, _^_, _<_, _≤_}
 use mathlib.Core.Path.{_≡_, refl, sym, ap, _∙_}
 use mathlib.Core.Bool.{true, false}
 use native.Mathlib.Omega.{arith}
 use lib.Dec.{T}
-use lib.IntN.{ℤ, pos, negsuc, negℤ, natAbs, _-ℤ_, +ℤ-idl}
+use lib.IntN.{ℤ, pos, negsuc, sucℤ, negℤ, natAbs, _+ℤ_, _-ℤ_, +ℤ-idl, +ℤ-one}
 use lib.Signed.{ltZ, nonNeg}
 use mir.Syntax.{w64}
 use mir.Val.{Fits, SFits, toZ, ofZ}
@@ -22,6 +22,10 @@ neg-small (pos zero) h = sfits-of h
 neg-small (pos (suc n)) h = sfits-of (omega arith)
 neg-small (negsuc n) h = sfits-of h
 
+pub abs-fits : (z : ℤ) → SFits w64 z → natAbs z ≤ 2 ^ 63
+abs-fits (pos n) f = omega (arith, f .sfits)
+abs-fits (negsuc n) f = f .sfits
+
 module _ (z : ℤ) (f : SFits w64 z) where
   pub same : held z ≡ z
   same = toZ-ofZ w64 z f
@@ -30,11 +34,7 @@ module _ (z : ℤ) (f : SFits w64 z) where
   minus = +ℤ-idl (negℤ (held z)) ∙ ap negℤ same
 
   pub fits : Fits w64 (natAbs (held z))
-  fits = rw same (go z f)
-    where
-      go : (z : ℤ) → SFits w64 z → Fits w64 (natAbs z)
-      go (pos n) g = record { fits = omega (arith, g .sfits) }
-      go (negsuc n) g = record { fits = omega (arith, g .sfits) }
+  fits = rw same (record { fits = omega (arith, abs-fits z f) })
 
   module _ (h : natAbs z < 2 ^ 63) where
     pub neg-fits : SFits w64 (pos 0 -ℤ held z)
@@ -58,15 +58,6 @@ module _ (z : ℤ) (f : SFits w64 z) where
       go (pos n) e = refl
       go (negsuc n) e = let x : _≡_ {A = ℕ} 0 1 = cc in sym x
 
-pub neg-abs : (z : ℤ) → natAbs (negℤ z) ≡ natAbs z
-neg-abs (pos zero) = refl
-neg-abs (pos (suc n)) = refl
-neg-abs (negsuc n) = refl
-
-pub neg-nonneg : (z : ℤ) → negOf z ≡ 1 → T (nonNeg (negℤ z))
-neg-nonneg (pos n) e = let x : ⊥ = omega arith in absurd x
-neg-nonneg (negsuc n) e = tt
-
 pub nonneg : (z : ℤ) → negOf z ≡ 0 → T (nonNeg z)
 nonneg (pos n) e = tt
 nonneg (negsuc n) e = let x : ⊥ = omega arith in absurd x
@@ -78,3 +69,38 @@ pub signed-neg : (m s : ℕ) → (s ≡ 0 → ⊥) → negℤ (pos m) ≡ signed
 signed-neg m zero h = absurd (h refl)
 signed-neg zero (suc s) h = refl
 signed-neg (suc m) (suc s) h = refl
+
+-- ---- a number below 0 by the one above it, which has a negative even where z is the smallest
+
+suc-fits : (z : ℤ) → SFits w64 z → negOf z ≡ 1 → SFits w64 (sucℤ z)
+suc-fits (pos n) f e = let x : ⊥ = omega arith in absurd x
+suc-fits (negsuc zero) f e = sfits-of (omega arith)
+suc-fits (negsuc (suc n)) f e = sfits-of (omega (arith, f .sfits))
+
+suc-small : (z : ℤ) → SFits w64 z → negOf z ≡ 1 → natAbs (sucℤ z) < 2 ^ 63
+suc-small (pos n) f e = let x : ⊥ = omega arith in absurd x
+suc-small (negsuc zero) f e = omega arith
+suc-small (negsuc (suc n)) f e = f .sfits
+
+pub suc-nonneg : (z : ℤ) → negOf z ≡ 1 → T (nonNeg (negℤ (sucℤ z)))
+suc-nonneg (pos n) e = let x : ⊥ = omega arith in absurd x
+suc-nonneg (negsuc zero) e = tt
+suc-nonneg (negsuc (suc n)) e = tt
+
+pub suc-abs : (z : ℤ) → negOf z ≡ 1 → natAbs (negℤ (sucℤ z)) + 1 ≡ natAbs z
+suc-abs (pos n) e = let x : ⊥ = omega arith in absurd x
+suc-abs (negsuc zero) e = refl
+suc-abs (negsuc (suc n)) e = omega arith
+
+module _ (z : ℤ) (f : SFits w64 z) (e : negOf z ≡ 1) where
+  one-more : held z +ℤ pos 1 ≡ sucℤ z
+  one-more = ap (λ (x : ℤ). x +ℤ pos 1) (same z f) ∙ +ℤ-one z
+
+  pub more-fits : SFits w64 (held z +ℤ pos 1)
+  more-fits = rw one-more (suc-fits z f e)
+
+  pub more-neg-fits : SFits w64 (pos 0 -ℤ held (held z +ℤ pos 1))
+  more-neg-fits = rw one-more (neg-fits (sucℤ z) (suc-fits z f e) (suc-small z f e))
+
+  pub more-neg : held (pos 0 -ℤ held (held z +ℤ pos 1)) ≡ negℤ (sucℤ z)
+  more-neg = rw one-more (neg-held (sucℤ z) (suc-fits z f e) (suc-small z f e))

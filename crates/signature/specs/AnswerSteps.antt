@@ -1,5 +1,5 @@
--- Steps (what the code leaves on its way; no call's contract reaches these): what the modules `code`, `form`, `bounds` and `fields`
--- answer, in terms of the definitions of Code, Form, Bounds and Sign.
+-- Steps (what the code leaves on its way; no call's contract reaches these): what the modules `code`, `form` and `fields` answer, in
+-- terms of the definitions of Code, Form and Sign.
 use mathlib.Core.Path.{_≡_}
 use mathlib.Core.Bool.{Bool, true, false}
 use mathlib.Core.List.{List, [], _∷_}
@@ -7,11 +7,8 @@ use mathlib.Core.Option.{Option, some, none}
 use Prim.Native.Nat.{ℕ, zero, suc, _+_}
 use lib.IntN.{ℤ}
 use lib.ListN.{drop}
-use Rattle.hash.specs.Lists.{pick}
 use Rattle.signature.specs.Form.{Fields}
-use Rattle.signature.specs.Bounds.{within, squares}
 use Rattle.signature.specs.Sign.{Attempted, made, over, stuck}
-use Rattle.signature.specs.declared.bounds.Norm.{Norm}
 use Rattle.signature.specs.declared.code.Got.{Got}
 use Rattle.signature.specs.declared.code.Next.{Next}
 
@@ -40,12 +37,6 @@ allZero (suc b ∷ l) = false
 abbrev pub ReadOf : Option (List ℤ × List ℤ × ℕ) → List ℕ → Bool → List ℤ → List ℤ → Type 0
 ReadOf none t r h z = r ≡ false
 ReadOf (some x) t r h z = (r ≡ allZero (drop (x .2) t)) × (h ≡ x .0) × (z ≡ x .1)
-
--- ---- CheckBounds
-
--- of one list: the sum of squares, or that a number is above the limit
-unfoldable pub normOf : ℕ → ℕ → List ℤ → Norm
-normOf most v zs = pick (within most zs) (Norm.Square (squares v zs)) Norm.Over
 
 -- ---- the end of an attempt
 

@@ -7,6 +7,8 @@ pub mod ChallengeSteps
 pub mod Checks
 pub mod Code
 pub mod Compress
+pub mod Decision
+pub mod ExpandSteps
 pub mod ExpandedKey
 pub mod Form
 pub mod KeyCalls
@@ -18,7 +20,6 @@ pub mod MaskedSteps
 pub mod Matrix
 pub mod MatrixSteps
 pub mod Outcome
-pub mod ExpandSteps
 pub mod Recover
 pub mod RecoverSteps
 pub mod Sign

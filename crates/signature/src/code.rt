@@ -77,7 +77,6 @@ fn put_mag(buf: &mut [u8], at: usize, m: u64, s: u64, w: usize) -> usize
 
 // Writes z from bit `at` on, and returns the place behind it.
 pub(crate) fn put_code(buf: &mut [u8], at: usize, z: i64, w: usize) -> usize
-    requires { ⌜ natAbs z < 2 ^ 63 ⌝ }
     requires { ⌜ at + length (code w z) ≤ length (now buf) * 8 ⌝ }
     requires { ⌜ length (now buf) < 2 ^ 17 ⌝ }
     requires { ⌜ w ≤ 40 ⌝ }
@@ -89,7 +88,6 @@ pub(crate) fn put_code(buf: &mut [u8], at: usize, z: i64, w: usize) -> usize
 
 // Writes numbers from bit `at` on, and returns the place behind them.
 pub(crate) fn put_codes(buf: &mut [u8], at: usize, zs: &[i64], w: usize) -> usize
-    requires { ⌜ ((i : ℕ) → natAbs (getD (now zs) i (pos 0)) < 2 ^ 63) ⌝ }
     requires { ⌜ at + length (codes w (now zs)) ≤ length (now buf) * 8 ⌝ }
     requires { ⌜ length (now buf) < 2 ^ 17 ⌝ }
     requires { ⌜ w ≤ 40 ⌝ }

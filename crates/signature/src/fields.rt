@@ -116,7 +116,8 @@ fn write_fields(p: Params, hash: &[u8], hint: &[i64], z: &[i64], out: &mut [u8])
     ensures { λ r. ⌜ FinishedAs (finished p (fieldsOf (now (hash .entry)) (now (hint .entry)) (now (z .entry)))) r (now (out .entry))
         (now (out .exit)) ⌝ }
 {
-    if !check_bounds(hint, z, p.hint_limit, p.binf, p.b22) {
+    let bounds = check_bounds(hint, z, p.hint_limit, p.binf, p.b22);
+    if !bounds.passed {
         return false;
     }
     if 8 * out.len() < bit_count(hash.len(), hint, z) {

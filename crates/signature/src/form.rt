@@ -44,8 +44,6 @@ fn begin(hash: &[u8], out: &mut [u8])
 pub(crate) fn write(hash: &[u8], hint: &[i64], response: &[i64], out: &mut [u8])
     requires { ⌜ bitCount (fieldsOf (now hash) (now hint) (now response)) ≤ 8 * length (now out) ⌝ }
     requires { ⌜ length (now out) < 2 ^ 17 ⌝ }
-    requires { ⌜ ((i : ℕ) → natAbs (getD (now hint) i (pos 0)) < 2 ^ 63) ⌝ }
-    requires { ⌜ ((i : ℕ) → natAbs (getD (now response) i (pos 0)) < 2 ^ 63) ⌝ }
     ensures { λ _. ⌜ now (out .exit) ≡ chop 8 (length (now (out .entry)))
         (withFill (fieldsOf (now (hash .entry)) (now (hint .entry)) (now (response .entry))) (length (now (out .entry)))) ⌝ }
 {

@@ -5,12 +5,14 @@ ghost use lib.IntN.{natAbs};
 ghost use Rattle.ring.specs.Round.{residue};
 ghost use Rattle.signature.specs.Code.{negOf, signedOf};
 
-// The absolute value.
+// The absolute value: 2^63 of the smallest number, which has no negative.
 pub(crate) fn mag(z: i64) -> u64
-    requires { ⌜ natAbs z < 2 ^ 63 ⌝ }
     ensures { λ r. ⌜ r ≡ natAbs z ⌝ }
 {
-    if z < 0 { (-z) as u64 } else { z as u64 }
+    if z < 0 {
+        return (-(z + 1)) as u64 + 1;
+    }
+    z as u64
 }
 
 // 1 where z is negative.

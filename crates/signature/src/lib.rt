@@ -2,7 +2,7 @@
 // keys (2.3.1), signing (2.3.2) and verifying (2.3.3).
 mod attempt;
 mod bits;
-mod bounds;
+pub mod bounds;
 pub mod challenge;
 mod code;
 mod commit;

@@ -189,7 +189,8 @@ fn verify_fields(p: Params, vk: &[u8], msg: &[u8], sig: &[u8]) -> u32
     if !read(sig, b, &mut hint[0..n], &mut z[0..m]) {
         return 14;
     }
-    if !check_bounds(&hint[0..n], &z[0..m], p.hint_limit, p.binf, p.b22) {
+    let bounds = check_bounds(&hint[0..n], &z[0..m], p.hint_limit, p.binf, p.b22);
+    if !bounds.passed {
         return 15;
     }
     verify_hash(p, vk, msg, &sig[0..b], &hint[0..n], &z[0..m])

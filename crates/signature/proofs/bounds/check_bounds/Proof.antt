@@ -1,58 +1,61 @@
-use Prim.Native.Nat.{ℕ, _+_, _*_, _/_, _^_, _≤_, _<_}
+use Prim.Native.Nat.{ℕ, _+_, _/_, _^_, _≤_}
 use mathlib.Core.Path.{_≡_, sym, ap, _∙_}
 use mathlib.Core.Bool.{true}
+use mathlib.Core.Logic.{⊎-elim}
+use native.Mathlib.Nat.{mul-le-mul}
 use native.Mathlib.Omega.{arith}
-use lib.Dec.{leb}
-use Rattle.signature.specs.Bounds.{within, squares}
-use Rattle.signature.proofs.Norms.{norm-over, norm-square, squares-le, hint-over, response-over, by-sum}
+use lib.ListN.{length}
+use Rattle.signature.specs.Decision.{standingOf, measured, decided}
+use Rattle.signature.specs.declared.bounds.Standing.{Standing}
+use Rattle.signature.proofs.Measured.{measured-low, measured-count, measured-top, hint-above}
 use borrow.Author.Needs.{needs}
 use Rattle.signature.proofs.bounds.check_bounds.Statement.{statement}
 use Rattle.signature.proofs.bounds.check_bounds.Tie as tie
 
--- the two sums of squares, and that they are small
-hint-sum : (c : tie.After-h) → let a = c .before .before .before .args in (within (a .hint-limit) (a .hint .now) ≡ true) × (c .h .given .0 .0 ≡ squares 0 (a .hint .now))
-hint-sum c = let a = c .before .before .before .args in norm-square (a .hint-limit) 0 _ (a .hint .now) (sym (c .h .given .1) ∙ c .before .before .measure .ensures)
+-- the limit of the hint, cut at what no sum can hold, is as good as that which was given
+cut : (c : tie.Joined1) → c .if1 .limit ≤ 1048575
+cut c = ⊎-elim (λ w. omega arith) (λ w. omega arith) (c .if1 .came)
 
-response-sum : (c : tie.After-z) → let a = c .before .before .before .before .before .before .before .args in (within (a .binf) (a .response .now) ≡ true) × (c .z .given .0 .0 ≡ squares 32 (a .response .now))
-response-sum c = let a = c .before .before .before .before .before .before .before .args in norm-square (a .binf) 32 _ (a .response .now) (sym (c .z .given .1) ∙ c .before .before .measure2 .ensures)
+as-given : (c : tie.Joined1) → let a = c .before .args in
+    measured (c .if1 .limit) (2 ^ 24) 0 (a .b22) (standingOf true 0 0) (a .hint .now) ≡ measured (a .hint-limit) (2 ^ 24) 0 (a .b22) (standingOf true 0 0) (a .hint .now)
+as-given c = let a = c .before .args in
+    let t = standingOf true 0 0 in
+    ⊎-elim (λ w. ap (λ (l : ℕ). measured l (2 ^ 24) 0 (a .b22) t (a .hint .now)) (w .1))
+    (λ w. ap (λ (l : ℕ). measured l (2 ^ 24) 0 (a .b22) t (a .hint .now)) (w .1)
+    ∙ sym (measured-top (a .hint-limit) 1048575 (2 ^ 24) 0 (a .b22) (omega (arith, w .0 .left)) (hint-above (a .b22) (c .before .fits .b22 .fits)) t (a .hint .now)))
+    (c .if1 .came)
 
-hint-small : (c : tie.After-h) → c .h .given .0 .0 ≤ 4608 * 2 ^ 24
-hint-small c =
-    let s = c .before .before .before in
-    let l : s .args .hint-limit / 2 ^ 0 < 2 ^ 12 = omega arith in
-    omega (arith, (hint-sum c) .1, squares-le (s .args .hint-limit) 0 (2 ^ 12) (s .args .hint .now) l ((hint-sum c) .0))
+-- the measure of the hint, by the definition
+hint-is : (c : tie.After-measure) → let a = c .before .before .before .args in
+    c .measure .result ≡ measured (c .before .before .if1 .limit) (2 ^ 24) 0 (a .b22) (standingOf true 0 0) (a .hint .now)
+hint-is c = let a = c .before .before .before .args in
+    let told : c .measure .result ≡ measured (c .before .before .if1 .limit) (2 ^ 24) 0 (a .b22) (c .before .standing-of .result) (a .hint .now) = c .measure .ensures in
+    told ∙ ap (λ (t : Standing). measured (c .before .before .if1 .limit) (2 ^ 24) 0 (a .b22) t (a .hint .now)) (c .before .standing-of .ensures)
 
-response-small : (c : tie.After-z) → c .z .given .0 .0 ≤ 4608 * 2 ^ 36
-response-small c =
-    let s = c .before .before .before .before .before .before .before in
-    let l : s .args .binf / 2 ^ 32 < 2 ^ 18 = omega arith in
-    omega (arith, (response-sum c) .1, squares-le (s .args .binf) 32 (2 ^ 18) (s .args .response .now) l ((response-sum c) .0))
+measure-requires : tie.Need-measure-requires
+measure-requires c κs =
+    let a = c .before .before in
+    let l : c .before .if1 .limit / 1 ≤ 1048575 = omega (arith, cut (c .before)) in
+    let n : c .standing-of .result .coefficients ≡ 0 = ap (λ (t : Standing). t .coefficients) (c .standing-of .ensures) in
+    let m : c .standing-of .result .sum ≡ 0 = ap (λ (t : Standing). t .sum) (c .standing-of .ensures) in
+    ((omega arith, omega (arith, l), omega (arith, mul-le-mul l l)), (omega (arith, m), omega (arith, n, a .good .0 .0)))
+
+measure-requires-2 : tie.Need-measure-requires-2
+measure-requires-2 c κs =
+    let a = c .before .before .before in
+    let l : a .args .binf / 4294967296 ≤ 4294967295 = omega (arith, a .fits .binf .fits) in
+    let low = measured-low (c .before .before .if1 .limit) (2 ^ 24) 0 (a .args .b22) (standingOf true 0 0) (a .args .hint .now) (omega arith) in
+    let count = measured-count (c .before .before .if1 .limit) (2 ^ 24) 0 (a .args .b22) (standingOf true 0 0) (a .args .hint .now) in
+    let m : c .measure .result .sum ≤ a .args .b22 = rw (hint-is c) low in
+    let n : c .measure .result .coefficients ≤ 0 + length (a .args .hint .now) = rw (hint-is c) count in
+    ((omega arith, omega (arith, l), omega (arith, mul-le-mul l l)), (m, omega (arith, n, a .good .0 .1, a .good .1 .0 .1)))
 
 returns : tie.Need-returns
+unfolding decided
 returns c =
-    let a = c .before .before .before .args in
-    sym (hint-over (a .hint-limit) (a .binf) (a .b22) (a .hint .now) (a .response .now) (norm-over (a .hint-limit) 0 (a .hint .now) (sym (c .enum-told .given .1) ∙ c .before .before .measure .ensures)))
-
-returns-2 : tie.Need-returns-2
-returns-2 c =
-    let a = c .before .before .before .before .before .before .before .args in
-    sym (response-over (a .hint-limit) (a .binf) (a .b22) (a .hint .now) (a .response .now) ((hint-sum (c .before .before .before .before)) .0) (norm-over (a .binf) 32 (a .response .now) (sym (c .enum-told2 .given .1) ∙ c .before .before .measure2 .ensures)))
-
-mul-result : tie.Need-mul-result
-mul-result c = omega (arith, hint-small (c .before .before .before .before .before))
-
-add-result : tie.Need-add-result
-add-result c = omega (arith, hint-small (c .before .before .before .before .before), response-small (c .before))
-
-returns-3 : tie.Need-returns-3
-returns-3 c =
-    let a = c .before .before .before .before .before .before .before .before .args in
-    let h = hint-sum (c .before .before .before .before .before) in
-    let z = response-sum (c .before) in
-    ap (λ (n : ℕ). leb (2 ^ 24 * n + c .before .z .given .0 .0) (a .b22)) (h .1) ∙ ap (λ (n : ℕ). leb (2 ^ 24 * squares 0 (a .hint .now) + n) (a .b22)) (z .1)
-    ∙ sym (by-sum (a .hint-limit) (a .binf) (a .b22) (a .hint .now) (a .response .now) (h .0) (z .0))
+    let a = c .before .before .before .before .args in
+    ap (λ (t : Standing). record { passed = t .passed; coefficients = t .coefficients })
+    (c .measure2 .ensures ∙ ap (λ (t : Standing). measured (a .binf) 1 32 (a .b22) t (a .response .now)) (hint-is (c .before) ∙ as-given (c .before .before .before)))
 
 pub check-bounds-spec : {M : Type 1} → statement M
-check-bounds-spec =
-    tie.close (tie.spec (λ c κs. search needs) (λ c. search needs) (λ c. search needs) returns (λ c κs. search needs)
-    (λ c. search needs) (λ c. search needs) returns-2 mul-result add-result returns-3)
+check-bounds-spec = tie.close (tie.spec (λ c κs. search needs) measure-requires measure-requires-2 returns)

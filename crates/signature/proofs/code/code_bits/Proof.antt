@@ -15,9 +15,6 @@ value c = c .mag .ensures ∙ ap natAbs (same (c .before .args .z) (c .before .f
 small : (c : tie.After-mag) → c .mag .result / 2 ^ c .before .args .w < 2 ^ 50
 small c = omega (arith, value c, shr-le (c .mag .result) (c .before .args .w), c .before .pre .0)
 
-mag-requires : tie.Need-mag-requires
-mag-requires c κs = rw (same (c .args .z) (c .fits .z)) (omega arith)
-
 returns : tie.Need-returns
 returns c =
     let a = c .before .before .args in
@@ -37,5 +34,5 @@ returns-2 c =
 
 pub code-bits-spec : {M : Type 1} → statement M
 code-bits-spec =
-    tie.close (tie.spec mag-requires (λ c. search needs) returns (λ c. search needs) add-result-2 add-result-3
+    tie.close (tie.spec (λ c κs. search needs) (λ c. search needs) returns (λ c. search needs) add-result-2 add-result-3
     returns-2)

@@ -38,7 +38,7 @@ put-code-requires c κs =
     let l = c .before .before .before .loop in
     let r = codes-room (a .w) (a .zs .now) (l .i) (omega arith) in
     let e : length (code (a .w) (toZ w64 (ofZ w64 (getD (a .zs .now) (l .i) (pos 0))))) ≡ length (code (a .w) (getD (a .zs .now) (l .i) (pos 0))) = ap (λ (z : ℤ). length (code (a .w) z)) (number c) in
-    (rw (number c) (s .pre .0 (l .i)), (omega (arith, s .pre .1), (omega (arith, s .pre .1), omega (arith, s .pre .1))))
+    (omega (arith, s .pre), (omega (arith, s .pre), omega (arith, s .pre)))
 
 loop-again : tie.Need-loop-again Inv-loop μ-loop
 loop-again c =

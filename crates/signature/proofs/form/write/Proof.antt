@@ -17,20 +17,20 @@ begin-requires : tie.Need-begin-requires
 begin-requires c κs = omega (arith, fits (c .before .before .before))
 
 mul-put-codes : tie.Need-mul-put-codes
-mul-put-codes c = let s = c .before .before .before .before .before .before .before in omega (arith, fits s, s .pre .1 .0)
+mul-put-codes c = let s = c .before .before .before .before .before .before .before in omega (arith, fits s, s .pre .1)
 
 put-codes-requires : tie.Need-put-codes-requires
 put-codes-requires c κs =
     let s = c .before .before .before .before .before .before .before in
     let k = c .before .before .before .begin .kept .1 .0 in
-    (s .pre .1 .1 .0, (omega (arith, fits s), (omega (arith, s .pre .1 .0), omega arith)))
+    (omega (arith, fits s), (omega (arith, s .pre .1), omega arith))
 
 put-codes-requires-2 : tie.Need-put-codes-requires-2
 put-codes-requires-2 c κs =
     let s = c .before .before .before .before .before .before .before .before .before .before .before in
     let k = c .before .before .before .before .before .before .before .begin .kept .1 .0 in
     let j = c .before .before .before .put-codes .kept .0 in
-    (s .pre .1 .1 .1, (omega (arith, fits s, c .before .before .before .put-codes .ensures .0), (omega (arith, s .pre .1 .0), omega arith)))
+    (omega (arith, fits s, c .before .before .before .put-codes .ensures .0), (omega (arith, s .pre .1), omega arith))
 
 returns : tie.Need-returns
 returns c =

@@ -22,7 +22,7 @@ signed-is : (c : tie.After-sign) → c .sign .result ≡ negOf (c .before .befor
 signed-is c = c .sign .ensures ∙ ap negOf (same (c .before .before .args .z) (c .before .before .fits .z))
 
 mag-requires : tie.Need-mag-requires
-mag-requires c κs = rw (same (c .args .z) (c .fits .z)) (omega (arith, c .pre .0, c .pre .1))
+mag-requires c κs = search needs
 
 sign-requires : tie.Need-sign-requires
 sign-requires c κs = search needs

@@ -1,10 +1,10 @@
-use mathlib.Core.Path.{_≡_, sym, ap, _∙_}
+use mathlib.Core.Path.{_≡_, refl, sym, ap, _∙_}
 use mathlib.Core.Bool.{Bool, true, false}
 use mathlib.Core.List.{List}
-use Prim.Native.Nat.{ℕ, _-_, _*_, _/_, _^_, _≤_, _<_}
+use Prim.Native.Nat.{ℕ, _-_, _*_, _/_, _≤_}
 use native.Mathlib.Omega.{arith}
 use lib.IntN.{ℤ, pos}
-use lib.ListN.{length, take, drop, replicate, length-drop}
+use lib.ListN.{length, take, drop, replicate}
 use lib.Seq.{length-take-le}
 use borrow.Author.Tests.{not-true, not-false}
 use borrow.Rule.Slice.PartMut.{midOf, putMid, mid-len}
@@ -16,46 +16,14 @@ use Rattle.signature.specs.Checks.{firstNo}
 use Rattle.ring.specs.Words.{q}
 use Rattle.signature.specs.Verify.{hashChecks}
 use Rattle.signature.specs.VerifySteps.{fieldChecks, formChecks}
-use Rattle.signature.proofs.Canonical.{both-small}
+use Rattle.signature.proofs.Norms.{bounds-small}
+use Rattle.signature.proofs.Decision.{decided-passed}
 use Rattle.signature.proofs.Fronts.{front-in, front-is}
-use Rattle.signature.proofs.Proper.{bytes-of, status-14, status-read, sizes-read, read-yes, read-no, bounds-small, small-part, bounded-part, hash-same, bounds-parts}
+use Rattle.signature.proofs.Proper.{bytes-of, status-14, status-read, sizes-read, read-yes, read-no, bounded-part, hash-same}
 use Rattle.signature.proofs.Reading.{ZeroFilled}
-use Rattle.signature.proofs.Strings.{length-fields, fields-bits, bits-drop}
 use borrow.Author.Needs.{needs}
 use Rattle.signature.proofs.verify.verify_fields.Statement.{statement}
 use Rattle.signature.proofs.verify.verify_fields.Tie as tie
-use Rattle.signature.proofs.verify.verify_fields.Reads as reads
-use Rattle.signature.proofs.verify.verify_fields.Lts as lts
-use Rattle.signature.proofs.bounds.check_bounds.Reads as check-bounds-reads
-use Rattle.signature.proofs.form.read.Reads as read-reads
-use Rattle.signature.proofs.verify.verify_hash.Reads as verify-hash-reads
-
-mul-n : tie.Need-mul-n
-mul-n c = search needs
-
-mul-m : tie.Need-mul-m
-mul-m c = search needs
-
-sub-read : tie.Need-sub-read
-sub-read c = search needs
-
-part-hint-start : tie.Need-part-hint-start
-part-hint-start c = search needs
-
-part-hint-end : tie.Need-part-hint-end
-part-hint-end c = search needs
-
-sub-read-2 : tie.Need-sub-read-2
-sub-read-2 c = search needs
-
-part-z-start : tie.Need-part-z-start
-part-z-start c = search needs
-
-part-z-end : tie.Need-part-z-end
-part-z-end c = search needs
-
-read-requires : tie.Need-read-requires
-read-requires c κs = search needs
 
 -- what the table says of the lengths
 fits : (a : tie.Start) → a .args .p .kappa / 4 ≤ length (a .args .sig .now)
@@ -105,81 +73,44 @@ returns c = let a = c .before .before .before .before .before .before .before .b
     sym (status-14 p (b .vk .now) (b .msg .now) (b .sig .now) (bytes-of (b .sig .now) (λ (j : ℕ). c .before .before .before .before .before .before .before .before .before .shared-slice-known3 .given j .fits)) (a .pre .3) (fits a)
     (read-no (drop (8 * (p .kappa / 4)) (bitString 8 (b .sig .now))) (p .k * 512) (p .l * 512) _ _ _ _ _ (hint-room a) (z-room a) (c .before .before .before .read .ensures) (not-true _ (c .if1 .taken))))
 
-sub-check-bounds : tie.Need-sub-check-bounds
-sub-check-bounds c = search needs
-
-part-check-bounds-start : tie.Need-part-check-bounds-start
-part-check-bounds-start c = search needs
-
 part-check-bounds-end : tie.Need-part-check-bounds-end
 part-check-bounds-end c = let g = got (c .before) in front-in (c .before .before .before .before .before .before .before .before .before .before .before .before .before .args .p .k * 512) (replicate 4608 (pos 0)) (c .before .before .before .before .read .last .1 .1 .0) (hint-fits (c .before .before .before .before .before .before .before .before .before .before .before .before .before)) (g .1)
-
-sub-check-bounds-2 : tie.Need-sub-check-bounds-2
-sub-check-bounds-2 c = search needs
-
-part-check-bounds-start-2 : tie.Need-part-check-bounds-start-2
-part-check-bounds-start-2 c = search needs
 
 part-check-bounds-end-2 : tie.Need-part-check-bounds-end-2
 part-check-bounds-end-2 c = let g = got (c .before .before .before) in front-in (c .before .before .before .before .before .before .before .before .before .before .before .before .before .before .before .args .p .l * 512) (replicate 3584 (pos 0)) (c .before .before .before .before .before .before .read .last .1 .1 .1 .0) (z-fits (c .before .before .before .before .before .before .before .before .before .before .before .before .before .before .before)) (g .2)
 
-check-bounds-requires : tie.Need-check-bounds-requires
-check-bounds-requires c κs = let a = c .before .before .before .before .before .before .before .before .before .before .before .before .before .before .before .before in
-    let T = a .pre .0 in
-    let g = got (c .before .before .before .before) in
-    let t = drop (8 * (a .args .p .kappa / 4)) (bitString 8 (a .args .sig .now)) in
-    let n : length t < 2 ^ 20 = omega (arith, length-drop (8 * (a .args .p .kappa / 4)) (bitString 8 (a .args .sig .now)), length-fields 8 (a .args .sig .now), a .pre .3, T .sig-low) in
-    let s = both-small (a .args .p .k * 512) (a .args .p .l * 512) t (c .before .before .before .before .before .before .before .read .last .1 .1 .0) (c .before .before .before .before .before .before .before .read .last .1 .1 .1 .0) (g .0 .place) (bits-drop (8 * (a .args .p .kappa / 4)) (bitString 8 (a .args .sig .now)) (fields-bits 8 (a .args .sig .now))) n (g .0 .both-is) in
-    let h = hint-is (c .before .before .before .before) in
-    let z = z-is (c .before .before .before .before) in
-    let hl = ap (λ (l : List ℤ). length l) h ∙ g .1 in
-    let zl = ap (λ (l : List ℤ). length l) z ∙ g .2 in
-    (small-part (2 ^ 63) h (λ (i : ℕ). omega (arith, s .0 i)), (small-part (2 ^ 63) z (λ (i : ℕ). omega (arith, s .1 i)), (omega (arith, hl, T .rows-low), (omega (arith, zl, T .columns-low), (omega (arith, T .hint-low), omega (arith, T .binf-low))))))
+-- the answer is that of Algorithm 4 on the fields that were read
+bounds-are : (c : tie.After-check-bounds) → let a = c .before .before .before .before .before .before .before .before .before .before .before .before .before .before .before .before .before in
+    let r = c .before .before .before .before .before .before .before .before .read .last in
+    c .check-bounds .result .passed ≡ checkBounds (a .args .p) (fieldsOf (take (a .args .p .kappa / 4) (a .args .sig .now)) (r .1 .1 .0) (r .1 .1 .1 .0))
+bounds-are c =
+    let p = c .before .before .before .before .before .before .before .before .before .before .before .before .before .before .before .before .before .args .p in
+    let s = c .before .before .before .before .before in
+    decided-passed (p .«hint_limit») (p .binf) (p .b22) (c .check-bounds .result) (c .check-bounds .ensures) (hint-is s) (z-is s)
 
 returns-2 : tie.Need-returns-2
-returns-2 c = let a = c .before .before .before .before .before .before .before .before .before .before .before .before .before .before .before .before .before .before in
+returns-2 c = let a = c .before .before .before .before .before .before .before .before .before .before .before .before .before .before .before .before .before .before .before in
     let b = a .args in
     let p = b .p in
-    let g = got (c .before .before .before .before .before .before) in
-    let e : checkBounds p (fieldsOf (take (p .kappa / 4) (b .sig .now)) (c .before .before .before .before .before .before .before .before .before .read .last .1 .1 .0) (c .before .before .before .before .before .before .before .before .before .read .last .1 .1 .1 .0)) ≡ false =
-    sym (bounds-parts (p .«hint_limit») (p .binf) (p .b22) (hint-is (c .before .before .before .before .before .before)) (z-is (c .before .before .before .before .before .before))) ∙ sym (c .before .check-bounds .ensures) ∙ not-true _ (c .if2 .taken) in
-    sym (read-status (c .before .before .before .before .before .before) ∙ ap (λ (t : Bool). pick t (firstNo (hashChecks p (b .vk .now) (b .msg .now) (fieldsOf (take (p .kappa / 4) (b .sig .now)) (c .before .before .before .before .before .before .before .before .before .read .last .1 .1 .0) (c .before .before .before .before .before .before .before .before .before .read .last .1 .1 .1 .0)))) 15) e)
-
-sub-verify-hash : tie.Need-sub-verify-hash
-sub-verify-hash c = search needs
-
-part-verify-hash-start : tie.Need-part-verify-hash-start
-part-verify-hash-start c = search needs
-
-part-verify-hash-end : tie.Need-part-verify-hash-end
-part-verify-hash-end c = search needs
-
-sub-verify-hash-2 : tie.Need-sub-verify-hash-2
-sub-verify-hash-2 c = search needs
-
-part-verify-hash-start-2 : tie.Need-part-verify-hash-start-2
-part-verify-hash-start-2 c = search needs
+    let g = got (c .before .before .before .before .before .before .before) in
+    let e : checkBounds p (fieldsOf (take (p .kappa / 4) (b .sig .now)) (c .before .before .before .before .before .before .before .before .before .before .read .last .1 .1 .0) (c .before .before .before .before .before .before .before .before .before .before .read .last .1 .1 .1 .0)) ≡ false =
+    sym (bounds-are (c .before .before)) ∙ not-true _ (c .if2 .taken) in
+    sym (read-status (c .before .before .before .before .before .before .before) ∙ ap (λ (t : Bool). pick t (firstNo (hashChecks p (b .vk .now) (b .msg .now) (fieldsOf (take (p .kappa / 4) (b .sig .now)) (c .before .before .before .before .before .before .before .before .before .before .read .last .1 .1 .0) (c .before .before .before .before .before .before .before .before .before .before .read .last .1 .1 .1 .0)))) 15) e)
 
 part-verify-hash-end-2 : tie.Need-part-verify-hash-end-2
-part-verify-hash-end-2 c = let g = got (c .before .before .before .before .before .before .before .before) in front-in (c .before .before .before .before .before .before .before .before .before .before .before .before .before .before .before .before .before .before .before .before .args .p .k * 512) (replicate 4608 (pos 0)) (c .before .before .before .before .before .before .before .before .before .before .before .read .last .1 .1 .0) (hint-fits (c .before .before .before .before .before .before .before .before .before .before .before .before .before .before .before .before .before .before .before .before)) (g .1)
-
-sub-verify-hash-3 : tie.Need-sub-verify-hash-3
-sub-verify-hash-3 c = search needs
-
-part-verify-hash-start-3 : tie.Need-part-verify-hash-start-3
-part-verify-hash-start-3 c = search needs
+part-verify-hash-end-2 c = let g = got (c .before .before .before .before .before .before .before .before .before) in front-in (c .before .before .before .before .before .before .before .before .before .before .before .before .before .before .before .before .before .before .before .before .before .args .p .k * 512) (replicate 4608 (pos 0)) (c .before .before .before .before .before .before .before .before .before .before .before .before .read .last .1 .1 .0) (hint-fits (c .before .before .before .before .before .before .before .before .before .before .before .before .before .before .before .before .before .before .before .before .before)) (g .1)
 
 part-verify-hash-end-3 : tie.Need-part-verify-hash-end-3
-part-verify-hash-end-3 c = let g = got (c .before .before .before .before .before .before .before .before .before .before) in front-in (c .before .before .before .before .before .before .before .before .before .before .before .before .before .before .before .before .before .before .before .before .before .before .args .p .l * 512) (replicate 3584 (pos 0)) (c .before .before .before .before .before .before .before .before .before .before .before .before .before .read .last .1 .1 .1 .0) (z-fits (c .before .before .before .before .before .before .before .before .before .before .before .before .before .before .before .before .before .before .before .before .before .before)) (g .2)
+part-verify-hash-end-3 c = let g = got (c .before .before .before .before .before .before .before .before .before .before .before) in front-in (c .before .before .before .before .before .before .before .before .before .before .before .before .before .before .before .before .before .before .before .before .before .before .before .args .p .l * 512) (replicate 3584 (pos 0)) (c .before .before .before .before .before .before .before .before .before .before .before .before .before .before .read .last .1 .1 .1 .0) (z-fits (c .before .before .before .before .before .before .before .before .before .before .before .before .before .before .before .before .before .before .before .before .before .before .before)) (g .2)
 
 verify-hash-requires : tie.Need-verify-hash-requires
-verify-hash-requires c κs = let a = c .before .before .before .before .before .before .before .before .before .before .before .before .before .before .before .before .before .before .before .before .before .before .before in
+verify-hash-requires c κs = let a = c .before .before .before .before .before .before .before .before .before .before .before .before .before .before .before .before .before .before .before .before .before .before .before .before in
     let T = a .pre .0 in
-    let g = got (c .before .before .before .before .before .before .before .before .before .before .before) in
-    let h = hint-is (c .before .before .before .before .before .before .before .before .before .before .before) in
-    let z = z-is (c .before .before .before .before .before .before .before .before .before .before .before) in
+    let g = got (c .before .before .before .before .before .before .before .before .before .before .before .before) in
+    let h = hint-is (c .before .before .before .before .before .before .before .before .before .before .before .before) in
+    let z = z-is (c .before .before .before .before .before .before .before .before .before .before .before .before) in
     let o : a .args .p .kappa / 4 - 0 ≡ a .args .p .kappa / 4 = omega arith in
-    let s = bounds-small (a .args .p .«hint_limit») (a .args .p .binf) (a .args .p .b22) _ _ (sym (c .before .before .before .before .before .before .check-bounds .ensures) ∙ not-false _ (c .before .before .before .before .before .if2 .left)) in (
+    let s = bounds-small (a .args .p .«hint_limit») (a .args .p .binf) (a .args .p .b22) _ _ (sym (decided-passed (a .args .p .«hint_limit») (a .args .p .binf) (a .args .p .b22) (c .before .before .before .before .before .before .before .check-bounds .result) (c .before .before .before .before .before .before .before .check-bounds .ensures) refl refl) ∙ not-false _ (c .before .before .before .before .before .if2 .left)) in (
       (T, a .pre .1, a .pre .2, length-take-le (a .args .p .kappa / 4 - 0) (a .args .sig .now) (omega (arith, o, fits a)) ∙ o),
       (
         (ap (λ (l : List ℤ). length l) h ∙ g .1, ap (λ (l : List ℤ). length l) z ∙ g .2),
@@ -188,48 +119,23 @@ verify-hash-requires c κs = let a = c .before .before .before .before .before .
     )
 
 returns-3 : tie.Need-returns-3
-returns-3 c = let a = c .before .before .before .before .before .before .before .before .before .before .before .before .before .before .before .before .before .before .before .before .before .before .before .before in
+returns-3 c = let a = c .before .before .before .before .before .before .before .before .before .before .before .before .before .before .before .before .before .before .before .before .before .before .before .before .before in
     let b = a .args in
     let p = b .p in
     let o : p .kappa / 4 - 0 ≡ p .kappa / 4 = omega arith in
-    let H = c .before .before .before .before .before .before .before .before .before .before .before .before .before .before .before .read .last .1 .1 .0 in
-    let Z = c .before .before .before .before .before .before .before .before .before .before .before .before .before .before .before .read .last .1 .1 .1 .0 in
+    let H = c .before .before .before .before .before .before .before .before .before .before .before .before .before .before .before .before .read .last .1 .1 .0 in
+    let Z = c .before .before .before .before .before .before .before .before .before .before .before .before .before .before .before .before .read .last .1 .1 .1 .0 in
     let f = fieldsOf (take (p .kappa / 4) (b .sig .now)) H Z in
     let e : checkBounds p f ≡ true =
-    sym (bounds-parts (p .«hint_limit») (p .binf) (p .b22) (hint-is (c .before .before .before .before .before .before .before .before .before .before .before .before)) (z-is (c .before .before .before .before .before .before .before .before .before .before .before .before))) ∙ sym (c .before .before .before .before .before .before .before .check-bounds .ensures) ∙ not-false _ (c .before .before .before .before .before .before .if2 .left) in
-    c .verify-hash .ensures ∙ hash-same p (b .vk .now) (b .msg .now) (ap (λ (n : ℕ). take n (b .sig .now)) o) (hint-is (c .before .before .before .before .before .before .before .before .before .before .before .before)) (z-is (c .before .before .before .before .before .before .before .before .before .before .before .before))
-    ∙ sym (read-status (c .before .before .before .before .before .before .before .before .before .before .before .before) ∙ ap (λ (t : Bool). pick t (firstNo (hashChecks p (b .vk .now) (b .msg .now) f)) 15) e)
+    sym (bounds-are (c .before .before .before .before .before .before .before .before)) ∙ not-false _ (c .before .before .before .before .before .before .if2 .left) in
+    c .verify-hash .ensures ∙ hash-same p (b .vk .now) (b .msg .now) (ap (λ (n : ℕ). take n (b .sig .now)) o) (hint-is (c .before .before .before .before .before .before .before .before .before .before .before .before .before)) (z-is (c .before .before .before .before .before .before .before .before .before .before .before .before .before))
+    ∙ sym (read-status (c .before .before .before .before .before .before .before .before .before .before .before .before .before) ∙ ap (λ (t : Bool). pick t (firstNo (hashChecks p (b .vk .now) (b .msg .now) f)) 15) e)
 
 pub verify-fields-spec : {M : Type 1} → statement M
 verify-fields-spec =
-    tie.close
-    (tie.spec
-    mul-n
-    mul-m
-    sub-read
-    part-hint-start
-    part-hint-end
-    sub-read-2
-    part-z-start
-    part-z-end
-    read-requires
-    returns
-    sub-check-bounds
-    part-check-bounds-start
-    part-check-bounds-end
-    sub-check-bounds-2
-    part-check-bounds-start-2
-    part-check-bounds-end-2
-    check-bounds-requires
-    returns-2
-    sub-verify-hash
-    part-verify-hash-start
-    part-verify-hash-end
-    sub-verify-hash-2
-    part-verify-hash-start-2
-    part-verify-hash-end-2
-    sub-verify-hash-3
-    part-verify-hash-start-3
-    part-verify-hash-end-3
-    verify-hash-requires
-    returns-3)
+    tie.close (tie.spec (λ c. search needs) (λ c. search needs) (λ c. search needs) (λ c. search needs)
+    (λ c. search needs) (λ c. search needs) (λ c. search needs) (λ c. search needs) (λ c κs. search needs) returns
+    (λ c. search needs) (λ c. search needs) part-check-bounds-end (λ c. search needs) (λ c. search needs)
+    part-check-bounds-end-2 (λ c κs. search needs) returns-2 (λ c. search needs) (λ c. search needs) (λ c. search needs)
+    (λ c. search needs) (λ c. search needs) part-verify-hash-end-2 (λ c. search needs) (λ c. search needs)
+    part-verify-hash-end-3 verify-hash-requires returns-3)
