@@ -10,6 +10,8 @@ ghost use Rattle.ring.specs.Uniform.{sampleQ};
 ghost use Rattle.ring.specs.UniformSteps.{heldOf};
 ghost use Rattle.hash.specs.Keccak.{lane};
 ghost use Rattle.hash.specs.Shake.{zeroState, after, shake256};
+ghost use Rattle.signature.specs.Decision.{decided};
+use signature::bounds::Decision;
 
 // n permutations, one on the other.
 #[no_mangle]
@@ -81,4 +83,18 @@ pub extern "C" fn bench_sample_q(header: &[u8; 8], seed: &[u8], out: &mut [u64; 
     let p = s.poly;
     *out = p;
     s.ok
+}
+
+// CheckBounds of any hint and response under any limits, settled early.
+#[no_mangle]
+pub extern "C" fn bench_check_bounds(
+    hint: &[i64],
+    response: &[i64],
+    hint_limit: u64,
+    binf: u64,
+    b22: u64,
+) -> Decision
+    ensures { λ r. ⌜ r ≡ decided «hint_limit» binf b22 (now (hint .entry)) (now (response .entry)) ⌝ }
+{
+    signature::bounds::check_bounds(hint, response, hint_limit, binf, b22)
 }
