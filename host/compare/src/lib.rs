@@ -4,6 +4,7 @@
 //! * [`expect`]: what each call has to answer, for arguments of any kind.
 //! * [`case`]: a call with all that it is lent, put to both and compared.
 //! * [`pool`], [`fuzz`]: random and damaged cases.
+//! * [`bounds`]: fields of a signature at its bounds, and just above.
 //! * [`layout`]: packed numbers, and polynomials in shares.
 //! * [`known`]: the known answers of the data files.
 //! * [`response`]: the submission's response files.
@@ -13,6 +14,7 @@
 
 pub use independent;
 
+pub mod bounds;
 pub mod case;
 pub mod expect;
 pub mod fuzz;

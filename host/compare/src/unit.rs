@@ -1,6 +1,6 @@
 //! The proved code: the unit's calls with the types of the independent implementation, and the exports of its parts.
 
-use independent::raccoon::{Edition, Noise};
+use independent::raccoon::{Decision, Edition, Noise};
 use independent::ring::{N, Poly};
 use raccoon::call;
 pub use raccoon::call::{Key, Signed, refresh_key, sample_challenge, sample_uniform};
@@ -13,6 +13,21 @@ mod raw {
         pub fn bench_ntt(f: *mut u64) -> bool;
         pub fn bench_product(f: *mut u64, g: *const u64) -> bool;
         pub fn bench_sample_q(header: *const u8, seed: *const u8, seed_len: usize, out: *mut u64) -> bool;
+        pub fn bench_check_bounds(
+            hint: *const i64,
+            hint_len: usize,
+            response: *const i64,
+            response_len: usize,
+            hint_limit: u64,
+            binf: u64,
+            b22: u64,
+        ) -> Decision;
+    }
+
+    #[repr(C)]
+    pub struct Decision {
+        pub passed: bool,
+        pub coefficients: usize,
     }
 }
 
@@ -46,6 +61,13 @@ pub fn sample_q(header: &[u8; 8], seed: &[u8]) -> Option<Poly> {
     let mut poly = [0u64; N];
     let filled = unsafe { raw::bench_sample_q(header.as_ptr(), seed.as_ptr(), seed.len(), poly.as_mut_ptr()) };
     filled.then_some(poly)
+}
+
+/// The check of the bounds: its answer, and how many coefficients it read.
+pub fn check_bounds(hint: &[i64], response: &[i64], hint_limit: u64, binf: u64, b22: u64) -> Decision {
+    let raw::Decision { passed, coefficients } =
+        unsafe { raw::bench_check_bounds(hint.as_ptr(), hint.len(), response.as_ptr(), response.len(), hint_limit, binf, b22) };
+    Decision { passed, coefficients }
 }
 
 fn of(edition: Edition) -> call::Edition {

@@ -1,6 +1,7 @@
 //! Verifying of the proved code: known answers, the signatures of all 18 response files in both editions, flipped bits in every field, fields
 //! at the edges of the bounds and of the length, damaged keys and wrong lengths. Every status is compared with the independent one.
 
+use compare::bounds::{fields_of_norm, zero_fields};
 use compare::independent::raccoon::{Edition, Fields, Noise, Params, expand, form_bits, keygen, read, sign, write};
 use compare::independent::ring::Q;
 use compare::known::{digest, known, response_tests, xof};
@@ -208,27 +209,12 @@ fn read_and_written_again() {
     }
 }
 
-/// Fields whose weighted sum of squares is `norm`: hints of 2, and responses for the rest, the largest first, all bits that do not count set.
-fn fields_of_norm(p: &Params, norm: u64, zero: &Fields) -> Fields {
-    let mut f = zero.clone();
-    let twos = (norm >> 26) as usize;
-    f.hint.iter_mut().take(twos).enumerate().for_each(|(i, h)| *h = if i % 2 == 0 { 2 } else { -2 });
-    let mut rest = norm - ((twos as u64) << 26);
-    for (i, z) in f.response.iter_mut().enumerate() {
-        let root = rest.isqrt().min((p.binf >> 32) - 1);
-        rest -= root * root;
-        *z = if root == 0 { 0 } else { (root << 32 | 0xffff_ffff) as i64 * if i % 2 == 0 { 1 } else { -1 } };
-    }
-    assert_eq!(rest, 0);
-    f
-}
-
 #[test]
 fn bounds_at_their_edges() {
     for set in SETS {
         let c = Case::new(set, Edition::Printed, vec![]);
         let p = &c.p;
-        let zero = Fields { hash: vec![3; p.hash_bytes()], hint: vec![0; p.k * 512], response: vec![0; p.l * 512] };
+        let zero = zero_fields(p);
         let of = |f: &Fields| c.verdict_on(&write(p, f).expect("a signature that fits"));
         assert_eq!(of(&zero), 16);
         for (sign, last) in [(1, false), (-1, false), (1, true), (-1, true)] {
@@ -251,11 +237,7 @@ fn bounds_at_their_edges() {
                 "responses of {set}"
             );
         }
-        assert_eq!(
-            [p.b22 - 1, p.b22, p.b22 + 1].map(|n| of(&fields_of_norm(p, n, &zero))),
-            [16, 16, 15],
-            "sum of squares of {set}"
-        );
+        assert_eq!([p.b22 - 1, p.b22, p.b22 + 1].map(|n| of(&fields_of_norm(p, n))), [16, 16, 15], "sum of squares of {set}");
     }
 }
 
@@ -265,7 +247,7 @@ fn length_at_its_edges() {
         let c = Case::new(set, Edition::Printed, vec![]);
         let p = &c.p;
         let all = 8 * p.sig_bytes;
-        let mut f = Fields { hash: vec![3; p.hash_bytes()], hint: vec![0; p.k * 512], response: vec![0; p.l * 512] };
+        let mut f = zero_fields(p);
         // one large hint takes up the fill, to the last bit
         f.hint[0] = 1;
         f.hint[0] += (all - form_bits(&f).len()) as i64;

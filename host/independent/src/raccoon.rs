@@ -407,13 +407,41 @@ pub fn read(p: &Params, sig: &[u8]) -> Option<Fields> {
     Some(Fields { hash: sig[..p.hash_bytes()].to_vec(), hint, response })
 }
 
-/// Algorithm 4.
+/// Algorithm 4, by the full sums. Where a no is settled early, [`decide_bounds`] says.
 pub fn check_bounds(p: &Params, f: &Fields) -> bool {
     let largest = |v: &[i64]| v.iter().map(|z| z.unsigned_abs()).max().unwrap_or(0);
     let squares = |v: &[i64], shift: u32| -> u128 { v.iter().map(|z| u128::from(z.unsigned_abs() >> shift).pow(2)).sum() };
     largest(&f.hint) <= p.hint_limit()
         && largest(&f.response) <= p.binf
         && (squares(&f.hint, 0) << 24) + squares(&f.response, 32) <= u128::from(p.b22)
+}
+
+/// The answer of Algorithm 4 where a no is settled early, and how many coefficients it takes: the last of them is the one that decides.
+#[derive(Clone, Copy, PartialEq, Eq, Debug)]
+pub struct Decision {
+    pub passed: bool,
+    pub coefficients: usize,
+}
+
+/// Algorithm 4 up to the first no, for any limits and numbers: hint, then response, each coefficient against its limit and with it the sum
+/// of squares, in units of 2^64, against `b22`. What u128 cannot hold saturates, far above any `b22`.
+pub fn decide(hint_limit: u64, binf: u64, b22: u64, hint: &[i64], response: &[i64]) -> Decision {
+    let hint_squares =
+        hint.iter().map(|h| h.unsigned_abs()).map(|h| (h <= hint_limit, u128::from(h).pow(2).saturating_mul(1 << 24)));
+    let squares = response.iter().map(|z| z.unsigned_abs()).map(|z| (z <= binf, u128::from(z >> 32).pow(2)));
+    let no = hint_squares
+        .chain(squares)
+        .scan(0u128, |sum, (within, square)| {
+            *sum = sum.saturating_add(square);
+            Some(within && *sum <= b22.into())
+        })
+        .position(|yes| !yes);
+    Decision { passed: no.is_none(), coefficients: no.map_or(hint.len() + response.len(), |before| before + 1) }
+}
+
+/// The decision on the fields of a set.
+pub fn decide_bounds(p: &Params, f: &Fields) -> Decision {
+    decide(p.hint_limit(), p.binf, p.b22, &f.hint, &f.response)
 }
 
 fn signed(c: &[i8; N]) -> Poly {
