@@ -1,5 +1,6 @@
 //! Random cases, most of them damaged, compared with what is expected. Seed and number give a case: any one can be put again.
 
+use crate::bounds::{fields_of_norm, hint_of_squares, zeros_behind};
 use crate::case::{Calls, Case, Field, Inputs, KINDS, Kind};
 use crate::layout::{full_share, laid_out, put_bits, small_totals, words_below_q};
 use crate::pool::{Base, Pool, SETS};
@@ -195,6 +196,8 @@ enum Mutation {
     NoiseWord,
     /// A field of the signature moved, and the signature written anew.
     Moved,
+    /// A signature whose sum of squares is at its bound, or just above.
+    Norm,
     /// A bit behind the last code of the signature.
     Fill,
     /// A signature that is none, or is of another key.
@@ -230,7 +233,7 @@ fn mutations(kind: Kind) -> Vec<Mutation> {
         all.push(NoiseWord);
     }
     if kind.verifies() {
-        all.extend([Moved, Moved, Fill, Other]);
+        all.extend([Moved, Moved, Norm, Fill, Other]);
     }
     all
 }
@@ -262,6 +265,7 @@ fn mutate(case: &mut Case, base: &Base, other: &Base, random: &mut Random) {
         }
         Mutation::NoiseWord => set_word(&mut case.inputs.noise, random),
         Mutation::Moved => move_field(&mut case.inputs.signature, p, random),
+        Mutation::Norm => case.inputs.signature = signature_of_norm(p, random),
         Mutation::Fill => set_fill_bit(&mut case.inputs.signature, p, random),
         Mutation::Other => case.inputs.signature = other_signature(p, other, random),
     }
@@ -341,6 +345,17 @@ fn move_field(signature: &mut Vec<u8>, p: &Params, random: &mut Random) {
     if let Some(written) = write(p, &f) {
         *signature = written;
     }
+}
+
+/// The sum of squares is at its bound or just above, by hints alone or with responses: the last coefficient that adds to it stands as early
+/// or as late as it can, or anywhere between.
+fn signature_of_norm(p: &Params, random: &mut Random) -> Vec<u8> {
+    let (in_hint, more) = (random.below(2) == 0, random.below(2) as u64);
+    let mut f = if in_hint { hint_of_squares(p, (p.b22 >> 24) + more) } else { fields_of_norm(p, p.b22 + more) };
+    let numbers = if in_hint { &mut f.hint } else { &mut f.response };
+    let by = place(random, zeros_behind(numbers) + 1);
+    numbers.rotate_right(by);
+    write(p, &f).expect("a signature that fits")
 }
 
 fn set_fill_bit(signature: &mut [u8], p: &Params, random: &mut Random) {

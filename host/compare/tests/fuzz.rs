@@ -3,7 +3,7 @@
 
 use compare::case::{Answer, Calls, Case, EXPECTED, Field, GUARD, Inputs, KINDS, Kind, UNIT, compare, only_read};
 use compare::fuzz::{Fuzz, Tally};
-use compare::independent::raccoon::{Edition, Params};
+use compare::independent::raccoon::{Edition, Params, check_bounds, read};
 use compare::pool::{SETS, SHARES};
 use compare::random::Random;
 use compare::unit::{self, Signed, Signing};
@@ -234,6 +234,37 @@ fn wrong_on_keys() -> Vec<Wrong> {
     ]
 }
 
+/// Do the fields of a signature pass, with another bound of the sum?
+fn passes(set: u32, signature: &[u8], b22: impl Fn(u64) -> u64) -> bool {
+    let p = Params::new(set as usize, 1, Edition::Printed).unwrap();
+    check_bounds(&Params { b22: b22(p.b22), ..p }, &read(&p, signature).unwrap())
+}
+
+fn wrong_on_bounds() -> Vec<Wrong> {
+    let no_bounds = |edition, set, key: &[u8], message: &[u8], signature: &[u8]| {
+        let status = unit::verify(edition, set, key, message, signature);
+        if status == 15 { 16 } else { status }
+    };
+    let no_sum = |edition, set, key: &[u8], message: &[u8], signature: &[u8]| {
+        let status = unit::verify(edition, set, key, message, signature);
+        if status == 15 && passes(set, signature, |_| u64::MAX) { 16 } else { status }
+    };
+    let larger_sum = |edition, set, key: &[u8], message: &[u8], signature: &[u8]| {
+        let status = unit::verify(edition, set, key, message, signature);
+        if status == 15 && passes(set, signature, |b22| b22 + 1) { 16 } else { status }
+    };
+    let smaller_sum = |edition, set, key: &[u8], message: &[u8], signature: &[u8]| {
+        let status = unit::verify(edition, set, key, message, signature);
+        if status == 16 && !passes(set, signature, |b22| b22 - 1) { 15 } else { status }
+    };
+    vec![
+        ("tells 16 for 15", Kind::Verify, Calls { verify: no_bounds, ..UNIT }),
+        ("leaves out the sum", Kind::Verify, Calls { verify: no_sum, ..UNIT }),
+        ("accepts a sum just above its bound", Kind::Verify, Calls { verify: larger_sum, ..UNIT }),
+        ("refuses a sum at its bound", Kind::KatVerify, Calls { verify: smaller_sum, ..UNIT }),
+    ]
+}
+
 fn wrong_on_signatures() -> Vec<Wrong> {
     let zeroes_work = |edition, input: &Signing, signature: &mut [u8], work: &mut [u64]| {
         let signed = unit::sign(edition, input, signature, work);
@@ -253,17 +284,12 @@ fn wrong_on_signatures() -> Vec<Wrong> {
         if message.len() == 4096 && status == 16 { 9 } else { status }
     };
     let accepts = |_, _, _: &[u8], _: &[u8], _: &[u8]| 0;
-    let no_bounds = |edition, set, key: &[u8], message: &[u8], signature: &[u8]| {
-        let status = unit::verify(edition, set, key, message, signature);
-        if status == 15 { 16 } else { status }
-    };
     vec![
         ("zeroes work after a refusal", Kind::Sign, Calls { sign: zeroes_work, ..UNIT }),
         ("always tells of one attempt", Kind::SignExplicit, Calls { sign: first_attempt, ..UNIT }),
         ("refuses 16 attempts", Kind::SignExpandedExplicit, Calls { sign: sixteen, ..UNIT }),
         ("refuses a message of 4096 bytes", Kind::Verify, Calls { verify: long_message, ..UNIT }),
         ("accepts all", Kind::Verify, Calls { verify: accepts, ..UNIT }),
-        ("tells 16 for 15", Kind::Verify, Calls { verify: no_bounds, ..UNIT }),
     ]
 }
 
@@ -289,7 +315,7 @@ fn wrong_samplers() -> Vec<Wrong> {
 #[test]
 fn a_wrong_unit_is_noticed() {
     let fuzz = Fuzz::new(SEED);
-    for (what, kind, calls) in [wrong_on_keys(), wrong_on_signatures(), wrong_samplers()].concat() {
+    for (what, kind, calls) in [wrong_on_keys(), wrong_on_bounds(), wrong_on_signatures(), wrong_samplers()].concat() {
         let mut these = (0..CASES).filter(|&number| fuzz.case(number).kind == kind);
         let first = these.find_map(|number| Some((number, fuzz.put(number, &calls, &mut Tally::new()).err()?)));
         let (number, difference) = first.unwrap_or_else(|| panic!("a unit that {what} was not noticed"));
