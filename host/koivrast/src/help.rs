@@ -117,9 +117,10 @@ koivrast inspect FILE...
 
 Tells what is in keys and signatures: set, share count, sizes; of a signature
 also the bits used of its field, its norms beside their bounds, and its hint as a
-chart; of several keys whether their public key is the same. Nothing secret is
-printed. Exit status 1: a file is no key and no signature, or not in order.
-Whether a signature is good, only verify says.
+chart; of one over the bounds the coefficient that decided, its polynomial and its
+place counted from 0, and why; of several keys whether their public key is the
+same. Nothing secret is printed. Exit status 1: a file is no key and no signature,
+or not in order. Whether a signature is good, only verify says.
 
   FILE  a signing key, expanded key, public key or signature; one may be '-',
         standard input

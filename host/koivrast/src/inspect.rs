@@ -162,10 +162,10 @@ fn signature(set: Set, file: &[u8]) -> Findings {
 }
 
 /// The squared norm as Algorithm 4 of paper 000 has it, divided by 2^64: of the response without the low 32 bits.
-fn squared_norm(fields: &Fields) -> u128 {
+fn squared_norm(hint: &[i64], response: &[i64]) -> u128 {
     let squares =
         |numbers: &[i64], shift: u32| numbers.iter().map(|z| u128::from(z.unsigned_abs() >> shift).pow(2)).sum::<u128>();
-    (squares(&fields.hint, 0) << 24) + squares(&fields.response, 32)
+    (squares(hint, 0) << 24) + squares(response, 32)
 }
 
 /// Hint, bits used and norms of a signature that can be read.
@@ -175,12 +175,34 @@ fn tell_fields(text: &mut String, p: &plain::Params, fields: &Fields) {
     let largest = |numbers: &[i64]| numbers.iter().map(|z| u128::from(z.unsigned_abs())).max().unwrap_or(0);
     line(text, "largest hint", part(largest(&fields.hint), p.hint_limit().into()));
     line(text, "largest response", part(largest(&fields.response), p.binf.into()));
-    line(text, "squared norm", part(squared_norm(fields), p.b22.into()) + ", both / 2^64");
+    line(text, "squared norm", part(squared_norm(&fields.hint, &fields.response), p.b22.into()) + ", both / 2^64");
     line(text, "bounds", verdict(plain::check_bounds(p, fields), "passed", Refusal::BadSignatureBounds));
+    tell_decider(text, p, fields);
     line(text, "hint", format!("{} x {N} numbers", p.k));
     let mut counts = BTreeMap::new();
     // a forged hint may have many values: from 9 on they share a row
     fields.hint.iter().for_each(|z| *counts.entry(z.clamp(&-9, &9)).or_insert(0) += 1);
     let label = |z: i64| if z.abs() < 9 { z.to_string() } else { format!("{z} and beyond") };
     chart(text, &counts.into_iter().map(|(&z, count)| (label(z), count)).collect::<Vec<_>>());
+}
+
+/// Of fields over the bounds: the coefficient that decides, why, and how many were read with it.
+fn tell_decider(text: &mut String, p: &plain::Params, fields: &Fields) {
+    let plain::Decision { passed, coefficients } = plain::decide_bounds(p, fields);
+    if passed {
+        return;
+    }
+    let (hint, response) = (&fields.hint, &fields.response);
+    let (field, at, value, limit) = match coefficients.checked_sub(hint.len() + 1) {
+        None => ("hint", coefficients - 1, hint[coefficients - 1], p.hint_limit()),
+        Some(at) => ("response", at, response[at], p.binf),
+    };
+    let why = if value.unsigned_abs() > limit {
+        format!("above its limit, {limit}")
+    } else {
+        let read = (&hint[..coefficients.min(hint.len())], &response[..coefficients.saturating_sub(hint.len())]);
+        format!("which lifts the squared norm to {}, above {}, both / 2^64", squared_norm(read.0, read.1), p.b22)
+    };
+    line(text, "decided by", format!("{field}, polynomial {}, place {}: {value}, {why}", at / N, at % N));
+    line(text, "coefficients read", format!("{coefficients} of {}", hint.len() + response.len()));
 }

@@ -144,6 +144,7 @@ for line in 'signature of set 128, 11524 bytes' 'challenge hash' 'form  *in orde
     'largest response .* of 41954689765971 (' 'squared norm .* of 14656575897 (' 'bounds  *passed' ' 0  *[0-9]* |##*$'; do
     holds "inspect a signature: $line" grep -q "$line" .said
 done
+fails 'inspect a signature: nothing over the bounds' grep -q -e 'decided by' -e 'coefficients read' .said
 expect 'inspect a signing key' 0 'share seeds  *3 x 16 bytes' "$tool" inspect gate.key
 fails 'inspect tells no secret' grep -q "$(od -An -tx1 -j 2256 -N 16 gate.key | tr -d ' ')" .said
 holds 'inspect tells who can read' grep -q 'the owner only (mode 600)' .said
@@ -207,6 +208,8 @@ expect 'check 14 in inspect' 1 'form  *refused, 14: ' "$tool" inspect bad.sig
 { bytes 32 000 && bytes 1 037 && bytes 11491 000; } >wide.sig
 expect 'check 15' 1 'refused, 15: ' verify gate.pub order.txt wide.sig
 expect 'check 15 in inspect' 1 'largest hint  *5 of 2 (250.0 %)' "$tool" inspect wide.sig
+holds 'check 15: what decided' grep -q 'decided by  *hint, polynomial 0, place 0: 5, above its limit, 2$' .said
+holds 'check 15: what was read' grep -q 'coefficients read  *1 of 4608$' .said
 echo 'release tram 18' >other.txt
 expect 'check 16, other message' 1 'refused, 16: Is the recomputed challenge hash equal? No' \
     verify gate.pub other.txt order.sig
