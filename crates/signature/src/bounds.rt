@@ -13,7 +13,7 @@ const SCALE_HINT: u64 = 16777216;
 const HINT_TOP: u64 = 1048575;
 
 // Where the check stands: whether no coefficient decided, how many were read, and the sum of squares of those that passed.
-pub struct Standing {
+pub(crate) struct Standing {
     pub passed: bool,
     pub coefficients: usize,
     pub sum: u64,
