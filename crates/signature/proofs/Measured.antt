@@ -12,7 +12,8 @@ use Rattle.hash.specs.Lists.{pick}
 use lib.Pow.{shr-mono}
 use native.Mathlib.Nat.{mul-le-mul, mul-add, not-suc-le-zero, le-of-suc-le-suc}
 use native.Mathlib.Omega.{arith}
-use Rattle.ring.proofs.Checks.{absurd-bool}
+use Rattle.ring.specs.Checks.{both}
+use Rattle.ring.proofs.Checks.{absurd-bool, both-true, both-yes, left-no, right-no}
 use Rattle.signature.specs.Bounds.{within, squares}
 use Rattle.signature.specs.declared.bounds.Standing.{Standing}
 use Rattle.signature.specs.Decision.{standingOf, squareOf, countIn, measured}
@@ -28,37 +29,38 @@ module _ (limit s v all : ℕ) where
   -- ---- one coefficient more
 
   module _ (t : Standing) (c : ℤ) where
+    -- what decides: within its limit, and the sum with it not above all
+    abbrev pub passes : Bool
+    passes = both (leb (natAbs c) limit) (leb (t .sum + squareOf s v (natAbs c)) all)
+
     pub count-passed : natAbs c ≤ limit → t .sum + squareOf s v (natAbs c) ≤ all
         → countIn limit s v all t c ≡ standingOf true (t .coefficients + 1) (t .sum + squareOf s v (natAbs c))
     count-passed h k = rw (le-leb _ _ h, le-leb _ _ k)
 
+    pub count-decided : passes ≡ false → countIn limit s v all t c ≡ standingOf false (t .coefficients + 1) (t .sum)
+    count-decided e = rw e
+
     pub count-limit : limit < natAbs c → countIn limit s v all t c ≡ standingOf false (t .coefficients + 1) (t .sum)
-    count-limit h = rw (lt-leb _ _ h)
+    count-limit h = count-decided (left-no _ (lt-leb _ _ h))
 
     pub count-sum : all < t .sum + squareOf s v (natAbs c) → countIn limit s v all t c ≡ standingOf false (t .coefficients + 1) (t .sum)
-    count-sum k = rw (lt-leb _ _ k) (either (leb (natAbs c) limit))
-      where
-        either : (b : Bool) → pick b (standingOf false (t .coefficients + 1) (t .sum)) (standingOf false (t .coefficients + 1) (t .sum)) ≡ standingOf false (t .coefficients + 1) (t .sum)
-        either true = refl
-        either false = refl
+    count-sum k = count-decided (right-no (leb (natAbs c) limit) (lt-leb _ _ k))
 
     pub count-low : t .sum ≤ all → countIn limit s v all t c .sum ≤ all
-    count-low h = go (leb (natAbs c) limit) (leb (t .sum + squareOf s v (natAbs c)) all) refl
+    count-low h = go passes refl
       where
-        go : (a b : Bool) → leb (t .sum + squareOf s v (natAbs c)) all ≡ b
-            → pick a (pick b (standingOf true (t .coefficients + 1) (t .sum + squareOf s v (natAbs c))) (standingOf false (t .coefficients + 1) (t .sum))) (standingOf false (t .coefficients + 1) (t .sum)) .sum ≤ all
-        go true true e = leb-true _ _ e
-        go true false e = h
-        go false b e = h
+        go : (b : Bool) → passes ≡ b
+            → pick b (standingOf true (t .coefficients + 1) (t .sum + squareOf s v (natAbs c))) (standingOf false (t .coefficients + 1) (t .sum)) .sum ≤ all
+        go true e = leb-true _ _ (both-true (leb (natAbs c) limit) _ e .1)
+        go false e = h
 
     pub count-one : countIn limit s v all t c .coefficients ≡ t .coefficients + 1
-    count-one = go (leb (natAbs c) limit) (leb (t .sum + squareOf s v (natAbs c)) all)
+    count-one = go passes
       where
-        go : (a b : Bool)
-            → pick a (pick b (standingOf true (t .coefficients + 1) (t .sum + squareOf s v (natAbs c))) (standingOf false (t .coefficients + 1) (t .sum))) (standingOf false (t .coefficients + 1) (t .sum)) .coefficients ≡ t .coefficients + 1
-        go true true = refl
-        go true false = refl
-        go false b = refl
+        go : (b : Bool)
+            → pick b (standingOf true (t .coefficients + 1) (t .sum + squareOf s v (natAbs c))) (standingOf false (t .coefficients + 1) (t .sum)) .coefficients ≡ t .coefficients + 1
+        go true = refl
+        go false = refl
 
   -- ---- through a list
 
@@ -149,24 +151,16 @@ module _ (limit s v all : ℕ) where
 
   fit-cons : (c : ℤ) (cs : List ℤ) (sum : ℕ) → natAbs c ≤ limit → Fit limit s v all (sum + squareOf s v (natAbs c)) cs → Fit limit s v all sum (c ∷ cs)
   unfolding within squares
-  fit-cons c cs sum h f = (rw (le-leb _ _ h) (f .0), rw mul-add (omega (arith, f .1)))
+  fit-cons c cs sum h f = (both-yes (le-leb _ _ h) (f .0), rw mul-add (omega (arith, f .1)))
 
   fit-head : (c : ℤ) (cs : List ℤ) (sum : ℕ) → Fit limit s v all sum (c ∷ cs) → natAbs c ≤ limit
   unfolding within
-  fit-head c cs sum f = go (leb (natAbs c) limit) refl (f .0)
-    where
-      go : (b : Bool) → leb (natAbs c) limit ≡ b → pick b (within limit cs) false ≡ true → natAbs c ≤ limit
-      go true e g = leb-true _ _ e
-      go false e g = absurd-bool (sym g)
+  fit-head c cs sum f = leb-true _ _ (both-true (leb (natAbs c) limit) (within limit cs) (f .0) .0)
 
   fit-tail : (c : ℤ) (cs : List ℤ) (sum : ℕ) → Fit limit s v all sum (c ∷ cs) → Fit limit s v all (sum + squareOf s v (natAbs c)) cs
   unfolding within squares
   fit-tail c cs sum f = let g = f .1 in
-      (go (leb (natAbs c) limit) (f .0), omega (arith, rw mul-add at g))
-    where
-      go : (b : Bool) → pick b (within limit cs) false ≡ true → within limit cs ≡ true
-      go true g = g
-      go false g = absurd-bool (sym g)
+      (both-true (leb (natAbs c) limit) (within limit cs) (f .0) .1, omega (arith, rw mul-add at g))
 
   -- with the first coefficient: on, or decided
   module _ (c : ℤ) (cs : List ℤ) (n sum : ℕ) where
@@ -176,9 +170,10 @@ module _ (limit s v all : ℕ) where
         goes-on limit s v all (standingOf true n sum) c cs refl
         ∙ ap (λ (t : Standing). measured limit s v all t cs) (count-passed limit s v all (standingOf true n sum) c h k)
 
-    first-over : countIn limit s v all (standingOf true n sum) c ≡ standingOf false (n + 1) sum → measured limit s v all (standingOf true n sum) (c ∷ cs) ≡ standingOf false (n + 1) sum
-    first-over e =
-        goes-on limit s v all (standingOf true n sum) c cs refl ∙ ap (λ (t : Standing). measured limit s v all t cs) e
+    first-decides : passes limit s v all (standingOf true n sum) c ≡ false → measured limit s v all (standingOf true n sum) (c ∷ cs) ≡ standingOf false (n + 1) sum
+    first-decides e =
+        goes-on limit s v all (standingOf true n sum) c cs refl
+        ∙ ap (λ (t : Standing). measured limit s v all t cs) (count-decided limit s v all (standingOf true n sum) c e)
         ∙ stays limit s v all (standingOf false (n + 1) sum) cs refl
 
   -- a measure that passes has read all
@@ -186,37 +181,37 @@ module _ (limit s v all : ℕ) where
       → (r .coefficients ≡ n + length cs) × (r .sum ≡ sum + s * squares v cs) × Fit limit s v all sum cs
   unfolding measured squares
   measured-yes [] n sum h r e y = rw e (omega arith, omega arith, fit-none sum h)
-  measured-yes (c ∷ cs) n sum h r e y =
-      go (leb (natAbs c) limit) refl (leb (sum + squareOf s v (natAbs c)) all) refl
-      (λ k. measured-yes cs (n + 1) (sum + squareOf s v (natAbs c)) k r)
+  measured-yes (c ∷ cs) n sum h r e y = go (passes limit s v all (standingOf true n sum) c) refl (λ k. measured-yes cs (n + 1) (sum + squareOf s v (natAbs c)) k r)
     where
       Yes : ℕ → ℕ → List ℤ → Type 0
       Yes n sum cs = (r .coefficients ≡ n + length cs) × (r .sum ≡ sum + s * squares v cs) × Fit limit s v all sum cs
 
-      go : (a : Bool) → leb (natAbs c) limit ≡ a → (b : Bool) → leb (sum + squareOf s v (natAbs c)) all ≡ b
+      go : (b : Bool) → passes limit s v all (standingOf true n sum) c ≡ b
           → (sum + squareOf s v (natAbs c) ≤ all → r ≡ measured limit s v all (standingOf true (n + 1) (sum + squareOf s v (natAbs c))) cs → r .passed ≡ true → Yes (n + 1) (sum + squareOf s v (natAbs c)) cs)
           → Yes n sum (c ∷ cs)
-      go true a true b f =
-          let l = leb-true (natAbs c) limit a in
-          let k = leb-true (sum + squareOf s v (natAbs c)) all b in
+      go true b f =
+          let a = both-true (leb (natAbs c) limit) _ b in
+          let l = leb-true (natAbs c) limit (a .0) in
+          let k = leb-true (sum + squareOf s v (natAbs c)) all (a .1) in
           let g = f k (e ∙ first-passed c cs n sum l k) y in
           (omega (arith, g .0), g .1 ∙ rw mul-add (omega arith), fit-cons c cs sum l (g .2))
-      go true a false b f =
-          absurd-bool (sym y ∙ ap (λ (t : Standing). t .passed) (e ∙ first-over c cs n sum (count-sum limit s v all (standingOf true n sum) c (leb-false (sum + squareOf s v (natAbs c)) all b))))
-      go false a b _ f = absurd-bool (sym y ∙ ap (λ (t : Standing). t .passed) (e ∙ first-over c cs n sum (count-limit limit s v all (standingOf true n sum) c (leb-false (natAbs c) limit a))))
+      go false b f = absurd-bool (sym y ∙ ap (λ (t : Standing). t .passed) (e ∙ first-decides c cs n sum b))
 
   -- and where it does not, a coefficient decided
   pub measured-no : (cs : List ℤ) (n sum : ℕ) → sum ≤ all → (r : Standing) → r ≡ measured limit s v all (standingOf true n sum) cs → r .passed ≡ false
       → Stopped limit s v all cs n sum r
   unfolding measured
   measured-no [] n sum h r e y = absurd-bool (sym (ap (λ (t : Standing). t .passed) e) ∙ y)
-  measured-no (c ∷ cs) n sum h r e y =
-      go (leb (natAbs c) limit) refl (leb (sum + squareOf s v (natAbs c)) all) refl
-      (λ k. measured-no cs (n + 1) (sum + squareOf s v (natAbs c)) k r)
+  measured-no (c ∷ cs) n sum h r e y = go (passes limit s v all (standingOf true n sum) c) refl (λ k. measured-no cs (n + 1) (sum + squareOf s v (natAbs c)) k r)
     where
       first : (m : ℕ) → m ≤ 0 → Fit limit s v all sum (take m (c ∷ cs))
       first zero l = fit-none sum h
       first (suc m) l = absurd (not-suc-le-zero l)
+
+      fit-passes : Fit limit s v all sum (c ∷ []) → passes limit s v all (standingOf true n sum) c ≡ true
+      fit-passes g =
+          let k : sum + squareOf s v (natAbs c) ≤ all = omega (arith, (fit-tail c [] sum g) .1) in
+          both-yes (le-leb _ _ (fit-head c [] sum g)) (le-leb _ _ k)
 
       here : r ≡ standingOf false (n + 1) sum → (Fit limit s v all sum (c ∷ []) → ⊥) → Stopped limit s v all (c ∷ cs) n sum r
       here g o = record { place = 0; inside = omega arith; count = ap (λ (t : Standing). t .coefficients) g; before = first; over = o }
@@ -235,16 +230,12 @@ module _ (limit s v all : ℕ) where
             over = λ f. t .over (fit-tail c (take (suc (t .place)) cs) sum f);
           }
 
-      go : (a : Bool) → leb (natAbs c) limit ≡ a → (b : Bool) → leb (sum + squareOf s v (natAbs c)) all ≡ b
+      go : (b : Bool) → passes limit s v all (standingOf true n sum) c ≡ b
           → (sum + squareOf s v (natAbs c) ≤ all → r ≡ measured limit s v all (standingOf true (n + 1) (sum + squareOf s v (natAbs c))) cs → r .passed ≡ false → Stopped limit s v all cs (n + 1) (sum + squareOf s v (natAbs c)) r)
           → Stopped limit s v all (c ∷ cs) n sum r
-      go true a true b f =
-          let l = leb-true (natAbs c) limit a in
-          let k = leb-true (sum + squareOf s v (natAbs c)) all b in
+      go true b f =
+          let a = both-true (leb (natAbs c) limit) _ b in
+          let l = leb-true (natAbs c) limit (a .0) in
+          let k = leb-true (sum + squareOf s v (natAbs c)) all (a .1) in
           later l (f k (e ∙ first-passed c cs n sum l k) y)
-      go true a false b f =
-          let o = leb-false (sum + squareOf s v (natAbs c)) all b in
-          here (e ∙ first-over c cs n sum (count-sum limit s v all (standingOf true n sum) c o)) (λ g. let x : ⊥ = omega (arith, o, (fit-tail c [] sum g) .1) in x)
-      go false a b _ f =
-          let o = leb-false (natAbs c) limit a in
-          here (e ∙ first-over c cs n sum (count-limit limit s v all (standingOf true n sum) c o)) (λ g. let x : ⊥ = omega (arith, o, fit-head c [] sum g) in x)
+      go false b f = here (e ∙ first-decides c cs n sum b) (λ g. absurd-bool (sym (fit-passes g) ∙ b))

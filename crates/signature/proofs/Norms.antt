@@ -1,16 +1,15 @@
 -- Laws of CheckBounds by full sums (000, Algorithm 4).
 use Prim.Native.Nat.{ℕ, zero, suc, _+_, _*_, _^_, _≤_, _<_}
-use mathlib.Core.Path.{_≡_, refl, sym, subst}
+use mathlib.Core.Path.{_≡_, refl}
 use mathlib.Core.Bool.{Bool, true, false}
 use mathlib.Core.List.{List, [], _∷_}
 use native.Mathlib.Omega.{arith}
 use native.Mathlib.Nat.{not-suc-le-zero}
-use lib.Dec.{T, leb, leb→le}
+use lib.Dec.{leb}
 use lib.IntN.{ℤ, pos, natAbs}
 use lib.ListN.{length, getD, take}
 use borrow.Author.Tests.{le-leb, leb-true}
-use Rattle.hash.specs.Lists.{pick}
-use Rattle.ring.proofs.Checks.{absurd-bool}
+use Rattle.ring.proofs.Checks.{both-true, both-yes}
 use Rattle.signature.specs.Bounds.{within, squares, boundsOf}
 
 -- ---- one list
@@ -18,24 +17,16 @@ use Rattle.signature.specs.Bounds.{within, squares, boundsOf}
 within-at : (most : ℕ) (zs : List ℤ) → within most zs ≡ true → (i : ℕ) → i < length zs → natAbs (getD zs i (pos 0)) ≤ most
 unfolding within
 within-at most [] e i h = absurd (not-suc-le-zero h)
-within-at most (z ∷ zs) e i h = go (leb (natAbs z) most) refl e i h (within-at most zs)
-  where
-    go : (t : Bool) → leb (natAbs z) most ≡ t → pick t (within most zs) false ≡ true → (i : ℕ) → i < length (z ∷ zs)
-        → (within most zs ≡ true → (i : ℕ) → i < length zs → natAbs (getD zs i (pos 0)) ≤ most) → natAbs (getD (z ∷ zs) i (pos 0)) ≤ most
-    go false g f i h r = absurd-bool (sym f)
-    go true g f zero h r = leb→le (natAbs z) most (subst T (sym g) tt)
-    go true g f (suc i) h r = r f i (omega arith)
+within-at most (z ∷ zs) e zero h = leb-true _ _ (both-true (leb (natAbs z) most) (within most zs) e .0)
+within-at most (z ∷ zs) e (suc i) h = within-at most zs (both-true (leb (natAbs z) most) (within most zs) e .1) i (omega arith)
 
 -- a prefix of what is within the limit is, and its sum is not more
 within-take : (most : ℕ) (cs : List ℤ) (m : ℕ) → within most cs ≡ true → within most (take m cs) ≡ true
 unfolding within
 within-take most cs zero e = refl
 within-take most [] (suc m) e = refl
-within-take most (c ∷ cs) (suc m) e = go (leb (natAbs c) most) e (within-take most cs m)
-  where
-    go : (b : Bool) → pick b (within most cs) false ≡ true → (within most cs ≡ true → within most (take m cs) ≡ true) → pick b (within most (take m cs)) false ≡ true
-    go true g f = f g
-    go false g f = g
+within-take most (c ∷ cs) (suc m) e = let b = both-true (leb (natAbs c) most) (within most cs) e in
+    both-yes (b .0) (within-take most cs m (b .1))
 
 pub squares-take : (v : ℕ) (cs : List ℤ) (m : ℕ) → squares v (take m cs) ≤ squares v cs
 unfolding squares
@@ -56,16 +47,14 @@ module _ (limit most all : ℕ) where
 
   pub bounds-yes : (h z : List ℤ) → Both h z → boundsOf limit most all h z ≡ true
   unfolding boundsOf
-  bounds-yes h z b = rw (b .0, b .1) (le-leb _ _ (b .2))
+  bounds-yes h z b = both-yes (b .0) (both-yes (b .1) (le-leb _ _ (b .2)))
 
   pub bounds-both : (h z : List ℤ) → boundsOf limit most all h z ≡ true → Both h z
   unfolding boundsOf
-  bounds-both h z e = go (within limit h) refl (within most z) refl e
-    where
-      go : (a : Bool) → within limit h ≡ a → (b : Bool) → within most z ≡ b → pick a (pick b (leb (2 ^ 24 * squares 0 h + squares 32 z) all) false) false ≡ true → Both h z
-      go true a true b g = (a, b, leb-true _ _ g)
-      go true a false b g = absurd-bool (sym g)
-      go false a b _ g = absurd-bool (sym g)
+  bounds-both h z e =
+      let a = both-true (within limit h) _ e in
+      let b = both-true (within most z) _ (a .1) in
+      (a .0, b .0, leb-true _ _ (b .1))
 
   pub bounds-no : (h z : List ℤ) → (Both h z → ⊥) → boundsOf limit most all h z ≡ false
   bounds-no h z f = is-no (boundsOf limit most all h z) (λ e. f (bounds-both h z e))

@@ -8,6 +8,7 @@ use lib.Dec.{leb}
 use lib.IntN.{ℤ, natAbs}
 use lib.ListN.{length, take}
 use Rattle.hash.specs.Lists.{pick}
+use Rattle.ring.specs.Checks.{both}
 use Rattle.signature.specs.Bounds.{boundsOf}
 use Rattle.signature.specs.declared.bounds.Decision.{Decision}
 use Rattle.signature.specs.declared.bounds.Standing.{Standing}
@@ -25,7 +26,7 @@ abbrev pub countIn : ℕ → ℕ → ℕ → ℕ → Standing → ℤ → Standi
 countIn limit s v all t c =
     let sum = t .sum + squareOf s v (natAbs c) in
     let n = t .coefficients + 1 in
-    pick (leb (natAbs c) limit) (pick (leb sum all) (standingOf true n sum) (standingOf false n (t .sum))) (standingOf false n (t .sum))
+    pick (both (leb (natAbs c) limit) (leb sum all)) (standingOf true n sum) (standingOf false n (t .sum))
 
 -- through a list, to the first that decides
 unfoldable pub measured : ℕ → ℕ → ℕ → ℕ → Standing → List ℤ → Standing
