@@ -15,7 +15,7 @@ use Rattle.signature.specs.Bounds.{within, squares, boundsOf}
 use Rattle.signature.specs.Decision.{standingOf, measured, decided, boundsOfFirst}
 use Rattle.signature.specs.declared.bounds.Decision.{Decision}
 use Rattle.signature.specs.declared.bounds.Standing.{Standing}
-use Rattle.signature.proofs.Norms.{Both, squares-take, bounds-yes, bounds-no, both-take}
+use Rattle.signature.proofs.Norms.{InBounds, squares-take, bounds-yes, bounds-no, in-bounds-take}
 use Rattle.signature.proofs.Measured.{stays, Fit, Stopped, measured-yes, measured-no}
 
 -- the answer is that of the full sums, and the number the least that decides
@@ -36,64 +36,64 @@ module _ (limit most all : ℕ) (h z : List ℤ) where
       ap (λ (n : ℕ). boundsOf limit most all (take (length h + m) h) (take n z)) e
       ∙ ap (λ (g : List ℤ). boundsOf limit most all g (take m z)) (take-all (length h + m) h (omega arith))
 
-  hint-both : (g : List ℤ) → Fit limit (2 ^ 24) 0 all 0 g → Both limit most all g []
+  hint-in-bounds : (g : List ℤ) → Fit limit (2 ^ 24) 0 all 0 g → InBounds limit most all g []
   unfolding within squares
-  hint-both g f = (f .0, refl, omega (arith, f .1))
+  hint-in-bounds g f = (f .0, refl, omega (arith, f .1))
 
-  both-hint : (g y : List ℤ) → Both limit most all g y → Fit limit (2 ^ 24) 0 all 0 g
-  both-hint g y b = (b .0, omega (arith, b .2))
+  in-bounds-hint : (g y : List ℤ) → InBounds limit most all g y → Fit limit (2 ^ 24) 0 all 0 g
+  in-bounds-hint g y b = (b .0, omega (arith, b .2))
 
   decided-in-hint : (r : Standing) → Stopped limit (2 ^ 24) 0 all h 0 0 r → Least limit most all h z (record { passed = false; coefficients = r .coefficients })
   decided-in-hint r t =
       record {
-        full = sym (bounds-no limit most all h z (λ b. t .over (both-hint _ _ (both-take limit most all h z (suc (t .place)) 0 b))));
+        full = sym (bounds-no limit most all h z (λ b. t .over (in-bounds-hint _ _ (in-bounds-take limit most all h z (suc (t .place)) 0 b))));
         before =
             λ n k.
             in-hint n (omega (arith, k, t .count, t .inside))
-            ∙ bounds-yes limit most all (take n h) [] (hint-both (take n h) (t .before n (omega (arith, k, t .count))));
+            ∙ bounds-yes limit most all (take n h) [] (hint-in-bounds (take n h) (t .before n (omega (arith, k, t .count))));
         no =
             λ e. let c : r .coefficients ≡ suc (t .place) = omega (arith, t .count) in
             ap (λ (n : ℕ). boundsOfFirst n limit most all h z) c ∙ in-hint (suc (t .place)) (t .inside)
-            ∙ bounds-no limit most all (take (suc (t .place)) h) [] (λ b. t .over (both-hint _ _ b));
+            ∙ bounds-no limit most all (take (suc (t .place)) h) [] (λ b. t .over (in-bounds-hint _ _ b));
         yes = λ e. absurd-bool (sym e);
       }
 
   module _ (f : Fit limit (2 ^ 24) 0 all 0 h) where
-    response-both : (y : List ℤ) → Fit most 1 32 all (2 ^ 24 * squares 0 h) y → Both limit most all h y
-    response-both y g = (f .0, g .0, omega (arith, g .1))
+    response-in-bounds : (y : List ℤ) → Fit most 1 32 all (2 ^ 24 * squares 0 h) y → InBounds limit most all h y
+    response-in-bounds y g = (f .0, g .0, omega (arith, g .1))
 
-    both-response : (y : List ℤ) → Both limit most all h y → Fit most 1 32 all (2 ^ 24 * squares 0 h) y
-    both-response y b = (b .1, omega (arith, b .2))
+    in-bounds-response : (y : List ℤ) → InBounds limit most all h y → Fit most 1 32 all (2 ^ 24 * squares 0 h) y
+    in-bounds-response y b = (b .1, omega (arith, b .2))
 
     decided-in-response : (r : Standing) → Stopped most 1 32 all z (length h) (2 ^ 24 * squares 0 h) r
         → Least limit most all h z (record { passed = false; coefficients = r .coefficients })
     decided-in-response r t =
         record {
-          full = sym (bounds-no limit most all h z (λ b. t .over (both-response _ (both-later b))));
+          full = sym (bounds-no limit most all h z (λ b. t .over (in-bounds-response _ (in-bounds-later b))));
           before = λ n k. go n (leb n (length h)) refl k;
           no =
               λ e.
               ap (λ (n : ℕ). boundsOfFirst n limit most all h z) (t .count) ∙ in-response (suc (t .place))
-              ∙ bounds-no limit most all h (take (suc (t .place)) z) (λ b. t .over (both-response _ b));
+              ∙ bounds-no limit most all h (take (suc (t .place)) z) (λ b. t .over (in-bounds-response _ b));
           yes = λ e. absurd-bool (sym e);
         }
       where
-        both-later : Both limit most all h z → Both limit most all h (take (suc (t .place)) z)
-        both-later b = (b .0, (both-take limit most all h z 0 (suc (t .place)) b) .1, omega (arith, b .2, squares-take 32 z (suc (t .place))))
+        in-bounds-later : InBounds limit most all h z → InBounds limit most all h (take (suc (t .place)) z)
+        in-bounds-later b = (b .0, (in-bounds-take limit most all h z 0 (suc (t .place)) b) .1, omega (arith, b .2, squares-take 32 z (suc (t .place))))
 
         go : (n : ℕ) (b : Bool) → leb n (length h) ≡ b → n < r .coefficients → boundsOfFirst n limit most all h z ≡ true
-        go n true e k = in-hint n (leb-true n (length h) e) ∙ bounds-yes limit most all (take n h) [] (both-take limit most all h [] n 0 (hint-both h f))
+        go n true e k = in-hint n (leb-true n (length h) e) ∙ bounds-yes limit most all (take n h) [] (in-bounds-take limit most all h [] n 0 (hint-in-bounds h f))
         go n false e k =
             let l = leb-false n (length h) e in
             let g : n ≡ length h + (n - length h) = omega arith in
             ap (λ (m : ℕ). boundsOfFirst m limit most all h z) g ∙ in-response (n - length h)
-            ∙ bounds-yes limit most all h (take (n - length h) z) (response-both _ (t .before (n - length h) (omega (arith, k, t .count))))
+            ∙ bounds-yes limit most all h (take (n - length h) z) (response-in-bounds _ (t .before (n - length h) (omega (arith, k, t .count))))
 
     none-decided : Fit most 1 32 all (2 ^ 24 * squares 0 h) z → (n : ℕ) → n ≡ length h + length z → Least limit most all h z (record { passed = true; coefficients = n })
     none-decided g n e =
         record {
-          full = sym (bounds-yes limit most all h z (response-both z g));
-          before = λ m k. bounds-yes limit most all (take m h) (take (m - length h) z) (both-take limit most all h z m (m - length h) (response-both z g));
+          full = sym (bounds-yes limit most all h z (response-in-bounds z g));
+          before = λ m k. bounds-yes limit most all (take m h) (take (m - length h) z) (in-bounds-take limit most all h z m (m - length h) (response-in-bounds z g));
           no = λ y. absurd-bool y;
           yes = λ y. e;
         }

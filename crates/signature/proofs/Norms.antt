@@ -42,27 +42,27 @@ is-no false f = refl
 
 module _ (limit most all : ℕ) where
   -- lines 3, 4 and 7 do not fail
-  abbrev pub Both : List ℤ → List ℤ → Type 0
-  Both h z = (within limit h ≡ true) × (within most z ≡ true) × (2 ^ 24 * squares 0 h + squares 32 z ≤ all)
+  abbrev pub InBounds : List ℤ → List ℤ → Type 0
+  InBounds h z = (within limit h ≡ true) × (within most z ≡ true) × (2 ^ 24 * squares 0 h + squares 32 z ≤ all)
 
-  pub bounds-yes : (h z : List ℤ) → Both h z → boundsOf limit most all h z ≡ true
+  pub bounds-yes : (h z : List ℤ) → InBounds h z → boundsOf limit most all h z ≡ true
   unfolding boundsOf
   bounds-yes h z b = both-yes (b .0) (both-yes (b .1) (le-leb _ _ (b .2)))
 
-  pub bounds-both : (h z : List ℤ) → boundsOf limit most all h z ≡ true → Both h z
+  pub bounds-in : (h z : List ℤ) → boundsOf limit most all h z ≡ true → InBounds h z
   unfolding boundsOf
-  bounds-both h z e =
+  bounds-in h z e =
       let a = both-true (within limit h) _ e in
       let b = both-true (within most z) _ (a .1) in
       (a .0, b .0, leb-true _ _ (b .1))
 
-  pub bounds-no : (h z : List ℤ) → (Both h z → ⊥) → boundsOf limit most all h z ≡ false
-  bounds-no h z f = is-no (boundsOf limit most all h z) (λ e. f (bounds-both h z e))
+  pub bounds-no : (h z : List ℤ) → (InBounds h z → ⊥) → boundsOf limit most all h z ≡ false
+  bounds-no h z f = is-no (boundsOf limit most all h z) (λ e. f (bounds-in h z e))
 
-  pub both-take : (h z : List ℤ) (m n : ℕ) → Both h z → Both (take m h) (take n z)
-  both-take h z m n b = (within-take limit h m (b .0), within-take most z n (b .1), omega (arith, b .2, squares-take 0 h m, squares-take 32 z n))
+  pub in-bounds-take : (h z : List ℤ) (m n : ℕ) → InBounds h z → InBounds (take m h) (take n z)
+  in-bounds-take h z m n b = (within-take limit h m (b .0), within-take most z n (b .1), omega (arith, b .2, squares-take 0 h m, squares-take 32 z n))
 
   -- no number is above its limit
   pub bounds-small : (h z : List ℤ) → boundsOf limit most all h z ≡ true
       → ((i : ℕ) → i < length h → natAbs (getD h i (pos 0)) ≤ limit) × ((i : ℕ) → i < length z → natAbs (getD z i (pos 0)) ≤ most)
-  bounds-small h z e = let b = bounds-both h z e in (within-at limit h (b .0), within-at most z (b .1))
+  bounds-small h z e = let b = bounds-in h z e in (within-at limit h (b .0), within-at most z (b .1))
