@@ -16,7 +16,7 @@ use Rattle.signature.specs.Decision.{standingOf, measured, decided, boun
 use Rattle.signature.specs.declared.bounds.Decision.{Decision}
 use Rattle.signature.specs.declared.bounds.Standing.{Standing}
 use Rattle.signature.proofs.Norms.{InBounds, squares-take, bounds-yes, bounds-no, in-bounds-take}
-use Rattle.signature.proofs.Measured.{stays, Fit, Stopped, measured-yes, measured-no}
+use Rattle.signature.proofs.Measured.{measured-stays, Fit, Stopped, measured-yes, measured-no}
 
 -- the answer is that of the full sums, and the number the least that decides
 pub record Least (limit most all : ℕ) (h z : List ℤ) (d : Decision) : Type 0 where
@@ -98,35 +98,35 @@ module _ (limit most all : ℕ) (h z : List ℤ) where
           yes = λ y. e;
         }
 
-  -- where a measure ends
-  abbrev told : Standing → Type 0
-  told t = Least limit most all h z (record { passed = t .passed; coefficients = t .coefficients })
+  -- what a standing tells is the least
+  abbrev LeastOf : Standing → Type 0
+  LeastOf t = Least limit most all h z (record { passed = t .passed; coefficients = t .coefficients })
 
-  by-passed : (t : Standing) (b : Bool) → t .passed ≡ b → Least limit most all h z (record { passed = b; coefficients = t .coefficients }) → told t
+  by-passed : (t : Standing) (b : Bool) → t .passed ≡ b → Least limit most all h z (record { passed = b; coefficients = t .coefficients }) → LeastOf t
   by-passed t b e k = subst (λ (c : Bool). Least limit most all h z (record { passed = c; coefficients = t .coefficients })) (sym e) k
 
-  least-response : Fit limit (2 ^ 24) 0 all 0 h → (t : Standing) → t ≡ measured most 1 32 all (standingOf true (length h) (2 ^ 24 * squares 0 h)) z → told t
+  least-response : Fit limit (2 ^ 24) 0 all 0 h → (t : Standing) → t ≡ measured most 1 32 all (standingOf true (length h) (2 ^ 24 * squares 0 h)) z → LeastOf t
   least-response f t e = go (t .passed) refl
     where
       low : 2 ^ 24 * squares 0 h ≤ all
       low = omega (arith, f .1)
 
-      go : (b : Bool) → t .passed ≡ b → told t
+      go : (b : Bool) → t .passed ≡ b → LeastOf t
       go true y = let g = measured-yes most 1 32 all z (length h) (2 ^ 24 * squares 0 h) low t e y in
           by-passed t true y (none-decided f (g .2) (t .coefficients) (g .0))
       go false y = by-passed t false y (decided-in-response f t (measured-no most 1 32 all z (length h) (2 ^ 24 * squares 0 h) low t e y))
 
-  least-hint : (t : Standing) → t ≡ measured limit (2 ^ 24) 0 all (standingOf true 0 0) h → told (measured most 1 32 all t z)
+  least-hint : (t : Standing) → t ≡ measured limit (2 ^ 24) 0 all (standingOf true 0 0) h → LeastOf (measured most 1 32 all t z)
   least-hint t e = go (t .passed) refl
     where
-      go : (b : Bool) → t .passed ≡ b → told (measured most 1 32 all t z)
+      go : (b : Bool) → t .passed ≡ b → LeastOf (measured most 1 32 all t z)
       go true y = let g = measured-yes limit (2 ^ 24) 0 all h 0 0 (omega arith) t e y in
           let count : t .coefficients ≡ length h = omega (arith, g .0) in
           let sum : t .sum ≡ 2 ^ 24 * squares 0 h = omega (arith, g .1) in
           let whole : t ≡ standingOf true (length h) (2 ^ 24 * squares 0 h) =
           ap (λ (b : Bool). standingOf b (t .coefficients) (t .sum)) y ∙ ap (λ (n : ℕ). standingOf true n (t .sum)) count ∙ ap (standingOf true (length h)) sum in
           least-response (g .2) (measured most 1 32 all t z) (ap (λ (x : Standing). measured most 1 32 all x z) whole)
-      go false y = subst told (sym (stays most 1 32 all t z y)) (by-passed t false y (decided-in-hint t (measured-no limit (2 ^ 24) 0 all h 0 0 (omega arith) t e y)))
+      go false y = subst LeastOf (sym (measured-stays most 1 32 all t z y)) (by-passed t false y (decided-in-hint t (measured-no limit (2 ^ 24) 0 all h 0 0 (omega arith) t e y)))
 
   pub decided-least : Least limit most all h z (decided limit most all h z)
   unfolding decided

@@ -30,14 +30,14 @@ module _ (limit s v all : ℕ) where
 
   module _ (t : Standing) (c : ℤ) where
     -- what decides: within its limit, and the sum with it not above all
-    abbrev pub passes : Bool
+    abbrev passes : Bool
     passes = both (leb (natAbs c) limit) (leb (t .sum + squareOf s v (natAbs c)) all)
 
     pub count-passed : natAbs c ≤ limit → t .sum + squareOf s v (natAbs c) ≤ all
         → countIn limit s v all t c ≡ standingOf true (t .coefficients + 1) (t .sum + squareOf s v (natAbs c))
     count-passed h k = rw (le-leb _ _ h, le-leb _ _ k)
 
-    pub count-decided : passes ≡ false → countIn limit s v all t c ≡ standingOf false (t .coefficients + 1) (t .sum)
+    count-decided : passes ≡ false → countIn limit s v all t c ≡ standingOf false (t .coefficients + 1) (t .sum)
     count-decided e = rw e
 
     pub count-limit : limit < natAbs c → countIn limit s v all t c ≡ standingOf false (t .coefficients + 1) (t .sum)
@@ -46,8 +46,8 @@ module _ (limit s v all : ℕ) where
     pub count-sum : all < t .sum + squareOf s v (natAbs c) → countIn limit s v all t c ≡ standingOf false (t .coefficients + 1) (t .sum)
     count-sum k = count-decided (right-no (leb (natAbs c) limit) (lt-leb _ _ k))
 
-    pub count-low : t .sum ≤ all → countIn limit s v all t c .sum ≤ all
-    count-low h = go passes refl
+    pub count-sum-low : t .sum ≤ all → countIn limit s v all t c .sum ≤ all
+    count-sum-low h = go passes refl
       where
         go : (b : Bool) → passes ≡ b
             → pick b (standingOf true (t .coefficients + 1) (t .sum + squareOf s v (natAbs c))) (standingOf false (t .coefficients + 1) (t .sum)) .sum ≤ all
@@ -65,33 +65,33 @@ module _ (limit s v all : ℕ) where
   -- ---- through a list
 
   -- a standing that is decided stays
-  pub stays : (t : Standing) (cs : List ℤ) → t .passed ≡ false → measured limit s v all t cs ≡ t
+  pub measured-stays : (t : Standing) (cs : List ℤ) → t .passed ≡ false → measured limit s v all t cs ≡ t
   unfolding measured
-  stays t [] e = refl
-  stays t (c ∷ cs) e = rw e
+  measured-stays t [] e = refl
+  measured-stays t (c ∷ cs) e = rw e
 
   -- one that is not goes on with the next coefficient
-  goes-on : (t : Standing) (c : ℤ) (cs : List ℤ) → t .passed ≡ true → measured limit s v all t (c ∷ cs) ≡ measured limit s v all (countIn limit s v all t c) cs
+  measured-on : (t : Standing) (c : ℤ) (cs : List ℤ) → t .passed ≡ true → measured limit s v all t (c ∷ cs) ≡ measured limit s v all (countIn limit s v all t c) cs
   unfolding measured
-  goes-on t c cs e = rw e
+  measured-on t c cs e = rw e
 
-  pub goes-on-at : (t : Standing) (cs : List ℤ) (i : ℕ) → i < length cs → t .passed ≡ true
+  pub measured-on-at : (t : Standing) (cs : List ℤ) (i : ℕ) → i < length cs → t .passed ≡ true
       → measured limit s v all t (drop i cs) ≡ measured limit s v all (countIn limit s v all t (getD cs i (pos 0))) (drop (i + 1) cs)
-  goes-on-at t cs i h e =
+  measured-on-at t cs i h e =
       let n : suc i ≡ i + 1 = omega arith in
-      ap (measured limit s v all t) (drop-cons cs i (pos 0) h) ∙ goes-on t (getD cs i (pos 0)) (drop (suc i) cs) e
+      ap (measured limit s v all t) (drop-cons cs i (pos 0) h) ∙ measured-on t (getD cs i (pos 0)) (drop (suc i) cs) e
       ∙ ap (λ (j : ℕ). measured limit s v all (countIn limit s v all t (getD cs i (pos 0))) (drop j cs)) n
 
   -- and ends behind the last
-  pub at-end : (t : Standing) (cs : List ℤ) (i : ℕ) → length cs ≤ i → measured limit s v all t (drop i cs) ≡ t
+  pub measured-end : (t : Standing) (cs : List ℤ) (i : ℕ) → length cs ≤ i → measured limit s v all t (drop i cs) ≡ t
   unfolding measured
-  at-end t cs i h = rw (drop-of-length-le cs {i = i} h)
+  measured-end t cs i h = rw (drop-of-length-le cs {i = i} h)
 
   -- the sum is not above all, nor the number above that of all coefficients
   pub measured-low : (t : Standing) (cs : List ℤ) → t .sum ≤ all → measured limit s v all t cs .sum ≤ all
   unfolding measured
   measured-low t [] h = h
-  measured-low t (c ∷ cs) h = go (t .passed) (measured-low (countIn limit s v all t c) cs (count-low t c h))
+  measured-low t (c ∷ cs) h = go (t .passed) (measured-low (countIn limit s v all t c) cs (count-sum-low t c h))
     where
       go : (b : Bool) → measured limit s v all (countIn limit s v all t c) cs .sum ≤ all → pick b (measured limit s v all (countIn limit s v all t c) cs) t .sum ≤ all
       go true k = k
@@ -167,14 +167,14 @@ module _ (limit s v all : ℕ) where
     first-passed : natAbs c ≤ limit → sum + squareOf s v (natAbs c) ≤ all
         → measured limit s v all (standingOf true n sum) (c ∷ cs) ≡ measured limit s v all (standingOf true (n + 1) (sum + squareOf s v (natAbs c))) cs
     first-passed h k =
-        goes-on limit s v all (standingOf true n sum) c cs refl
+        measured-on limit s v all (standingOf true n sum) c cs refl
         ∙ ap (λ (t : Standing). measured limit s v all t cs) (count-passed limit s v all (standingOf true n sum) c h k)
 
     first-decides : passes limit s v all (standingOf true n sum) c ≡ false → measured limit s v all (standingOf true n sum) (c ∷ cs) ≡ standingOf false (n + 1) sum
     first-decides e =
-        goes-on limit s v all (standingOf true n sum) c cs refl
+        measured-on limit s v all (standingOf true n sum) c cs refl
         ∙ ap (λ (t : Standing). measured limit s v all t cs) (count-decided limit s v all (standingOf true n sum) c e)
-        ∙ stays limit s v all (standingOf false (n + 1) sum) cs refl
+        ∙ measured-stays limit s v all (standingOf false (n + 1) sum) cs refl
 
   -- a measure that passes has read all
   pub measured-yes : (cs : List ℤ) (n sum : ℕ) → sum ≤ all → (r : Standing) → r ≡ measured limit s v all (standingOf true n sum) cs → r .passed ≡ true

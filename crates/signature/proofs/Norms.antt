@@ -49,7 +49,7 @@ module _ (limit most all : ℕ) where
   unfolding boundsOf
   bounds-yes h z b = both-yes (b .0) (both-yes (b .1) (le-leb _ _ (b .2)))
 
-  pub bounds-in : (h z : List ℤ) → boundsOf limit most all h z ≡ true → InBounds h z
+  bounds-in : (h z : List ℤ) → boundsOf limit most all h z ≡ true → InBounds h z
   unfolding boundsOf
   bounds-in h z e =
       let a = both-true (within limit h) _ e in

@@ -13,8 +13,8 @@ use Rattle.signature.proofs.bounds.check_bounds.Statement.{statement}
 use Rattle.signature.proofs.bounds.check_bounds.Tie as tie
 
 -- the limit of the hint, cut at what no sum can hold, is as good as that which was given
-cut : (c : tie.Joined1) → c .if1 .limit ≤ 1048575
-cut c = ⊎-elim (λ w. omega arith) (λ w. omega arith) (c .if1 .came)
+limit-low : (c : tie.Joined1) → c .if1 .limit ≤ 1048575
+limit-low c = ⊎-elim (λ w. omega arith) (λ w. omega arith) (c .if1 .came)
 
 as-given : (c : tie.Joined1) → let a = c .before .args in
     measured (c .if1 .limit) (2 ^ 24) 0 (a .b22) (standingOf true 0 0) (a .hint .now) ≡ measured (a .hint-limit) (2 ^ 24) 0 (a .b22) (standingOf true 0 0) (a .hint .now)
@@ -35,7 +35,7 @@ hint-is c = let a = c .before .before .before .args in
 measure-requires : tie.Need-measure-requires
 measure-requires c κs =
     let a = c .before .before in
-    let l : c .before .if1 .limit / 1 ≤ 1048575 = omega (arith, cut (c .before)) in
+    let l : c .before .if1 .limit / 1 ≤ 1048575 = omega (arith, limit-low (c .before)) in
     let n : c .standing-of .result .coefficients ≡ 0 = ap (λ (t : Standing). t .coefficients) (c .standing-of .ensures) in
     let m : c .standing-of .result .sum ≡ 0 = ap (λ (t : Standing). t .sum) (c .standing-of .ensures) in
     ((omega arith, omega (arith, l), omega (arith, mul-le-mul l l)), (omega (arith, m), omega (arith, n, a .good .0 .0)))

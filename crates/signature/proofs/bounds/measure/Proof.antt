@@ -8,7 +8,7 @@ use mir.ValLaws.{toZ-ofZ}
 use borrow.Author.Needs.{sfits-of}
 use borrow.Author.Tests.{not-true, not-false}
 use Rattle.signature.specs.Decision.{countIn, measured}
-use Rattle.signature.proofs.Measured.{count-low, count-one, stays, goes-on-at, at-end}
+use Rattle.signature.proofs.Measured.{count-sum-low, count-one, measured-stays, measured-on-at, measured-end}
 use borrow.Author.Needs.{needs}
 use Rattle.signature.proofs.bounds.measure.Statement.{statement}
 use Rattle.signature.proofs.bounds.measure.Tie as tie
@@ -34,7 +34,7 @@ returns : tie.Need-returns Inv-loop μ-loop
 returns c =
     let l = c .before .before .before .loop in
     let a = c .before .before .before .before .args in
-    sym (l .inv .3 ∙ stays (a .limit) (a .s) (a .v) (a .all) (l .r) (drop (l .i) (a .cs .now)) (not-true _ (c .if1 .taken)))
+    sym (l .inv .3 ∙ measured-stays (a .limit) (a .s) (a .v) (a .all) (l .r) (drop (l .i) (a .cs .now)) (not-true _ (c .if1 .taken)))
 
 loop-again : tie.Need-loop-again Inv-loop μ-loop
 loop-again c =
@@ -44,16 +44,16 @@ loop-again c =
     let z = getD (a .cs .now) (l .i) (pos 0) in
     let k = count-one (a .limit) (a .s) (a .v) (a .all) (l .r) z in (
       omega arith,
-      rw e (count-low (a .limit) (a .s) (a .v) (a .all) (l .r) z (l .inv .1)),
+      rw e (count-sum-low (a .limit) (a .s) (a .v) (a .all) (l .r) z (l .inv .1)),
       rw e (omega (arith, k, l .inv .2)),
-      rw e (l .inv .3 ∙ goes-on-at (a .limit) (a .s) (a .v) (a .all) (l .r) (a .cs .now) (l .i) (c .before .before .before .before .loop-test .taken) (not-false _ (c .before .before .if1 .left))),
+      rw e (l .inv .3 ∙ measured-on-at (a .limit) (a .s) (a .v) (a .all) (l .r) (a .cs .now) (l .i) (c .before .before .before .before .loop-test .taken) (not-false _ (c .before .before .if1 .left))),
     )
 
 returns-2 : tie.Need-returns-2 Inv-loop μ-loop
 returns-2 c =
     let l = c .before .loop in
     let a = c .before .before .args in
-    sym (l .inv .3 ∙ at-end (a .limit) (a .s) (a .v) (a .all) (l .r) (a .cs .now) (l .i) (omega arith))
+    sym (l .inv .3 ∙ measured-end (a .limit) (a .s) (a .v) (a .all) (l .r) (a .cs .now) (l .i) (omega arith))
 
 pub measure-spec : {M : Type 1} → statement M
 measure-spec =
