@@ -4,6 +4,7 @@ use mathlib.Core.Bool.{Bool, true, false}
 use Prim.Native.Nat.{ℕ, suc, _+_, _*_, _-_, _%_, _/_, _^_, _<_, _≤_}
 use native.Mathlib.Nat.{le-refl, mul-le-mul}
 use native.Mathlib.Omega.{arith}
+use Rattle.ring.specs.Words.{q}
 use Rattle.ring.specs.Residue.{prime}
 use Rattle.ring.specs.Loose.{Loose}
 use Rattle.ring.proofs.Cong.{Eqv, ≈by}
@@ -25,6 +26,10 @@ product-low p a b ha hb = omega (arith, mul-le-mul ha hb)
 
 pub wide-low : (p w y : ℕ) → w < p → y < 32 * p → w * y < 32 * (p * p)
 wide-low p w y hw hy = omega (arith, mul-le-mul hw hy)
+
+pub word-low : (s : Bool) (t : ℕ) → t < q → t < 32 * (prime s * prime s)
+word-low false t h = omega arith
+word-low true t h = omega arith
 
 pub wide-fits : (s : Bool) (t : ℕ) → t < 32 * (prime s * prime s) → t < 2 ^ 64
 wide-fits false t h = omega arith

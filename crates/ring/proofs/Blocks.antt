@@ -14,7 +14,7 @@ use Rattle.ring.specs.Words.{Below, Residues}
 use Rattle.ring.specs.Poly.{mapN, map2}
 use Rattle.ring.specs.Residue.{prime, zeta, over512, up, down, join, part, halves, fwd, bwd, scale, mods, backOne}
 use Rattle.ring.specs.Loose.{LooseList, CooleyTukey, GentlemanSande, Stepped, forthRange, Block}
-use Rattle.ring.proofs.Sums.{below-at, below-take, below-drop, below-append}
+use Rattle.ring.proofs.Sums.{below-at, below-wider, below-take, below-drop, below-append}
 use Rattle.ring.proofs.Places.{length-map2, length-mods, residues-mods, mods-append, mods-mods, mods-take, mods-drop}
 use Rattle.ring.proofs.Inverse.{pow-two}
 use Rattle.ring.proofs.Tables.{prime-pos}
@@ -314,7 +314,21 @@ module _ (p : ℕ) (z : ℕ → ℕ) (k : ℕ) (A : List ℕ) (e : length A ≡ 
               ∙ ap (bwd p z 2 k) (sym rests-four);
         }
 
--- ---- the whole, from the rests of a list of 512
+-- ---- the whole, from rests of a list of 512 below two primes
+
+module _ (s : Bool) (A X : List ℕ) (h : LooseList (prime s) 2 (mods (prime s) A) X) where
+  pub top-block : length X ≡ 512 → Block (forthRange 9 * prime s) 9 1 X
+  top-block e = record { long = e; inside = lit≤ tt; low = h .low }
+
+  pub top-fwd : (Y : List ℕ) → LooseList (prime s) (forthRange 0) (fwd (prime s) (zeta s) 9 1 (mods (prime s) X)) Y
+      → LooseList (prime s) 32 (fwd (prime s) (zeta s) 9 1 (mods (prime s) A)) Y
+  top-fwd Y g =
+      record {
+        low = wider (prime s) (forthRange 0) 32 (lit≤ tt) Y (g .low);
+        same = g .same ∙ ap (fwd (prime s) (zeta s) 9 1) (h .same);
+      }
+
+-- .. and from the least ones
 
 module _ (s : Bool) (A X : List ℕ) (e : length A ≡ 512) (eX : X ≡ mods (prime s) A) where
   are-residues : Residues (prime s) 512 X
@@ -326,16 +340,9 @@ module _ (s : Bool) (A X : List ℕ) (e : length A ≡ 512) (eX : X ≡ mods (pr
   pub low-block : Block (prime s) 9 1 X
   low-block = record { long = are-residues .long; inside = lit≤ tt; low = are-residues .low }
 
-  pub top-block : Block (forthRange 9 * prime s) 9 1 X
-  top-block = subst (λ (m : ℕ). Block m 9 1 X) (omega arith) low-block
-
-  pub top-fwd : (Y : List ℕ) → LooseList (prime s) (forthRange 0) (fwd (prime s) (zeta s) 9 1 (mods (prime s) X)) Y
-      → LooseList (prime s) 32 (fwd (prime s) (zeta s) 9 1 (mods (prime s) A)) Y
-  top-fwd Y h =
-      record {
-        low = wider (prime s) (forthRange 0) 32 (lit≤ tt) Y (h .low);
-        same = h .same ∙ ap (fwd (prime s) (zeta s) 9 1) again;
-      }
+  -- the least residues, as the transform takes them
+  pub least-loose : LooseList (prime s) 2 (mods (prime s) A) X
+  least-loose = record { low = below-wider (prime s) (2 * prime s) (omega arith) X (are-residues .low); same = again }
 
   pub top-bwd : (Y : List ℕ) (n : ℕ) → LooseList (prime s) n (bwd (prime s) (zeta s) 9 1 (mods (prime s) X)) Y
       → (v : ℕ) → v ≡ over512 s → (W : List ℕ) → LooseList (prime s) 2 (scale (prime s) v (mods (prime s) Y)) W

@@ -32,9 +32,9 @@ module _ (p d : ℕ) (o : 0 < d) (l : d ≤ 9) (xs : List ℕ) (h : Below (forth
 
   pub forth-more : (F : List ℕ → List ℕ) (ys : List ℕ) → Stepped p F (λ (m : ℕ). m + 2 * p) xs ys → Below (forthRange (d - 1) * p) ys
   forth-more F ys s =
-      let n : 19 - 2 * d + 2 ≡ 19 - 2 * (d - 1) = omega arith in
-      let t : (19 - 2 * d) * p + 2 * p ≡ (19 - 2 * d + 2) * p = omega arith in
-      subst (λ (m : ℕ). Below m ys) (t ∙ ap (λ (x : ℕ). x * p) n) (s .low ((19 - 2 * d) * p) (at-least p (19 - 2 * d) (omega arith)) h)
+      let n : 20 - 2 * d + 2 ≡ 20 - 2 * (d - 1) = omega arith in
+      let t : (20 - 2 * d) * p + 2 * p ≡ (20 - 2 * d + 2) * p = omega arith in
+      subst (λ (m : ℕ). Below m ys) (t ∙ ap (λ (x : ℕ). x * p) n) (s .low ((20 - 2 * d) * p) (at-least p (20 - 2 * d) (omega arith)) h)
 
 -- ---- back: twice as many, and two where the fifth level is reduced
 

@@ -36,9 +36,9 @@ pub record Stepped (p : ℕ) (F : List ℕ → List ℕ) (g : ℕ → ℕ) (a b 
   pub same : mods p b ≡ F (mods p a)
   pub low : (m : ℕ) → p ≤ m → Below m a → Below (g m) b
 
--- how many primes entries stay below: forth, where a block of 2^d begins; each level adds two, from 1 to 19
+-- how many primes entries stay below: forth, where a block of 2^d begins; each level adds two, from 2 to 20
 abbrev pub forthRange : ℕ → ℕ
-forthRange d = 19 - 2 * d
+forthRange d = 20 - 2 * d
 
 -- .. and back, where a block of 2^d ends; each level doubles, and the fifth ends reduced: 1, 2, 4, 8, 16, 2, 4, 8, 16, 32
 unfoldable pub backRange : ℕ → ℕ

@@ -1,5 +1,5 @@
 // Inside the layer: polynomials modulo one prime of q (000, 2.7.2), in place. One code for both primes; `second` says which.
-// From `reduce_all` to `combined` residues are loose (02, #109).
+// From `reduce_all` and `reduce_words` to `combined` residues are loose (02, #109).
 ghost use mathlib.Core.Bool.{true, false};
 ghost use mathlib.Core.Path.{_≡_};
 ghost use Prim.Native.Nat.{ℕ, _+_, _*_, _-_, _%_, _^_, _<_, _≤_};
@@ -270,6 +270,18 @@ fn reduce_all(second: bool, a: &mut [u64])
     }
 }
 
+// Words below q, modulo the prime, left below two primes: q is below 32 squares of either.
+fn reduce_words(second: bool, a: &mut [u64])
+    requires { ⌜ Below q (now a) ⌝ }
+    ensures { λ _. ⌜ LooseList (prime second) 2 (mods (prime second) (now (a .entry))) (now (a .exit)) ⌝ }
+{
+    let mut i = 0;
+    while i < a.len() {
+        a[i] = barrett(second, a[i]);
+        i += 1;
+    }
+}
+
 // The coefficients a, transformed.
 pub fn forward(second: bool, a: &mut [u64])
     requires { ⌜ length (now a) ≡ 512 ⌝ }
@@ -277,6 +289,17 @@ pub fn forward(second: bool, a: &mut [u64])
         (now (a .exit)) ⌝ }
 {
     reduce_all(second, a);
+    let z = powers(second);
+    transform(second, &z, a, 1, 9);
+}
+
+// The same of words below q.
+pub fn forward_words(second: bool, a: &mut [u64])
+    requires { ⌜ Residues q 512 (now a) ⌝ }
+    ensures { λ _. ⌜ LooseList (prime second) 32 (fwd (prime second) (zeta second) 9 1 (mods (prime second) (now (a .entry))))
+        (now (a .exit)) ⌝ }
+{
+    reduce_words(second, a);
     let z = powers(second);
     transform(second, &z, a, 1, 9);
 }
