@@ -23,6 +23,9 @@ const HALF_T: u64 = 2199023255552;
 
 const HALF_W: u64 = 8796093022208;
 
+// 2^63 - q: with it, a word from q on reaches bit 63.
+const UP_TO_63: u64 = 9222822212271603711;
+
 // The transform.
 pub fn ntt(f: [u64; 512]) -> [u64; 512]
     ensures { λ r. ⌜ (r ≡ ntt f) × Words 512 r ⌝ }
@@ -47,19 +50,26 @@ pub fn intt(x: [u64; 512]) -> [u64; 512]
     a
 }
 
+// The least residue of what is below 2 q. Bit 63 of s + (2^63 - q) says whether q goes off: words are not compared, so two are taken at a time.
+fn narrow_word(s: u64) -> u64
+    requires { ⌜ s < 2 * q ⌝ }
+    ensures { λ r. ⌜ r ≡ s % q ⌝ }
+{
+    s - ((s + UP_TO_63) >> 63) * Q
+}
+
 fn add_word(x: u64, y: u64) -> u64
     requires { ⌜ (x < q) × (y < q) ⌝ }
     ensures { λ r. ⌜ r ≡ addq x y ⌝ }
 {
-    let s = x + y;
-    if s < Q { s } else { s - Q }
+    narrow_word(x + y)
 }
 
 fn sub_word(x: u64, y: u64) -> u64
     requires { ⌜ (x < q) × (y < q) ⌝ }
     ensures { λ r. ⌜ r ≡ subq x y ⌝ }
 {
-    if x < y { x + (Q - y) } else { x - y }
+    narrow_word(x + (Q - y))
 }
 
 // By the rests modulo the two primes: the product itself fits no word.

@@ -5,11 +5,7 @@ use Rattle.ring.proofs.poly.add_word.Tie as tie
 
 returns : tie.Need-returns
 unfolding addq
-returns c = search needs
-
-returns-2 : tie.Need-returns-2
-unfolding addq
-returns-2 c = search needs
+returns c = c .narrow-word .ensures
 
 pub add-word-spec : {M : Type 1} → statement M
-add-word-spec = tie.close (tie.spec (λ c. search needs) returns returns-2)
+add-word-spec = tie.close (tie.spec (λ c. search needs) (λ c κs. search needs) returns)

@@ -5,11 +5,7 @@ use Rattle.ring.proofs.poly.sub_word.Tie as tie
 
 returns : tie.Need-returns
 unfolding subq
-returns c = search needs
-
-returns-2 : tie.Need-returns-2
-unfolding subq
-returns-2 c = search needs
+returns c = c .narrow-word .ensures
 
 pub sub-word-spec : {M : Type 1} → statement M
-sub-word-spec = tie.close (tie.spec (λ c. search needs) (λ c. search needs) returns returns-2)
+sub-word-spec = tie.close (tie.spec (λ c. search needs) (λ c. search needs) (λ c κs. search needs) returns)
