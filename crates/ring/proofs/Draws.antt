@@ -1,9 +1,9 @@
 -- The laws of SampleQ (000, Algorithm 5): draws kept of a stream in stretches, one after another, and over refills of a buffer; the polynomial
 -- that they make, and the answers of both samplers.
 use mathlib.Core.Path.{_≡_, refl, sym, ap, _∙_}
-use mathlib.Core.Bool.{true, false}
+use mathlib.Core.Bool.{Bool, true, false}
 use mathlib.Core.List.{List, [], _∷_, _++_, append-nil, append-assoc}
-use mathlib.Core.Option.{some, none}
+use mathlib.Core.Option.{Option, some, none}
 use Prim.Native.Nat.{ℕ, zero, suc, min, _+_, _-_, _*_, _/_, _≤_, _<_}
 use native.Mathlib.Nat.{add-zero, add-suc}
 use native.Mathlib.Numerals.{add-one}
@@ -214,17 +214,26 @@ sampleQ-words hdr seed f e = uniform-words (shake256 (hdr ++ seed) 5439) f e
 -- ---- Algorithm 5 over its stream
 
 module _ (hdr seed a : List ℕ) (S : State) (n r : ℕ) (e : S ≡ absorbed (hdr ++ seed)) (v : Gathered (table (stream S) 5439) n [] 0 a r) where
-  pub held-some : n ≤ 777 → r ≡ 512 → (_≡_ {A = Sampled} (record { ok = true; poly = a }) (heldOf (sampleQ hdr seed))) × Words 512 a
+  pub held-some : n ≤ 777 → r ≡ 512 → (true ≡ heldOf (sampleQ hdr seed) .ok) × (a ≡ heldOf (sampleQ hdr seed) .poly) × Words 512 a
   unfolding sampleQ heldOf
   held-some h g =
       let d : n ≤ draws (length (table (stream S) 5439)) = rw length-table h in
       let f : sampleQ hdr seed ≡ some a = rw (← e) (fills (table (stream S) 5439) [] a n r v d g) in
-      (ap heldOf (sym f), sampleQ-words hdr seed a f)
+      (ap (λ (o : Option (List ℕ)). heldOf o .ok) (sym f), ap (λ (o : Option (List ℕ)). heldOf o .poly) (sym f), sampleQ-words hdr seed a f)
 
-  pub held-none : n ≡ 777 → (r ≡ 512 → ⊥)
-      → (_≡_ {A = Sampled} (record { ok = false; poly = replicate 512 0 }) (heldOf (sampleQ hdr seed))) × Words 512 (replicate 512 0)
+  pub held-none : (z : List ℕ) → z ≡ replicate 512 0 → n ≡ 777 → (r ≡ 512 → ⊥)
+      → (false ≡ heldOf (sampleQ hdr seed) .ok) × (z ≡ heldOf (sampleQ hdr seed) .poly) × Words 512 z
   unfolding sampleQ heldOf
-  held-none h g =
+  held-none z w h g =
       let d : n ≡ draws (length (table (stream S) 5439)) = rw length-table h in
-      let f : sampleQ hdr seed ≡ none = rw (← e) (unfilled (table (stream S) 5439) [] a n r v d g) in
-      (ap heldOf (sym f), words-zeros 512)
+      let f : sampleQ hdr seed ≡ none = rw (← e) (unfilled (table (stream S) 5439) [] a n r v d g) in (
+        ap (λ (o : Option (List ℕ)). heldOf o .ok) (sym f),
+        w ∙ ap (λ (o : Option (List ℕ)). heldOf o .poly) (sym f),
+        rw w (words-zeros 512),
+      )
+
+-- an answer told by its two fields
+pub held-both : (h : Sampled) (b : Bool) (f : List ℕ) → b ≡ h .ok → f ≡ h .poly → _≡_ {A = Sampled} (record { ok = b; poly = f }) h
+held-both h b f e g =
+    let o : Bool → List ℕ → Sampled = λ x l. record { ok = x; poly = l } in
+    ap (λ (x : Bool). o x f) e ∙ ap (o (h .ok)) g

@@ -53,26 +53,36 @@ pub fn sample_uniform(bytes: &[u8], out: &mut [u64]) -> u32
     0
 }
 
-// SampleQ (000, Algorithm 5). A refill is seven blocks, 136 draws, so that no draw crosses two of them; 777 draws are five and 97 more.
-pub fn sample_q(header: &[u8; 8], seed: &[u8]) -> Sampled
-    ensures { λ r. ⌜ r ≡ heldOf (sampleQ (now (header .entry)) (now (seed .entry))) ⌝ }
-    ensures { λ r. ⌜ Words 512 (r .poly) ⌝ }
+// SampleQ (000, Algorithm 5) into out: whether the draws filled it; where they did not, it is zero. A refill is seven blocks, 136 draws, so that
+// no draw crosses two of them; 777 draws are five and 97 more.
+pub fn sample_q_into(header: &[u8; 8], seed: &[u8], out: &mut [u64]) -> bool
+    requires { ⌜ length (now out) ≡ 512 ⌝ }
+    ensures { λ r. ⌜ (r ≡ heldOf (sampleQ (now (header .entry)) (now (seed .entry))) .ok)
+        × (now (out .exit) ≡ heldOf (sampleQ (now (header .entry)) (now (seed .entry))) .poly) × Words 512 (now (out .exit)) ⌝ }
 {
     let mut s = hash::shake::begin(header, seed);
     let mut bytes = [0u8; 952];
-    let mut a = [0u64; 512];
     let mut k: usize = 0;
     for i in 0..6usize {
         let last = hash::shake::squeeze(s, &mut bytes);
-        k = gather(&bytes, least(136, 777 - 136 * i), &mut a, k);
+        k = gather(&bytes, least(136, 777 - 136 * i), out, k);
         if k == 512 {
-            return Sampled { ok: true, poly: a };
+            return true;
         }
         let next = hash::keccak::permute(last);
         s = next;
     }
-    Sampled {
-        ok: false,
-        poly: [0u64; 512],
-    }
+    let none = [0u64; 512];
+    copy_into(out, &none);
+    false
+}
+
+// .. and by value.
+pub fn sample_q(header: &[u8; 8], seed: &[u8]) -> Sampled
+    ensures { λ r. ⌜ r ≡ heldOf (sampleQ (now (header .entry)) (now (seed .entry))) ⌝ }
+    ensures { λ r. ⌜ Words 512 (r .poly) ⌝ }
+{
+    let mut a = [0u64; 512];
+    let ok = sample_q_into(header, seed, &mut a);
+    Sampled { ok: ok, poly: a }
 }
