@@ -1,4 +1,4 @@
--- A block of the transform, in place: both halves one after the other, by a function that calls itself; and the last block, of four.
+-- A block of the transform, in place: both halves one after the other, by a function that calls itself or on eight entries; and the last block, of four.
 use mathlib.Core.Path.{_≡_, refl, ap, sym, _∙_, subst}
 use mathlib.Core.Bool.{Bool}
 use mathlib.Core.List.{List, [], _∷_, _++_, append-nil}
@@ -48,173 +48,184 @@ module _ (h : ℕ) (S X : List ℕ) (es : length S ≡ 2 * h) (ex : length X ≡
       ap (λ (t : List ℕ). drop (length (X ++ drop h S) - h) t) past-first ∙ drop-of-length-le (drop h S) enough in
       cc (take-at X (drop h S) h ex, none, append-nil Y)
 
--- ---- a block above the last
+-- ---- a block above the last, of which h entries are a half
 
-module _ (m d k : ℕ) (A : List ℕ) (l : 2 < d) (b : Block m d k A) where
-  below : d ≡ suc (d - 1)
-  below = omega arith
+pub record InHalves (m d k h : ℕ) (A : List ℕ) : Type 0 where
+  pub block : Block m d k A
+  pub above : 0 < d
+  pub half : h ≡ 2 ^ (d - 1)
 
-  twice : 2 ^ d ≡ 2 * 2 ^ (d - 1)
-  twice = ap (λ (x : ℕ). 2 ^ x) below ∙ pow-two (d - 1)
+below : (d : ℕ) → 0 < d → d ≡ suc (d - 1)
+below d o = omega arith
 
+pow-down : (d : ℕ) → 0 < d → 2 ^ d ≡ 2 * 2 ^ (d - 1)
+pow-down d o = ap (λ (x : ℕ). 2 ^ x) (below d o) ∙ pow-two (d - 1)
+
+-- half of its length, and four of eight
+pub in-halves : (n : ℕ) {m d k : ℕ} {A : List ℕ} → n < d → Block m d k A → InHalves m d k (length A / 2) A
+in-halves n {m} {d} {k} {A} l b =
+    let o : 0 < d = omega arith in
+    record { block = b; above = o; half = omega (arith, b .long, pow-down d o) }
+
+pub eight-in-halves : {m k : ℕ} {A : List ℕ} → Block m 3 k A → InHalves m 3 k 4 A
+eight-in-halves b = record { block = b; above = omega arith; half = refl }
+
+module _ {m d k h : ℕ} {A : List ℕ} (v : InHalves m d k h A) where
   inside : suc k * (2 * 2 ^ (d - 1)) ≤ 1024
-  inside = subst (λ (x : ℕ). suc k * x ≤ 1024) twice (b .inside)
+  inside = subst (λ (x : ℕ). suc k * x ≤ 1024) (pow-down d (v .above)) (v .block .inside)
 
-  half-is : length A / 2 ≡ 2 ^ (d - 1)
-  half-is = omega (arith, b .long, twice)
-
-  pub long-half : length A ≡ 2 * (length A / 2)
-  long-half = omega (arith, b .long, twice)
+  pub long-half : length A ≡ 2 * h
+  long-half = omega (arith, v .block .long, pow-down d (v .above), v .half)
 
   pub node-lt : k < 512
   node-lt = omega (arith, inside, mul-le-mul-left (suc k) (pow-pos (d - 1)))
 
-  lo : length (take (length A / 2) A) ≡ length A / 2
-  lo = length-take-le (length A / 2) A (omega arith)
+  lo : length (take h A) ≡ h
+  lo = length-take-le h A (omega (arith, long-half))
 
-  hi : length (drop (length A / 2) A) ≡ length A / 2
-  hi = length-drop (length A / 2) A ∙ omega (arith, long-half)
+  hi : length (drop h A) ≡ h
+  hi = length-drop h A ∙ omega (arith, long-half)
 
   -- the transform: the halves made anew, S, of which the first becomes X
   module _ (S : List ℕ) (ks : length S ≡ length A) where
-    long-s : length S ≡ 2 * (length A / 2)
+    long-s : length S ≡ 2 * h
     long-s = ks ∙ long-half
 
-    ls : length (take (length A / 2) S) ≡ length A / 2
-    ls = length-take-le (length A / 2) S (omega (arith, long-s))
+    ls : length (take h S) ≡ h
+    ls = length-take-le h S (omega (arith, long-s))
 
-    lt : length (drop (length A / 2) S) ≡ length A / 2
-    lt = length-drop (length A / 2) S ∙ omega (arith, long-s)
+    lt : length (drop h S) ≡ h
+    lt = length-drop h S ∙ omega (arith, long-s)
 
-    pub first-block : (n : ℕ) → Below n S → Block n (d - 1) (2 * k) (take (length A / 2) S)
+    pub first-block : (n : ℕ) → Below n S → Block n (d - 1) (2 * k) (take h S)
     first-block n low =
-        record { long = ls ∙ half-is; inside = omega (arith, inside); low = below-take n (length A / 2) S low }
+        record { long = ls ∙ v .half; inside = omega (arith, inside); low = below-take n h S low }
 
-    last-block : (n : ℕ) → Below n S → Block n (d - 1) (2 * k + 1) (drop (length A / 2) S)
+    last-block : (n : ℕ) → Below n S → Block n (d - 1) (2 * k + 1) (drop h S)
     last-block n low =
-        record { long = lt ∙ half-is; inside = omega (arith, inside); low = below-drop n (length A / 2) S low }
+        record { long = lt ∙ v .half; inside = omega (arith, inside); low = below-drop n h S low }
 
-    module _ (X : List ℕ) (kept : length X ≡ length (take (length A / 2) S)) where
-      lx : length X ≡ length A / 2
+    module _ (X : List ℕ) (kept : length X ≡ length (take h S)) where
+      lx : length X ≡ h
       lx = kept ∙ ls
 
-      pub after-first : length (X ++ drop (length A / 2) S) ≡ 2 * (length A / 2)
-      after-first = both-long (length A / 2) S X long-s lx
+      pub after-first : length (X ++ drop h S) ≡ 2 * h
+      after-first = both-long h S X long-s lx
 
-      pub second-block : (n : ℕ) → Below n S → Block n (d - 1) (2 * k + 1) (second (length A / 2) (X ++ drop (length A / 2) S))
+      pub second-block : (n : ℕ) → Below n S → Block n (d - 1) (2 * k + 1) (second h (X ++ drop h S))
       second-block n low =
-          subst (Block n (d - 1) (2 * k + 1)) (sym (second-is (length A / 2) S X long-s lx)) (last-block n low)
+          subst (Block n (d - 1) (2 * k + 1)) (sym (second-is h S X long-s lx)) (last-block n low)
 
       module _ (Y : List ℕ) where
-        pub both-kept : length Y ≡ length (second (length A / 2) (X ++ drop (length A / 2) S))
-            → length (laid (length A / 2) (X ++ drop (length A / 2) S) Y) ≡ length A
+        pub both-kept : length Y ≡ length (second h (X ++ drop h S))
+            → length (laid h (X ++ drop h S) Y) ≡ length A
         both-kept e =
-            same-len-mid (length A / 2) (length (X ++ drop (length A / 2) S) - length A / 2) (X ++ drop (length A / 2) S) Y e
+            same-len-mid h (length (X ++ drop h S) - h) (X ++ drop h S) Y e
             ∙ after-first ∙ sym long-half
 
         -- told by rests: both halves are loose, and so is the whole
-        module _ (p w : ℕ) (g : ℕ → ℕ) (s : Stepped p (halves (up p w) (down p w) (length A / 2)) g A S) where
+        module _ (p w : ℕ) (g : ℕ → ℕ) (s : Stepped p (halves (up p w) (down p w) h) g A S) where
           abbrev ups : List ℕ
-          ups = map2 (up p w) (take (length A / 2) (mods p A)) (drop (length A / 2) (mods p A))
+          ups = map2 (up p w) (take h (mods p A)) (drop h (mods p A))
 
           abbrev downs : List ℕ
-          downs = map2 (down p w) (take (length A / 2) (mods p A)) (drop (length A / 2) (mods p A))
+          downs = map2 (down p w) (take h (mods p A)) (drop h (mods p A))
 
-          lo-rests : length (take (length A / 2) (mods p A)) ≡ length A / 2
-          lo-rests = length-take-le (length A / 2) (mods p A) (omega (arith, length-mods p A))
+          lo-rests : length (take h (mods p A)) ≡ h
+          lo-rests = length-take-le h (mods p A) (omega (arith, long-half, length-mods p A))
 
-          hi-rests : length (drop (length A / 2) (mods p A)) ≡ length A / 2
-          hi-rests = length-drop (length A / 2) (mods p A) ∙ omega (arith, long-half, length-mods p A)
+          hi-rests : length (drop h (mods p A)) ≡ h
+          hi-rests = length-drop h (mods p A) ∙ omega (arith, long-half, length-mods p A)
 
-          l1 : length ups ≡ length A / 2
+          l1 : length ups ≡ h
           l1 =
-              length-map2 (up p w) (take (length A / 2) (mods p A)) (drop (length A / 2) (mods p A)) (lo-rests ∙ sym hi-rests)
+              length-map2 (up p w) (take h (mods p A)) (drop h (mods p A)) (lo-rests ∙ sym hi-rests)
               ∙ lo-rests
 
-          first-is : mods p (take (length A / 2) S) ≡ ups
+          first-is : mods p (take h S) ≡ ups
           first-is =
-              mods-take p (length A / 2) S ∙ ap (λ (t : List ℕ). take (length A / 2) t) (s .same)
-              ∙ take-at ups downs (length A / 2) l1
+              mods-take p h S ∙ ap (λ (t : List ℕ). take h t) (s .same)
+              ∙ take-at ups downs h l1
 
-          last-is : mods p (drop (length A / 2) S) ≡ downs
+          last-is : mods p (drop h S) ≡ downs
           last-is =
-              mods-drop p (length A / 2) S ∙ ap (λ (t : List ℕ). drop (length A / 2) t) (s .same)
-              ∙ drop-at ups downs (length A / 2) l1
+              mods-drop p h S ∙ ap (λ (t : List ℕ). drop h t) (s .same)
+              ∙ drop-at ups downs h l1
 
           pub whole-fwd : (n : ℕ) (z : ℕ → ℕ) → w ≡ z k
-              → LooseList p n (fwd p z (d - 1) (2 * k) (mods p (take (length A / 2) S))) X
-              → LooseList p n (fwd p z (d - 1) (2 * k + 1) (mods p (second (length A / 2) (X ++ drop (length A / 2) S)))) Y
-              → LooseList p n (fwd p z d k (mods p A)) (laid (length A / 2) (X ++ drop (length A / 2) S) Y)
+              → LooseList p n (fwd p z (d - 1) (2 * k) (mods p (take h S))) X
+              → LooseList p n (fwd p z (d - 1) (2 * k + 1) (mods p (second h (X ++ drop h S)))) Y
+              → LooseList p n (fwd p z d k (mods p A)) (laid h (X ++ drop h S) Y)
           unfolding fwd
           whole-fwd n z ew hx hy =
-              let is = laid-is (length A / 2) S X long-s lx Y in
+              let is = laid-is h S X long-s lx Y in
               record {
                 low = subst (Below (n * p)) (sym is) (below-append (n * p) X Y (hx .low) (hy .low));
                 same =
                     ap (mods p) is ∙ mods-append p X Y
-                    ∙ cc (below, ew, hx .same, hy .same, half-is, first-is, last-is, second-is (length A / 2) S X long-s lx);
+                    ∙ cc (below d (v .above), ew, hx .same, hy .same, v .half, first-is, last-is, second-is h S X long-s lx);
               }
 
   -- the inverse: the halves first, X and Y
-  pub first-part : Block m (d - 1) (2 * k + 1) (take (length A / 2) A)
+  pub first-part : Block m (d - 1) (2 * k + 1) (take h A)
   first-part =
-      record { long = lo ∙ half-is; inside = omega (arith, inside); low = below-take m (length A / 2) A (b .low) }
+      record { long = lo ∙ v .half; inside = omega (arith, inside); low = below-take m h A (v .block .low) }
 
-  last-part : Block m (d - 1) (2 * k) (drop (length A / 2) A)
+  last-part : Block m (d - 1) (2 * k) (drop h A)
   last-part =
-      record { long = hi ∙ half-is; inside = omega (arith, inside); low = below-drop m (length A / 2) A (b .low) }
+      record { long = hi ∙ v .half; inside = omega (arith, inside); low = below-drop m h A (v .block .low) }
 
-  module _ (X : List ℕ) (kept : length X ≡ length (take (length A / 2) A)) where
-    lp : length X ≡ length A / 2
+  module _ (X : List ℕ) (kept : length X ≡ length (take h A)) where
+    lp : length X ≡ h
     lp = kept ∙ lo
 
-    pub after-part : length (X ++ drop (length A / 2) A) ≡ 2 * (length A / 2)
-    after-part = both-long (length A / 2) A X long-half lp
+    pub after-part : length (X ++ drop h A) ≡ 2 * h
+    after-part = both-long h A X long-half lp
 
-    pub second-part : Block m (d - 1) (2 * k) (second (length A / 2) (X ++ drop (length A / 2) A))
-    second-part = subst (Block m (d - 1) (2 * k)) (sym (second-is (length A / 2) A X long-half lp)) last-part
+    pub second-part : Block m (d - 1) (2 * k) (second h (X ++ drop h A))
+    second-part = subst (Block m (d - 1) (2 * k)) (sym (second-is h A X long-half lp)) last-part
 
-    module _ (Y : List ℕ) (kepty : length Y ≡ length (second (length A / 2) (X ++ drop (length A / 2) A))) where
-      pub laid-long : length (laid (length A / 2) (X ++ drop (length A / 2) A) Y) ≡ 2 * (length A / 2)
+    module _ (Y : List ℕ) (kepty : length Y ≡ length (second h (X ++ drop h A))) where
+      pub laid-long : length (laid h (X ++ drop h A) Y) ≡ 2 * h
       laid-long =
-          same-len-mid (length A / 2) (length (X ++ drop (length A / 2) A) - length A / 2) (X ++ drop (length A / 2) A) Y kepty
+          same-len-mid h (length (X ++ drop h A) - h) (X ++ drop h A) Y kepty
           ∙ after-part
 
-      module _ (p n : ℕ) (z : ℕ → ℕ) (hx : LooseList p n (bwd p z (d - 1) (2 * k + 1) (mods p (take (length A / 2) A))) X)
-          (hy : LooseList p n (bwd p z (d - 1) (2 * k) (mods p (second (length A / 2) (X ++ drop (length A / 2) A)))) Y) where
-        pub laid-low : Below (n * p) (laid (length A / 2) (X ++ drop (length A / 2) A) Y)
+      module _ (p n : ℕ) (z : ℕ → ℕ) (hx : LooseList p n (bwd p z (d - 1) (2 * k + 1) (mods p (take h A))) X)
+          (hy : LooseList p n (bwd p z (d - 1) (2 * k) (mods p (second h (X ++ drop h A)))) Y) where
+        pub laid-low : Below (n * p) (laid h (X ++ drop h A) Y)
         laid-low =
-            subst (Below (n * p)) (sym (laid-is (length A / 2) A X long-half lp Y)) (below-append (n * p) X Y (hx .low) (hy .low))
+            subst (Below (n * p)) (sym (laid-is h A X long-half lp Y)) (below-append (n * p) X Y (hx .low) (hy .low))
 
-        laid-rests : mods p (laid (length A / 2) (X ++ drop (length A / 2) A) Y) ≡ mods p X ++ mods p Y
-        laid-rests = ap (mods p) (laid-is (length A / 2) A X long-half lp Y) ∙ mods-append p X Y
+        laid-rests : mods p (laid h (X ++ drop h A) Y) ≡ mods p X ++ mods p Y
+        laid-rests = ap (mods p) (laid-is h A X long-half lp Y) ∙ mods-append p X Y
 
-        first-rests : mods p X ≡ bwd p z (d - 1) (2 * k + 1) (take (length A / 2) (mods p A))
-        first-rests = hx .same ∙ ap (bwd p z (d - 1) (2 * k + 1)) (mods-take p (length A / 2) A)
+        first-rests : mods p X ≡ bwd p z (d - 1) (2 * k + 1) (take h (mods p A))
+        first-rests = hx .same ∙ ap (bwd p z (d - 1) (2 * k + 1)) (mods-take p h A)
 
-        second-rests : mods p Y ≡ bwd p z (d - 1) (2 * k) (drop (length A / 2) (mods p A))
+        second-rests : mods p Y ≡ bwd p z (d - 1) (2 * k) (drop h (mods p A))
         second-rests =
-            hy .same ∙ ap (λ (t : List ℕ). bwd p z (d - 1) (2 * k) (mods p t)) (second-is (length A / 2) A X long-half lp)
-            ∙ ap (bwd p z (d - 1) (2 * k)) (mods-drop p (length A / 2) A)
+            hy .same ∙ ap (λ (t : List ℕ). bwd p z (d - 1) (2 * k) (mods p t)) (second-is h A X long-half lp)
+            ∙ ap (bwd p z (d - 1) (2 * k)) (mods-drop p h A)
 
         pub whole-bwd : (n′ w : ℕ) → w ≡ z k → (S : List ℕ)
-            → LooseList p n′ (halves (join p) (part p w) (length A / 2) (mods p (laid (length A / 2) (X ++ drop (length A / 2) A) Y))) S
+            → LooseList p n′ (halves (join p) (part p w) h (mods p (laid h (X ++ drop h A) Y))) S
             → LooseList p n′ (bwd p z d k (mods p A)) S
         unfolding bwd
-        whole-bwd n′ w ew S h =
-            let lx : length (mods p X) ≡ length A / 2 = length-mods p X ∙ lp in
+        whole-bwd n′ w ew S o =
+            let lx : length (mods p X) ≡ h = length-mods p X ∙ lp in
             record {
-              low = h .low;
+              low = o .low;
               same =
-                  h .same ∙ ap (halves (join p) (part p w) (length A / 2)) laid-rests
+                  o .same ∙ ap (halves (join p) (part p w) h) laid-rests
                   ∙ cc (
-                    below,
+                    below d (v .above),
                     ew,
                     first-rests,
                     second-rests,
-                    half-is,
-                    take-at (mods p X) (mods p Y) (length A / 2) lx,
-                    drop-at (mods p X) (mods p Y) (length A / 2) lx,
+                    v .half,
+                    take-at (mods p X) (mods p Y) h lx,
+                    drop-at (mods p X) (mods p Y) h lx,
                   );
             }
 

@@ -225,20 +225,32 @@ fn first(second: bool, z: &[u64; 512], a: &mut [u64], k: usize)
     a[3] = v.diff;
 }
 
+// The last three levels of the transform, a block of eight at node k: where `transform` ends, so that it is called for fewer blocks.
+fn last_three(second: bool, z: &[u64; 512], a: &mut [u64], k: usize)
+    requires { ⌜ (now z ≡ powers second) × Block (forthRange 3 * prime second) 3 k (now a) ⌝ }
+    ensures { λ _. ⌜ LooseList (prime second) (forthRange 0) (fwd (prime second) (zeta second) 3 k (mods (prime second) (now (a .entry))))
+        (now (a .exit)) ⌝ }
+{
+    let w = zeta(second, z, k);
+    split(second, a, 4, w);
+    last(second, z, &mut a[..4], 2 * k);
+    last(second, z, &mut a[4..], 2 * k + 1);
+}
+
 // The transform of a block of 2^d entries at node k.
 fn transform(second: bool, z: &[u64; 512], a: &mut [u64], k: usize, d: usize)
-    requires { ⌜ (now z ≡ powers second) × (2 ≤ d) × (d ≤ 9) × Block (forthRange d * prime second) d k (now a) ⌝ }
+    requires { ⌜ (now z ≡ powers second) × (3 ≤ d) × (d ≤ 9) × Block (forthRange d * prime second) d k (now a) ⌝ }
     ensures { λ _. ⌜ LooseList (prime second) (forthRange 0) (fwd (prime second) (zeta second) d k (mods (prime second) (now (a .entry))))
         (now (a .exit)) ⌝ }
 {
-    if 2 < d {
+    if 3 < d {
         let h = a.len() / 2;
         let w = zeta(second, z, k);
         split(second, a, h, w);
         transform(second, z, &mut a[..h], 2 * k, d - 1);
         transform(second, z, &mut a[h..], 2 * k + 1, d - 1);
     } else {
-        last(second, z, a, k);
+        last_three(second, z, a, k);
     }
 }
 

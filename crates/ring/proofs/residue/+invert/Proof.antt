@@ -9,7 +9,7 @@ use borrow.Fn.PlainCycle.{Measures, is, falls, and}
 use Rattle.ring.specs.Residue.{prime, zeta, bwd, mods}
 use Rattle.ring.specs.Loose.{LooseList, backRange, Block}
 use Rattle.ring.proofs.Bounds.{zeta-below}
-use Rattle.ring.proofs.Blocks.{node-lt, long-half, first-part, second-part, after-part, laid-long, laid-low, whole-bwd}
+use Rattle.ring.proofs.Blocks.{in-halves, node-lt, long-half, first-part, second-part, after-part, laid-long, laid-low, whole-bwd}
 use Rattle.ring.proofs.residue.+invert.{statement}
 use Rattle.ring.proofs.residue.+invert.Tie.{close}
 use Rattle.ring.proofs.residue.invert.Reads as invert
@@ -39,73 +39,69 @@ invert-slice-aggregate-invert t c = sym (length-take-le (length (c .before .befo
 invert-mul-invert : (t : ℕ) → invert-lts.Need-mul-invert (calls t) (invert-at t) invert.Post
 invert-mul-invert t c =
     let b = c .before .before .before in
-    let g = b .args in
-    let l = c .before .if1 .taken in
-    omega (arith, node-lt (prime (g .second)) (g .d) (g .k) (g .a .now) l (b .pre .1 .3))
+    let v = in-halves 2 (c .before .if1 .taken) (b .pre .1 .3) in
+    omega (arith, node-lt v)
 
 invert-add-invert : (t : ℕ) → invert-lts.Need-add-invert (calls t) (invert-at t) invert.Post
 invert-add-invert t c =
     let b = c .before .before .before in
-    let g = b .args in
-    let l = c .before .if1 .taken in
-    omega (arith, node-lt (prime (g .second)) (g .d) (g .k) (g .a .now) l (b .pre .1 .3))
+    let v = in-halves 2 (c .before .if1 .taken) (b .pre .1 .3) in
+    omega (arith, node-lt v)
 
 invert-invert-requires : (t : ℕ) → invert-lts.Need-invert-requires (calls t) (invert-at t) invert.Post
 invert-invert-requires t c κs =
     let b = c .before .before .before in
-    let g = b .args in
-    let l = c .before .if1 .taken in
-    (omega (arith, b .pre .0), (b .pre .1 .0, omega arith, omega (arith, b .pre .1 .2), first-part (prime (g .second)) (g .d) (g .k) (g .a .now) l (b .pre .1 .3)))
+    let v = in-halves 2 (c .before .if1 .taken) (b .pre .1 .3) in
+    (omega (arith, b .pre .0), (b .pre .1 .0, omega arith, omega (arith, b .pre .1 .2), first-part v))
 
 invert-sub-invert-2 : (t : ℕ) → invert-lts.Need-sub-invert-2 (calls t) (invert-at t) invert.Post
 invert-sub-invert-2 t c =
     let b = c .before .before .before .before .before .before in
-    let g = b .args in
+    let v = in-halves 2 (c .before .before .before .before .if1 .taken) (b .pre .1 .3) in
     let r = c .before .before .invert in
-    omega (arith, after-part (prime (g .second)) (g .d) (g .k) (g .a .now) (c .before .before .before .before .if1 .taken) (b .pre .1 .3) (r .last .1 .1 .0) (r .kept .1 .1 .0))
+    omega (arith, after-part v (r .last .1 .1 .0) (r .kept .1 .1 .0))
 
 invert-part-invert-start : (t : ℕ) → invert-lts.Need-part-invert-start (calls t) (invert-at t) invert.Post
 invert-part-invert-start t c =
     let b = c .before .before .before .before .before .before in
-    let g = b .args in
+    let v = in-halves 2 (c .before .before .before .before .if1 .taken) (b .pre .1 .3) in
     let r = c .before .before .invert in
-    omega (arith, after-part (prime (g .second)) (g .d) (g .k) (g .a .now) (c .before .before .before .before .if1 .taken) (b .pre .1 .3) (r .last .1 .1 .0) (r .kept .1 .1 .0))
+    omega (arith, after-part v (r .last .1 .1 .0) (r .kept .1 .1 .0))
 
 invert-mul-invert-3 : (t : ℕ) → invert-lts.Need-mul-invert-3 (calls t) (invert-at t) invert.Post
 invert-mul-invert-3 t c =
     let b = c .before .before .before .before .before .before .before in
-    let g = b .args in
-    let l = c .before .before .before .before .before .if1 .taken in
-    omega (arith, node-lt (prime (g .second)) (g .d) (g .k) (g .a .now) l (b .pre .1 .3))
+    let v = in-halves 2 (c .before .before .before .before .before .if1 .taken) (b .pre .1 .3) in
+    omega (arith, node-lt v)
 
 invert-invert-requires-2 : (t : ℕ) → invert-lts.Need-invert-requires-2 (calls t) (invert-at t) invert.Post
 invert-invert-requires-2 t c κs =
     let b = c .before .before .before .before .before .before .before in
-    let g = b .args in
+    let v = in-halves 2 (c .before .before .before .before .before .if1 .taken) (b .pre .1 .3) in
     let r = c .before .before .before .invert in (
       omega (arith, b .pre .0),
-      (b .pre .1 .0, omega arith, omega (arith, b .pre .1 .2), second-part (prime (g .second)) (g .d) (g .k) (g .a .now) (c .before .before .before .before .before .if1 .taken) (b .pre .1 .3) (r .last .1 .1 .0) (r .kept .1 .1 .0)),
+      (b .pre .1 .0, omega arith, omega (arith, b .pre .1 .2), second-part v (r .last .1 .1 .0) (r .kept .1 .1 .0)),
     )
 
 invert-zeta-requires : (t : ℕ) → invert-lts.Need-zeta-requires (calls t) (invert-at t) invert.Post
 invert-zeta-requires t c κs =
     let b = c .before .before .before .before .before .before .before .before .before .before in
-    let g = b .args in
-    let l = c .before .before .before .before .before .before .before .before .if1 .taken in
-    (b .pre .1 .0, node-lt (prime (g .second)) (g .d) (g .k) (g .a .now) l (b .pre .1 .3))
+    let v = in-halves 2 (c .before .before .before .before .before .before .before .before .if1 .taken) (b .pre .1 .3) in
+    (b .pre .1 .0, node-lt v)
 
 invert-level-requires : (t : ℕ) → invert-lts.Need-level-requires (calls t) (invert-at t) invert.Post
 invert-level-requires t c κs =
     let b = c .before .before .before .before .before .before .before .before .before .before .before .before in
     let g = b .args in
     let l = c .before .before .before .before .before .before .before .before .before .before .if1 .taken in
+    let v = in-halves 2 l (b .pre .1 .3) in
     let r = c .before .before .before .before .before .before .before .before .invert in
     let s = c .before .before .before .before .invert2 in (
-      laid-long (prime (g .second)) (g .d) (g .k) (g .a .now) l (b .pre .1 .3) (r .last .1 .1 .0) (r .kept .1 .1 .0) (s .last .1 .1 .0) (s .kept .1 .1 .0),
+      laid-long v (r .last .1 .1 .0) (r .kept .1 .1 .0) (s .last .1 .1 .0) (s .kept .1 .1 .0),
       zeta-below (g .second) _ (c .before .zeta .ensures),
       omega (arith, l),
       b .pre .1 .2,
-      laid-low (prime (g .second)) (g .d) (g .k) (g .a .now) l (b .pre .1 .3) (r .last .1 .1 .0) (r .kept .1 .1 .0) (s .last .1 .1 .0) (s .kept .1 .1 .0)
+      laid-low v (r .last .1 .1 .0) (r .kept .1 .1 .0) (s .last .1 .1 .0) (s .kept .1 .1 .0)
           (prime (g .second)) _ (zeta (g .second)) (r .ensures) (s .ensures),
     )
 
@@ -119,23 +115,23 @@ invert-first-requires t c κs =
 invert-same-length : (t : ℕ) → invert-lts.Need-same-length (calls t) (invert-at t) invert.Post
 invert-same-length t c =
     let b = c .before .before .before .before .before .before .before .before .before .before .before .before .before .before .before in
-    let g = b .args in
-    let l = c .before .before .before .before .before .before .before .before .before .before .before .before .before .if1 .taken in
+    let v = in-halves 2 (c .before .before .before .before .before .before .before .before .before .before .before .before .before .if1 .taken) (b .pre .1 .3) in
     let r = c .before .before .before .before .before .before .before .before .before .before .before .invert in
     let s = c .before .before .before .before .before .before .before .invert2 in
     c .before .before .level .kept .1 .0
-    ∙ laid-long (prime (g .second)) (g .d) (g .k) (g .a .now) l (b .pre .1 .3) (r .last .1 .1 .0) (r .kept .1 .1 .0) (s .last .1 .1 .0) (s .kept .1 .1 .0)
-    ∙ sym (long-half (prime (g .second)) (g .d) (g .k) (g .a .now) l (b .pre .1 .3))
+    ∙ laid-long v (r .last .1 .1 .0) (r .kept .1 .1 .0) (s .last .1 .1 .0) (s .kept .1 .1 .0)
+    ∙ sym (long-half v)
 
 invert-returns : (t : ℕ) → invert-lts.Need-returns (calls t) (invert-at t) invert.Post
 invert-returns t c =
     let b = c .before .before .before .before .before .before .before .before .before .before .before .before .before .before .before in
     let g = b .args in
+    let v = in-halves 2 (c .before .before .before .before .before .before .before .before .before .before .before .before .before .if1 .taken) (b .pre .1 .3) in
     let r = c .before .before .before .before .before .before .before .before .before .before .before .invert in
     let s = c .before .before .before .before .before .before .before .invert2 in
     let w = c .before .before .before .before .zeta in
     let o = c .before .before .level in
-    whole-bwd (prime (g .second)) (g .d) (g .k) (g .a .now) (c .before .before .before .before .before .before .before .before .before .before .before .before .before .if1 .taken) (b .pre .1 .3) (r .last .1 .1 .0) (r .kept .1 .1 .0) (s .last .1 .1 .0) (s .kept .1 .1 .0)
+    whole-bwd v (r .last .1 .1 .0) (r .kept .1 .1 .0) (s .last .1 .1 .0) (s .kept .1 .1 .0)
     (prime (g .second)) _ (zeta (g .second)) (r .ensures) (s .ensures) _ (w .result) (w .ensures) (o .last .1 .0) (o .ensures)
 
 invert-same-length-2 : (t : ℕ) → invert-lts.Need-same-length-2 (calls t) (invert-at t) invert.Post
