@@ -254,20 +254,32 @@ fn transform(second: bool, z: &[u64; 512], a: &mut [u64], k: usize, d: usize)
     }
 }
 
+// The first three levels of the inverse, where `invert` begins. k is the node that mirrors the block's.
+fn first_three(second: bool, z: &[u64; 512], a: &mut [u64], k: usize)
+    requires { ⌜ (now z ≡ powers second) × Block (prime second) 3 k (now a) ⌝ }
+    ensures { λ _. ⌜ LooseList (prime second) (backRange 3) (bwd (prime second) (zeta second) 3 k (mods (prime second) (now (a .entry))))
+        (now (a .exit)) ⌝ }
+{
+    first(second, z, &mut a[..4], 2 * k + 1);
+    first(second, z, &mut a[4..], 2 * k);
+    let w = zeta(second, z, k);
+    level(second, a, 4, w, 3);
+}
+
 // The inverse of the transform of a block of 2^d entries, but for a factor 2^d. k is the node that mirrors the block's.
 fn invert(second: bool, z: &[u64; 512], a: &mut [u64], k: usize, d: usize)
-    requires { ⌜ (now z ≡ powers second) × (2 ≤ d) × (d ≤ 9) × Block (prime second) d k (now a) ⌝ }
+    requires { ⌜ (now z ≡ powers second) × (3 ≤ d) × (d ≤ 9) × Block (prime second) d k (now a) ⌝ }
     ensures { λ _. ⌜ LooseList (prime second) (backRange d) (bwd (prime second) (zeta second) d k (mods (prime second) (now (a .entry))))
         (now (a .exit)) ⌝ }
 {
-    if 2 < d {
+    if 3 < d {
         let h = a.len() / 2;
         invert(second, z, &mut a[..h], 2 * k + 1, d - 1);
         invert(second, z, &mut a[h..], 2 * k, d - 1);
         let w = zeta(second, z, k);
         level(second, a, h, w, d);
     } else {
-        first(second, z, a, k);
+        first_three(second, z, a, k);
     }
 }
 
