@@ -7,41 +7,23 @@ use mathlib.Core.Option.{Option, some, none}
 use native.Mathlib.Omega.{arith}
 use native.Mathlib.Nat.{le-of-suc-le-suc, mod-eq-of-lt}
 use lib.Dec.{lit<, leb}
-use lib.IntN.{ℤ, natAbs}
+use lib.IntN.{ℤ}
 use lib.ListN.{length, getD, take, drop, replicate, length-append, length-replicate, take-append-drop}
 use lib.Seq.{take-at, drop-at, length-take-le}
 use borrow.Author.Tests.{le-leb, lt-leb, leb-true}
 use Rattle.hash.specs.Lists.{pick, Bytes}
 use Rattle.hash.specs.declared.params.Params.{Params}
 use Rattle.signature.specs.Bits.{bitsOf, valOf, bitString, chop}
-use Rattle.signature.specs.Code.{negOf, signs, codeOf, code, codes, codesBits}
+use Rattle.signature.specs.Code.{code, codes, codesBits}
 use Rattle.signature.specs.Form.{Fields, hashBytes, formBits, bitCount, withFill, write, readBoth, read}
 use Rattle.signature.specs.AnswerSteps.{fieldsOf, allZero}
-use Rattle.signature.proofs.Strings.{Bits, bits-drop, bits-join, are-bits, fields-bits, length-bits, length-fields}
+use Rattle.signature.proofs.Strings.{Bits, bits-drop, bits-join, fields-bits, length-bits, length-fields}
 use Rattle.signature.proofs.Packing.{val-bits, chop-fields, fields-append, length-chop, fields-chop, bytes-lt}
-use Rattle.signature.proofs.Codes.{neg-lt}
+use Rattle.signature.proofs.Codes.{bits-replicate, code-are}
 use Rattle.signature.proofs.Filled.{zeros-are, are-zeros, bits-length}
 use Rattle.signature.proofs.Reading.{both-trip, both-canon, ZeroFilled}
 
 -- ---- the bits of the fields are 0 and 1
-
-bits-replicate : (n b : ℕ) → b < 2 → Bits (replicate n b)
-bits-replicate zero b h i = lit< tt
-bits-replicate (suc n) b h zero = h
-bits-replicate (suc n) b h (suc i) = bits-replicate n b h i
-
-sign-bits : (m s : ℕ) → s < 2 → Bits (0 ∷ signs m s)
-sign-bits m s h zero = lit< tt
-sign-bits zero s h (suc i) = lit< tt
-sign-bits (suc m) s h (suc zero) = h
-sign-bits (suc m) s h (suc (suc i)) = lit< tt
-
-code-are : (w : ℕ) (z : ℤ) → Bits (code w z)
-unfolding codeOf
-code-are w z =
-    let m = natAbs z in
-    bits-join (bitsOf w m) (replicate (m / 2 ^ w) 1 ++ (0 ∷ signs m (negOf z))) (are-bits w m)
-    (bits-join (replicate (m / 2 ^ w) 1) (0 ∷ signs m (negOf z)) (bits-replicate (m / 2 ^ w) 1 (lit< tt)) (sign-bits m (negOf z) (neg-lt z)))
 
 codes-are : (w : ℕ) (zs : List ℤ) → Bits (codes w zs)
 unfolding codes

@@ -13,7 +13,7 @@ use Rattle.signature.specs.Code.{runOf, magOf, readCode, signs, codeOf, 
 use lib.IntN.{ℤ, pos, negsuc, natAbs}
 use lib.Dec.{lit<}
 use borrow.Author.Tests.{lt-ltb, le-ltb, eq-eqb, ne-eqb}
-use Rattle.signature.proofs.Strings.{length-bits, sets-append}
+use Rattle.signature.proofs.Strings.{length-bits, sets-append, Bits, bits-join, are-bits}
 
 pub code-length : (w m s : ℕ) → length (codeOf w m s) ≡ w + m / 2 ^ w + 1 + length (signs m s)
 unfolding codeOf
@@ -49,6 +49,28 @@ neg-lt (negsuc n) = lit< tt
 
 pub same-code : (w m s : ℕ) (z : ℤ) → m ≡ natAbs z → s ≡ negOf z → codeOf w m s ≡ code w z
 same-code w m s z e f = ap (λ (x : ℕ). codeOf w x s) e ∙ ap (codeOf w (natAbs z)) f
+
+-- ---- a code's bits are 0 and 1
+
+pub bits-replicate : (n b : ℕ) → b < 2 → Bits (replicate n b)
+bits-replicate zero b h i = lit< tt
+bits-replicate (suc n) b h zero = h
+bits-replicate (suc n) b h (suc i) = bits-replicate n b h i
+
+sign-bits : (m s : ℕ) → s < 2 → Bits (0 ∷ signs m s)
+sign-bits m s h zero = lit< tt
+sign-bits zero s h (suc i) = lit< tt
+sign-bits (suc m) s h (suc zero) = h
+sign-bits (suc m) s h (suc (suc i)) = lit< tt
+
+pub mag-code-are : (w m s : ℕ) → s < 2 → Bits (codeOf w m s)
+unfolding codeOf
+mag-code-are w m s h =
+    bits-join (bitsOf w m) (replicate (m / 2 ^ w) 1 ++ (0 ∷ signs m s)) (are-bits w m)
+    (bits-join (replicate (m / 2 ^ w) 1) (0 ∷ signs m s) (bits-replicate (m / 2 ^ w) 1 (lit< tt)) (sign-bits m s h))
+
+pub code-are : (w : ℕ) (z : ℤ) → Bits (code w z)
+code-are w z = mag-code-are w (natAbs z) (negOf z) (neg-lt z)
 
 -- ---- a run of ones
 

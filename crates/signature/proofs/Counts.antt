@@ -1,5 +1,5 @@
 -- How many bits the codes take.
-use Prim.Native.Nat.{ℕ, zero, suc, _+_, _/_, _^_, _<_}
+use Prim.Native.Nat.{ℕ, zero, suc, _+_, _/_, _^_, _≤_, _<_}
 use mathlib.Core.Path.{_≡_, refl, _∙_}
 use mathlib.Core.List.{List, [], _∷_}
 use native.Mathlib.Omega.{arith}
@@ -28,6 +28,12 @@ module _ (w : ℕ) where
   one-length (pos zero) = code-length w 0 0 ∙ omega (arith, zero-div (2 ^ w))
   one-length (pos (suc n)) = code-length w (suc n) 0 ∙ omega arith
   one-length (negsuc n) = code-length w (suc n) 1 ∙ omega arith
+
+  pub code-short : (z : ℤ) → w ≤ 54 → codeBits w z ≤ 56 → w + natAbs z / 2 ^ w + 2 ≤ 56
+  unfolding codeBits
+  code-short (pos zero) h l = omega (arith, zero-div (2 ^ w))
+  code-short (pos (suc n)) h l = l
+  code-short (negsuc n) h l = l
 
   pub codes-length : (zs : List ℤ) → length (codes w zs) ≡ codesBits w zs
   unfolding codes codesBits

@@ -4,12 +4,12 @@ use mathlib.Core.Path.{_≡_, refl, sym, ap, _∙_}
 use mathlib.Core.Bool.{true, false}
 use mathlib.Core.List.{List, [], _∷_, _++_, append-assoc, append-nil}
 use native.Mathlib.Omega.{arith}
-use native.Mathlib.Nat.{add-zero, suc-mul}
+use native.Mathlib.Nat.{not-suc-le-zero, le-of-suc-le-suc, add-zero, suc-mul}
 use native.Mathlib.Numerals.{add-one}
 use lib.IntN.{ℤ}
 use lib.ListN.{length, getD, set, take, drop, replicate, length-append, length-replicate, replicate-append-replicate, drop-of-length-le}
 use lib.Seq.{sets, sets-eq, drop-cons, take-all, take-suc, take-suc-set}
-use Rattle.signature.specs.Bits.{bitsOf, bitString, chop}
+use Rattle.signature.specs.Bits.{bitsOf, valOf, bitString, chop}
 use Rattle.signature.specs.Code.{codes, codesBits}
 use Rattle.signature.specs.Form.{formBits, bitCount}
 use Rattle.signature.specs.AnswerSteps.{fieldsOf, allZero}
@@ -76,6 +76,24 @@ module _ (l : List ℕ) (k : ℕ) where
   pub zero-end : length l ≤ k → allZero (drop k l) ≡ true
   unfolding allZero
   zero-end h = ap allZero (drop-of-length-le l h)
+
+-- .. several bits at a time, by their number
+pub zeros-pass : (n j : ℕ) (t : List ℕ) → n ≤ j → valOf (take j t) ≡ 0 → allZero t ≡ allZero (drop n t)
+unfolding valOf allZero
+zeros-pass zero j t h e = refl
+zeros-pass (suc n) zero t h e = absurd (not-suc-le-zero h)
+zeros-pass (suc n) (suc j) [] h e = refl
+zeros-pass (suc n) (suc j) (b ∷ t) h e =
+    let z : b ≡ 0 = omega arith in
+    let r : valOf (take j t) ≡ 0 = omega arith in
+    zero-head b t z ∙ zeros-pass n j t (le-of-suc-le-suc h) r
+
+pub zeros-fail : (j : ℕ) (t : List ℕ) → (valOf (take j t) ≡ 0 → ⊥) → allZero t ≡ false
+unfolding valOf allZero
+zeros-fail zero t h = absurd (h refl)
+zeros-fail (suc j) [] h = absurd (h refl)
+zeros-fail (suc j) (zero ∷ t) h = zeros-fail j t (λ e. h (ap (λ (n : ℕ). 0 + 2 * n) e))
+zeros-fail (suc j) (suc b ∷ t) h = refl
 
 -- ---- the writer's start: the hash, byte by byte, then zeros
 

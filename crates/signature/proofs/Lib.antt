@@ -10,6 +10,8 @@ pub mod ChalMap
 pub mod ChalResult
 pub mod ChalRun
 pub mod Codes
+pub mod CodeWords
+pub mod WordReads
 pub mod Collected
 pub mod Commits
 pub mod Counts

@@ -7,7 +7,7 @@ ghost use Rattle.signature.specs.Bits.{bitsOf, valOf, bitString, repack}
 use hash::num::wide;
 
 // The w lowest bits of x, as a number.
-fn low(x: u64, w: usize) -> u64
+pub(crate) fn low(x: u64, w: usize) -> u64
     requires { ⌜ w < 64 ⌝ }
     ensures { λ r. ⌜ r ≡ x % 2 ^ w ⌝ }
 {

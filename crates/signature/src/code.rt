@@ -1,10 +1,10 @@
 // The coefficients of a signature as bits (000, 2.5.1): w low bits, the rest in ones, a stop bit, a sign. Hint: w is 0; response: w is 40.
 ghost use mathlib.Core.Path.{_≡_};
-ghost use Prim.Native.Nat.{ℕ, _+_, _*_, _^_, _<_, _≤_};
+ghost use Prim.Native.Nat.{ℕ, _+_, _*_, _%_, _^_, _<_, _≤_};
 ghost use lib.IntN.{pos, natAbs};
 ghost use lib.ListN.{length, getD, drop};
 ghost use lib.Seq.{sets};
-ghost use Rattle.signature.specs.Bits.{bitString};
+ghost use Rattle.signature.specs.Bits.{bitsOf, valOf, bitString};
 ghost use Rattle.signature.specs.Code.{codeOf, code, codes, codeBits, codesBits, runOf, readCode, readCodes};
 ghost use Rattle.signature.specs.AnswerSteps.{gotOf, NextOf};
 use crate::bits;
@@ -24,10 +24,10 @@ pub enum Next {
 
 // How many bits the code of z takes.
 pub(crate) fn code_bits(w: usize, z: i64) -> usize
-    requires { ⌜ natAbs z < 2 ^ 50 ⌝ }
+    requires { ⌜ natAbs z < 2 ^ 62 ⌝ }
     requires { ⌜ w ≤ 40 ⌝ }
     ensures { λ r. ⌜ r ≡ codeBits w z ⌝ }
-    ensures { λ r. ⌜ r < 2 ^ 50 + 64 ⌝ }
+    ensures { λ r. ⌜ r < natAbs z + 64 ⌝ }
 {
     let m = int::mag(z);
     if m == 0 {
@@ -86,7 +86,19 @@ pub(crate) fn put_code(buf: &mut [u8], at: usize, z: i64, w: usize) -> usize
     put_mag(buf, at, int::mag(z), int::sign(z), w)
 }
 
-// Writes numbers from bit `at` on, and returns the place behind them.
+// The code of z as one number, its first bit the lowest.
+fn code_word(z: i64, w: usize) -> u64
+    requires { ⌜ codeBits w z ≤ 56 ⌝ }
+    requires { ⌜ w ≤ 40 ⌝ }
+    ensures { λ r. ⌜ r ≡ valOf (code w z) ⌝ }
+{
+    let m = int::mag(z);
+    let n = (m >> w) as usize;
+    let ones = (1 << n) - 1;
+    bits::low(m, w) + (ones << w) + (int::sign(z) << (w + n + 1))
+}
+
+// Writes numbers from bit `at` on, and returns the place behind them. `held` has the `have` bits before that place that are not stored yet.
 pub(crate) fn put_codes(buf: &mut [u8], at: usize, zs: &[i64], w: usize) -> usize
     requires { ⌜ at + length (codes w (now zs)) ≤ length (now buf) * 8 ⌝ }
     requires { ⌜ length (now buf) < 2 ^ 17 ⌝ }
@@ -94,13 +106,32 @@ pub(crate) fn put_codes(buf: &mut [u8], at: usize, zs: &[i64], w: usize) -> usiz
     ensures { λ r. ⌜ r ≡ at + length (codes w (now (zs .entry))) ⌝ }
     ensures { λ _. ⌜ bitString 8 (now (buf .exit)) ≡ sets (bitString 8 (now (buf .entry))) at (codes w (now (zs .entry))) ⌝ }
 {
-    let mut k = at;
+    let mut p = at;
+    let mut held: u64 = 0;
+    let mut have: usize = 0;
     let mut i: usize = 0;
     while i < zs.len() {
-        k = put_code(buf, k, zs[i], w);
+        let z = zs[i];
+        let n = code_bits(w, z);
         i += 1;
+        if have + n <= 56 {
+            held += code_word(z, w) << have;
+            have += n;
+            continue;
+        }
+        bits::put_bits(buf, p, held, have);
+        p += have;
+        if n <= 56 {
+            held = code_word(z, w);
+            have = n;
+            continue;
+        }
+        p = put_code(buf, p, z, w);
+        held = 0;
+        have = 0;
     }
-    k
+    bits::put_bits(buf, p, held, have);
+    p + have
 }
 
 // How many ones there are from bit `at` on.
@@ -120,8 +151,8 @@ fn run(buf: &[u8], at: usize) -> usize
     n
 }
 
-// The number that the bits from `at` on begin with.
-pub(crate) fn get_code(buf: &[u8], at: usize, w: usize) -> Got
+// The number that the bits from `at` on begin with, bit by bit where its run is.
+fn get_slow(buf: &[u8], at: usize, w: usize) -> Got
     requires { ⌜ at ≤ length (now buf) * 8 ⌝ }
     requires { ⌜ length (now buf) < 2 ^ 17 ⌝ }
     requires { ⌜ w ≤ 40 ⌝ }
@@ -149,6 +180,52 @@ pub(crate) fn get_code(buf: &[u8], at: usize, w: usize) -> Got
     Got::Code {
         z: int::signed(m, s),
         next: b + 2,
+    }
+}
+
+// How many ones x has below its lowest zero.
+fn run_in(x: u64) -> usize
+    ensures { λ r. ⌜ r ≡ runOf (bitsOf 64 x) ⌝ }
+    ensures { λ r. ⌜ r ≤ 64 ⌝ }
+{
+    u64::trailing_zeros(!x) as usize
+}
+
+// How many zeros x has below its lowest one, no more than 56.
+fn zeros_in(x: u64) -> usize
+    ensures { λ r. ⌜ x % 2 ^ r ≡ 0 ⌝ }
+    ensures { λ r. ⌜ r ≤ 56 ⌝ }
+{
+    let n = u64::trailing_zeros(x) as usize;
+    if 56 < n {
+        return 56;
+    }
+    n
+}
+
+// The number that the bits from `at` on begin with: run, stop bit and sign in one word, where they are in 56 bits.
+pub(crate) fn get_code(buf: &[u8], at: usize, w: usize) -> Got
+    requires { ⌜ at ≤ length (now buf) * 8 ⌝ }
+    requires { ⌜ length (now buf) < 2 ^ 17 ⌝ }
+    requires { ⌜ w ≤ 40 ⌝ }
+    ensures { λ r. ⌜ r ≡ gotOf at (readCode w (drop at (bitString 8 (now (buf .entry))))) ⌝ }
+{
+    let a = at + w;
+    if buf.len() * 8 < a + 56 {
+        return get_slow(buf, at, w);
+    }
+    let x = bits::get_bits(buf, a, 56);
+    let n = run_in(x);
+    if 54 < n {
+        return get_slow(buf, at, w);
+    }
+    let m = bits::get_bits(buf, at, w) + ((n as u64) << w);
+    if m == 0 {
+        return get_slow(buf, at, w);
+    }
+    Got::Code {
+        z: int::signed(m, (x >> (n + 1)) % 2),
+        next: a + n + 2,
     }
 }
 

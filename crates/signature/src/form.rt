@@ -52,8 +52,8 @@ pub(crate) fn write(hash: &[u8], hint: &[i64], response: &[i64], out: &mut [u8])
     code::put_codes(out, at, response, 40);
 }
 
-// Whether every bit from `at` on is 0.
-fn all_zero(buf: &[u8], at: usize) -> bool
+// Whether every bit from `at` on is 0, bit by bit, for the last bytes.
+fn rest_zero(buf: &[u8], at: usize) -> bool
     requires { ⌜ length (now buf) < 2 ^ 17 ⌝ }
     ensures { λ r. ⌜ r ≡ allZero (drop at (bitString 8 (now (buf .entry)))) ⌝ }
 {
@@ -65,6 +65,25 @@ fn all_zero(buf: &[u8], at: usize) -> bool
         k += 1;
     }
     true
+}
+
+// Whether every bit from `at` on is 0.
+fn all_zero(buf: &[u8], at: usize) -> bool
+    requires { ⌜ length (now buf) < 2 ^ 17 ⌝ }
+    ensures { λ r. ⌜ r ≡ allZero (drop at (bitString 8 (now (buf .entry)))) ⌝ }
+{
+    let end = buf.len() * 8;
+    if end < at {
+        return true;
+    }
+    let mut k = at;
+    while k + 56 <= end {
+        if bits::get_bits(buf, k, 56) != 0 {
+            return false;
+        }
+        k += 56;
+    }
+    rest_zero(buf, k)
 }
 
 // Reads hint and response behind the hash. True where they could be read and every bit behind them is 0 (check 14).

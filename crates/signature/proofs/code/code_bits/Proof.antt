@@ -1,4 +1,4 @@
-use Prim.Native.Nat.{ℕ, _+_, _/_, _^_, _<_}
+use Prim.Native.Nat.{ℕ, _+_, _/_, _^_, _≤_}
 use mathlib.Core.Path.{_≡_, sym, ap, _∙_}
 use native.Mathlib.Omega.{arith}
 use lib.IntN.{natAbs}
@@ -12,8 +12,8 @@ use Rattle.signature.proofs.code.code_bits.Tie as tie
 value : (c : tie.After-mag) → c .mag .result ≡ natAbs (c .before .args .z)
 value c = c .mag .ensures ∙ ap natAbs (same (c .before .args .z) (c .before .fits .z))
 
-small : (c : tie.After-mag) → c .mag .result / 2 ^ c .before .args .w < 2 ^ 50
-small c = omega (arith, value c, shr-le (c .mag .result) (c .before .args .w), c .before .pre .0)
+small : (c : tie.After-mag) → c .mag .result / 2 ^ c .before .args .w ≤ natAbs (c .before .args .z)
+small c = omega (arith, value c, shr-le (c .mag .result) (c .before .args .w))
 
 returns : tie.Need-returns
 returns c =
@@ -21,16 +21,16 @@ returns c =
     (zero-takes (a .w) (a .z) (sym (value (c .before)) ∙ c .if1 .taken), omega arith)
 
 add-result-2 : tie.Need-add-result-2
-add-result-2 c = omega (arith, small (c .before))
+add-result-2 c = omega (arith, small (c .before), c .before .before .pre)
 
 add-result-3 : tie.Need-add-result-3
-add-result-3 c = omega (arith, small (c .before))
+add-result-3 c = omega (arith, small (c .before), c .before .before .pre)
 
 returns-2 : tie.Need-returns-2
 returns-2 c =
     let a = c .before .before .args in
     let v = value (c .before) in
-    (ap (λ (n : ℕ). a .w + n / 2 ^ a .w + 2) v ∙ some-takes (a .w) (a .z) (λ e. c .if1 .left (v ∙ e)), omega (arith, small (c .before)))
+    (ap (λ (n : ℕ). a .w + n / 2 ^ a .w + 2) v ∙ some-takes (a .w) (a .z) (λ e. c .if1 .left (v ∙ e)), omega (arith, small (c .before), c .before .before .pre))
 
 pub code-bits-spec : {M : Type 1} → statement M
 code-bits-spec =

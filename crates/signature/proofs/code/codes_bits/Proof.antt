@@ -1,4 +1,4 @@
-use Prim.Native.Nat.{_+_, _*_, _-_, _^_, _≤_}
+use Prim.Native.Nat.{_+_, _*_, _-_, _^_, _<_, _≤_}
 use mathlib.Core.Path.{_≡_, ap, _∙_}
 use native.Mathlib.Omega.{arith}
 use lib.ListN.{length, getD, take}
@@ -27,13 +27,27 @@ code-bits-requires : tie.Need-code-bits-requires Inv-loop μ-loop
 code-bits-requires c κs =
     let s = c .before .before .before in
     let i = c .before .before .loop .i in
-    (rw (toZ-ofZ w64 (getD (s .args .zs .now) i (pos 0)) (sfits-of (c .code-bits-arg .given))) (s .pre .0 i), s .pre .1 .1)
+    let n = s .pre .0 i in
+    (rw (toZ-ofZ w64 (getD (s .args .zs .now) i (pos 0)) (sfits-of (c .code-bits-arg .given))) (omega arith), s .pre .1 .1)
+
+-- the number's bits, as many as its bound lets it have
+few : (c : tie.After-code-bits Inv-loop μ-loop) → c .code-bits .result < 2 ^ 50 + 64
+few c =
+    let l = c .before .before .before .loop in
+    let s = c .before .before .before .before in
+    let n = s .pre .0 (l .i) in
+    let b = rw (toZ-ofZ w64 (getD (s .args .zs .now) (l .i) (pos 0)) (sfits-of (c .before .code-bits-arg .given))) at (c .code-bits .ensures .1) in
+    omega arith
+
+add-n : tie.Need-add-n Inv-loop μ-loop
+add-n c = omega (arith, few c)
 
 loop-again : tie.Need-loop-again Inv-loop μ-loop
 loop-again c =
     let l = c .before .before .before .loop in
     let a = c .before .before .before .before .args in
     let e = c .code-bits .ensures .0 ∙ ap (codeBits (a .w)) (toZ-ofZ w64 (getD (a .zs .now) (l .i) (pos 0)) (sfits-of (c .before .code-bits-arg .given))) in
+    let f = few c in
     let m = count-more (a .w) (a .zs .now) (l .i) (c .before .before .loop-test .taken) in
     (omega arith, omega arith, omega arith)
 
@@ -46,4 +60,4 @@ returns c =
 pub codes-bits-spec : {M : Type 1} → statement M
 codes-bits-spec =
     tie.close (tie.spec Inv-loop μ-loop loop-holds (λ c. search needs) (λ c. search needs) code-bits-requires
-    (λ c. search needs) (λ c. search needs) (λ c. search needs) loop-again returns)
+    add-n (λ c. search needs) (λ c. search needs) loop-again returns)
