@@ -2,8 +2,10 @@
 ghost use mathlib.Core.Path.{_≡_};
 ghost use Prim.Native.Nat.{ℕ, _+_, _*_, _%_, _^_, _<_, _≤_};
 ghost use lib.IntN.{pos, natAbs};
-ghost use lib.ListN.{length, getD, drop};
+ghost use lib.ListN.{length, getD, take, drop, replicate};
+ghost use lib.Dec.{leb};
 ghost use lib.Seq.{sets};
+ghost use Rattle.hash.specs.Lists.{pick};
 ghost use Rattle.signature.specs.Bits.{bitsOf, valOf, bitString};
 ghost use Rattle.signature.specs.Code.{codeOf, code, codes, codeBits, codesBits, runOf, readCode, readCodes};
 ghost use Rattle.signature.specs.AnswerSteps.{gotOf, NextOf};
@@ -229,8 +231,8 @@ pub(crate) fn get_code(buf: &[u8], at: usize, w: usize) -> Got
     }
 }
 
-// Reads numbers from bit `at` on.
-pub(crate) fn get_codes(buf: &[u8], at: usize, w: usize, out: &mut [i64]) -> Next
+// Reads numbers from bit `at` on, one at a time.
+fn get_wide(buf: &[u8], at: usize, w: usize, out: &mut [i64]) -> Next
     requires { ⌜ at ≤ length (now buf) * 8 ⌝ }
     requires { ⌜ length (now buf) < 2 ^ 17 ⌝ }
     requires { ⌜ w ≤ 40 ⌝ }
@@ -251,4 +253,74 @@ pub(crate) fn get_codes(buf: &[u8], at: usize, w: usize, out: &mut [i64]) -> Nex
         i += 1;
     }
     Next::At(k)
+}
+
+// Every number 0.
+fn clear_numbers(out: &mut [i64])
+    ensures { λ _. ⌜ now (out .exit) ≡ replicate (length (now (out .entry))) (pos 0) ⌝ }
+{
+    let mut i: usize = 0;
+    while i < out.len() {
+        out[i] = 0;
+        i += 1;
+    }
+}
+
+// The number of the 56 bits from `at` on, or 0 where fewer are left.
+fn word_from(buf: &[u8], at: usize) -> u64
+    requires { ⌜ at ≤ length (now buf) * 8 ⌝ }
+    requires { ⌜ length (now buf) < 2 ^ 17 ⌝ }
+    ensures { λ r. ⌜ r ≡ pick (leb (at + 56) (length (now (buf .entry)) * 8)) (valOf (take 56 (drop at (bitString 8 (now (buf .entry)))))) 0 ⌝ }
+{
+    if buf.len() * 8 < at + 56 {
+        return 0;
+    }
+    bits::get_bits(buf, at, 56)
+}
+
+// Reads numbers with no low bits (w is 0) from bit `at` on: a 0 is one bit 0, so that a word shows at once how many there are before the next number.
+fn get_small(buf: &[u8], at: usize, out: &mut [i64]) -> Next
+    requires { ⌜ at ≤ length (now buf) * 8 ⌝ }
+    requires { ⌜ length (now buf) < 2 ^ 17 ⌝ }
+    ensures { λ r. ⌜ NextOf at (readCodes 0 (length (now (out .entry))) (drop at (bitString 8 (now (buf .entry))))) r (now (out .exit)) ⌝ }
+{
+    clear_numbers(out);
+    let mut k = at;
+    let mut i: usize = 0;
+    while i < out.len() {
+        let x = word_from(buf, k);
+        let a = zeros_in(x);
+        let b = run_in(x >> a);
+        if (0 < b) & (a + b <= 54) & (a < out.len() - i) {
+            i += a;
+            out[i] = int::signed(b as u64, (x >> (a + b + 1)) % 2);
+            i += 1;
+            k += a + b + 2;
+            continue;
+        }
+        match get_slow(buf, k, 0) {
+            Got::Bad => {
+                return Next::No;
+            }
+            Got::Code { z, next } => {
+                out[i] = z;
+                k = next;
+            }
+        }
+        i += 1;
+    }
+    Next::At(k)
+}
+
+// Reads numbers from bit `at` on.
+pub(crate) fn get_codes(buf: &[u8], at: usize, w: usize, out: &mut [i64]) -> Next
+    requires { ⌜ at ≤ length (now buf) * 8 ⌝ }
+    requires { ⌜ length (now buf) < 2 ^ 17 ⌝ }
+    requires { ⌜ w ≤ 40 ⌝ }
+    ensures { λ r. ⌜ NextOf at (readCodes w (length (now (out .entry))) (drop at (bitString 8 (now (buf .entry))))) r (now (out .exit)) ⌝ }
+{
+    if w == 0 {
+        return get_small(buf, at, out);
+    }
+    get_wide(buf, at, w, out)
 }

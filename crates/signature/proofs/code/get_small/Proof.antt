@@ -1,0 +1,246 @@
+use Prim.Native.Nat.{ℕ, _+_, _*_, _-_, _/_, _%_, _^_, _<_, _≤_}
+use mathlib.Core.Path.{_≡_, refl, sym, ap, _∙_}
+use mathlib.Core.Option.{some, none}
+use native.Mathlib.Omega.{arith}
+use native.Mathlib.Nat.{sub-self}
+use lib.IntN.{ℤ, pos}
+use lib.ListN.{length, getD, take, drop, length-set, length-drop}
+use lib.Seq.{take-all, drop-drop, getD-set-other}
+use borrow.Author.Needs.{sfits-of}
+use mir.Syntax.{w64}
+use mir.Val.{SFits, toZ, ofZ}
+use mir.ValLaws.{toZ-ofZ}
+use Rattle.signature.specs.Bits.{valOf, bitString}
+use Rattle.signature.specs.Code.{readCode, readCodes}
+use Rattle.signature.specs.declared.code.Next.the-variants.{At}
+use Rattle.signature.proofs.Strings.{length-fields, fields-bits}
+use Rattle.signature.proofs.Lists.{got-code, got-bad, read-turn, none-left, read-le}
+use Rattle.signature.proofs.WordReads.{small-turn, word-there, word-tests, all-cleared}
+use borrow.Author.Needs.{needs}
+use Rattle.signature.proofs.code.get_small.Statement.{statement}
+use Rattle.signature.proofs.code.get_small.Tie as tie
+use Rattle.signature.proofs.code.get_small.Reads as reads
+use Rattle.signature.proofs.code.get_small.Lts as lts
+use Rattle.signature.proofs.code.clear_numbers.Reads as clear-numbers-reads
+use Rattle.signature.proofs.code.get_slow.Reads as get-slow-reads
+use Rattle.signature.proofs.code.run_in.Reads as run-in-reads
+use Rattle.signature.proofs.code.word_from.Reads as word-from-reads
+use Rattle.signature.proofs.code.zeros_in.Reads as zeros-in-reads
+use Rattle.signature.proofs.int.signed.Reads as signed-reads
+
+abbrev Inv-loop : tie.InvT-loop
+Inv-loop buf at out₀ k₀ i₀ out k i =
+    (i ≤ length out) × (length out ≡ length out₀) × (at ≤ k) × (k ≤ length buf * 8)
+    × (readCodes 0 i (drop at (bitString 8 buf)) ≡ some (take i out, k - at)) × ((p : ℕ) → i ≤ p → getD out p (pos 0) ≡ pos 0)
+
+abbrev μ-loop : tie.MeasureT-loop
+μ-loop buf at out₀ k₀ i₀ out k i = length out - i
+
+-- what the code's tests say, and the word that they were made on
+tests : (c : tie.Then1 Inv-loop μ-loop) → let a = c .before .before .zeros-in .result in let b = c .before .run-in .result in
+    (0 < b) × (a + b ≤ 54) × (a < length (c .before .before .before .before .before .loop .out) - c .before .before .before .before .before .loop .i)
+tests c = word-tests (c .before .before .zeros-in .result) (c .before .run-in .result) (length (c .before .before .before .before .before .loop .out) - c .before .before .before .before .before .loop .i) (c .if1 .taken)
+
+there : (c : tie.Then1 Inv-loop μ-loop) → let f = c .before .before .before .before .before .before .before .before .before .before .args .buf .now in
+    (c .before .before .before .before .before .loop .k + 56 ≤ length f * 8) × (c .before .before .before .word-from .result ≡ valOf (take 56 (drop (c .before .before .before .before .before .loop .k) (bitString 8 f))))
+there c =
+    let f = c .before .before .before .before .before .before .before .before .before .before .args .buf .now in
+    word-there (c .before .before .before .before .before .loop .k + 56) (length f * 8) (valOf (take 56 (drop (c .before .before .before .before .before .loop .k) (bitString 8 f)))) (c .before .before .before .word-from .result) (c .before .before .zeros-in .result)
+    (c .before .run-in .result) (c .before .before .before .word-from .ensures) (c .before .run-in .ensures .0) (tests c .0)
+
+clear-numbers-requires : tie.Need-clear-numbers-requires Inv-loop μ-loop
+clear-numbers-requires c κs = search needs
+
+loop-holds : tie.Need-loop-holds Inv-loop μ-loop
+unfolding readCodes
+loop-holds c =
+    let s = c .before .before .before .before in
+    (omega arith, refl, omega arith, s .pre .0, rw sub-self, λ p h. all-cleared _ (length (s .args .out .now)) p (c .before .clear-numbers .ensures))
+
+word-from-requires : tie.Need-word-from-requires Inv-loop μ-loop
+word-from-requires c κs = search needs
+
+zeros-in-requires : tie.Need-zeros-in-requires Inv-loop μ-loop
+zeros-in-requires c κs = search needs
+
+shr-run-in : tie.Need-shr-run-in Inv-loop μ-loop
+shr-run-in c = search needs
+
+run-in-requires : tie.Need-run-in-requires Inv-loop μ-loop
+run-in-requires c κs = search needs
+
+add-if1 : tie.Need-add-if1 Inv-loop μ-loop
+add-if1 c = search needs
+
+sub-if1 : tie.Need-sub-if1 Inv-loop μ-loop
+sub-if1 c = search needs
+
+add-i : tie.Need-add-i Inv-loop μ-loop
+add-i c = omega (arith, tests c)
+
+add-signed : tie.Need-add-signed Inv-loop μ-loop
+add-signed c = search needs
+
+add-signed-2 : tie.Need-add-signed-2 Inv-loop μ-loop
+add-signed-2 c = search needs
+
+shr-signed : tie.Need-shr-signed Inv-loop μ-loop
+shr-signed c = omega (arith, tests c)
+
+signed-requires : tie.Need-signed-requires Inv-loop μ-loop
+signed-requires c κs = omega (arith, c .before .run-in .ensures .1)
+
+mul-t31 : tie.Need-mul-t31 Inv-loop μ-loop
+mul-t31 c = search needs
+
+slice-set-from-out : tie.Need-slice-set-from-out Inv-loop μ-loop
+slice-set-from-out c = omega (arith, tests (c .before))
+
+add-i-2 : tie.Need-add-i-2 Inv-loop μ-loop
+add-i-2 c = search needs
+
+add-k : tie.Need-add-k Inv-loop μ-loop
+add-k c = search needs
+
+add-k-2 : tie.Need-add-k-2 Inv-loop μ-loop
+add-k-2 c = search needs
+
+add-k-3 : tie.Need-add-k-3 Inv-loop μ-loop
+add-k-3 c = search needs
+
+loop-less : tie.Need-loop-less Inv-loop μ-loop
+loop-less c = simp length-set (omega (arith, tests (c .before)))
+
+loop-again : tie.Need-loop-again Inv-loop μ-loop
+loop-again c =
+    let l = c .before .before .before .before .before .before .loop in
+    let f = c .before .before .before .before .before .before .before .before .before .before .before .args .buf .now in
+    let t = tests (c .before) in
+    let w = there (c .before) in
+    let a = c .before .before .before .zeros-in .result in
+    let b = c .before .before .run-in .result in
+    let x = c .before .before .before .before .word-from .result in
+    let y = toZ w64 (ofZ w64 (c .signed .result)) in
+    let room : l .i + a < length (l .out) = omega arith in
+    let v = toZ-ofZ w64 (c .signed .result) (sfits-of (c .signed .ok)) ∙ c .signed .ensures in (
+      simp length-set (omega arith),
+      length-set (l .out) (l .i + a) y ∙ l .inv .1,
+      omega arith,
+      omega arith,
+      small-turn (bitString 8 f) (fields-bits 8 f) (l .k) x a b (omega (arith, length-fields 8 f)) (w .1) (c .before .before .run-in .ensures .0) (t .1) (c .before .before .before .before .before .before .before .before .before .before .before .args .at) (l .i) (l .out) y (l .inv .2) (t .0)
+          (c .before .before .before .zeros-in .ensures .0) room (l .inv .5) (l .inv .4) v,
+      (λ p h. getD-set-other (l .out) (l .i + a) p y (pos 0) (λ e. omega arith) ∙ l .inv .5 p (omega arith)),
+    )
+
+get-slow-requires : tie.Need-get-slow-requires Inv-loop μ-loop
+get-slow-requires c κs = search needs
+
+enum-told : tie.Need-enum-told Inv-loop μ-loop
+enum-told c = search needs
+
+same-length : tie.Need-same-length Inv-loop μ-loop
+same-length c = search needs
+
+returns : tie.Need-returns Inv-loop μ-loop
+returns c =
+    let g = c .before .before in
+    let a = c .before .before .before .before .before .before .before .before .before .before .before .before .before .args in
+    let l = c .before .before .before .before .before .before .before .before .loop in
+    let F = bitString 8 (a .buf .now) in
+    let n = c .before .before .before .before .before .before .before .before .before .before .clear-numbers .kept .0 in
+    let f = got-bad (l .k) (readCode 0 (drop (l .k) F)) (sym (c .enum-told .given .1) ∙ g .get-slow .ensures) in
+    let p : a .at + (l .k - a .at) ≡ l .k = omega arith in
+    let d : readCode 0 (drop (l .k - a .at) (drop (a .at) F)) ≡ none = ap (readCode 0) (drop-drop (l .k - a .at) (a .at) F ∙ ap (λ (m : ℕ). drop m F) p) ∙ f in
+    rw (none-left 0 (drop (a .at) F) (l .i) (l .k - a .at) (length (a .out .now)) (take (l .i) (l .out)) (l .inv .4) d (omega arith)) refl
+
+enum-known-z : tie.Need-enum-known-z Inv-loop μ-loop
+enum-known-z c = search needs
+
+mul-z : tie.Need-mul-z Inv-loop μ-loop
+mul-z c = search needs
+
+slice-set-from-z : tie.Need-slice-set-from-z Inv-loop μ-loop
+slice-set-from-z c = search needs
+
+add-i-3 : tie.Need-add-i-3 Inv-loop μ-loop
+add-i-3 c = search needs
+
+loop-less-2 : tie.Need-loop-less-2 Inv-loop μ-loop
+loop-less-2 c = simp length-set (omega arith)
+
+loop-again-2 : tie.Need-loop-again-2 Inv-loop μ-loop
+loop-again-2 c =
+    let g = c .before .before .before in
+    let a = c .before .before .before .before .before .before .before .before .before .before .before .before .before .before .args in
+    let l = c .before .before .before .before .before .before .before .before .before .loop in
+    let F = bitString 8 (a .buf .now) in
+    let t = drop (a .at) F in
+    let z = c .before .z .given .0 .0 in
+    let next = c .before .z .given .0 .1 .0 in
+    let f = got-code (l .k) (readCode 0 (drop (l .k) F)) z next (sym (c .before .z .given .1) ∙ g .get-slow .ensures) in
+    let p : a .at + (l .k - a .at) ≡ l .k = omega arith in
+    let d : readCode 0 (drop (l .k - a .at) t) ≡ some (z, f .0) = ap (readCode 0) (drop-drop (l .k - a .at) (a .at) F ∙ ap (λ (m : ℕ). drop m F) p) ∙ f .1 in
+    let r = read-le 0 (drop (l .k) F) z (f .0) (f .1) in
+    let n : length (drop (l .k) F) ≡ length (a .buf .now) * 8 - l .k = length-drop (l .k) F ∙ ap (λ (k : ℕ). k - l .k) (length-fields 8 (a .buf .now)) in
+    let s : SFits w64 z = search needs in
+    let h : l .i < length (l .out) = omega arith in
+    let x : l .k - a .at + f .0 ≡ next - a .at = omega (arith, f .2) in (
+      simp length-set (omega arith),
+      length-set (l .out) (l .i) _ ∙ l .inv .1,
+      omega (arith, f .2),
+      omega (arith, f .2),
+      read-turn 0 t (l .i) (l .k - a .at) (f .0) (next - a .at) (l .out) z _ h (toZ-ofZ w64 z s) (l .inv .4) d x,
+      (λ q e. getD-set-other (l .out) (l .i) q _ (pos 0) (λ o. omega arith) ∙ l .inv .5 q (omega arith)),
+    )
+
+same-length-2 : tie.Need-same-length-2 Inv-loop μ-loop
+same-length-2 c = search needs
+
+returns-2 : tie.Need-returns-2 Inv-loop μ-loop
+returns-2 c =
+    let l = c .before .loop in
+    let a = c .before .before .before .before .before .before .args in
+    let n = c .before .before .before .clear-numbers .kept .0 in
+    let e : length (a .out .now) ≡ l .i = omega arith in
+    let p : l .k ≡ a .at + (l .k - a .at) = omega arith in
+    rw (e, l .inv .4) (ap At p, sym (take-all (l .i) (l .out) (omega arith)))
+
+pub get-small-spec : {M : Type 1} → statement M
+get-small-spec =
+    tie.close
+    (tie.spec
+    Inv-loop
+    μ-loop
+    clear-numbers-requires
+    loop-holds
+    word-from-requires
+    zeros-in-requires
+    shr-run-in
+    run-in-requires
+    add-if1
+    sub-if1
+    add-i
+    add-signed
+    add-signed-2
+    shr-signed
+    signed-requires
+    mul-t31
+    slice-set-from-out
+    add-i-2
+    add-k
+    add-k-2
+    add-k-3
+    loop-less
+    loop-again
+    get-slow-requires
+    enum-told
+    same-length
+    returns
+    enum-known-z
+    mul-z
+    slice-set-from-z
+    add-i-3
+    loop-less-2
+    loop-again-2
+    same-length-2
+    returns-2)
