@@ -119,16 +119,18 @@ module _ (w : ℕ) (t : List ℕ) where
       read-some s e h = rw (← is-n, lt-ltb _ _ stop, ← m-is, ne-eqb m 0 some-m, lt-ltb _ _ h, ← e)
 
 -- the code's own numbers are those of the definition
+
+module _ (w n : ℕ) (few : n < 2 ^ 20) (narrow : w ≤ 40) where
+  pub mag-exact : n * 2 ^ w % 2 ^ 64 ≡ n * 2 ^ w
+  mag-exact = shl-exact {a = n} 20 w 64 few (omega arith)
+
+  pub mag-lt : (low : ℕ) → low < 2 ^ w → low + n * 2 ^ w % 2 ^ 64 < 2 ^ 63
+  mag-lt low h = omega (arith, mag-exact, shl-lt {a = n} 20 w few, pow-mono {i = 20 + w} {j = 60} (omega arith), pow-mono {i = w} {j = 40} narrow)
+
 module _ (l : List ℕ) (at w n : ℕ) (is-run : n ≡ runOf (drop (at + w) l)) where
   pub run-is : n ≡ runOf (drop w (drop at l))
   run-is = is-run ∙ ap runOf (sym (drop-drop w at l))
 
-  module _ (few : n < 2 ^ 20) (narrow : w ≤ 40) (low : ℕ) where
-    exact : n * 2 ^ w % 2 ^ 64 ≡ n * 2 ^ w
-    exact = shl-exact {a = n} 20 w 64 few (omega arith)
-
-    pub mag-is : low ≡ valOf (take w (drop at l)) → low + n * 2 ^ w % 2 ^ 64 ≡ magOf w (drop at l)
-    mag-is e = ap (λ (k : ℕ). low + k) exact ∙ ap (λ (k : ℕ). k + n * 2 ^ w) e ∙ ap (λ (k : ℕ). valOf (take w (drop at l)) + k * 2 ^ w) run-is
-
-    pub mag-lt : low < 2 ^ w → low + n * 2 ^ w % 2 ^ 64 < 2 ^ 63
-    mag-lt h = omega (arith, exact, shl-lt {a = n} 20 w few, pow-mono {i = 20 + w} {j = 60} (omega arith), pow-mono {i = w} {j = 40} narrow)
+  pub mag-is : n < 2 ^ 20 → w ≤ 40 → (low : ℕ) → low ≡ valOf (take w (drop at l)) → low + n * 2 ^ w % 2 ^ 64 ≡ magOf w (drop at l)
+  mag-is few narrow low e =
+      ap (λ (k : ℕ). low + k) (mag-exact w n few narrow) ∙ ap (λ (k : ℕ). k + n * 2 ^ w) e ∙ ap (λ (k : ℕ). valOf (take w (drop at l)) + k * 2 ^ w) run-is

@@ -153,8 +153,8 @@ fn run(buf: &[u8], at: usize) -> usize
     n
 }
 
-// The number that the bits from `at` on begin with, bit by bit where its run is.
-fn get_slow(buf: &[u8], at: usize, w: usize) -> Got
+// The number that the bits from `at` on begin with.
+pub(crate) fn get_code(buf: &[u8], at: usize, w: usize) -> Got
     requires { ⌜ at ≤ length (now buf) * 8 ⌝ }
     requires { ⌜ length (now buf) < 2 ^ 17 ⌝ }
     requires { ⌜ w ≤ 40 ⌝ }
@@ -187,8 +187,9 @@ fn get_slow(buf: &[u8], at: usize, w: usize) -> Got
 
 // How many ones x has below its lowest zero.
 fn run_in(x: u64) -> usize
+    requires { ⌜ x < 2 ^ 56 ⌝ }
     ensures { λ r. ⌜ r ≡ runOf (bitsOf 64 x) ⌝ }
-    ensures { λ r. ⌜ r ≤ 64 ⌝ }
+    ensures { λ r. ⌜ r ≤ 56 ⌝ }
 {
     u64::trailing_zeros(!x) as usize
 }
@@ -205,33 +206,35 @@ fn zeros_in(x: u64) -> usize
     n
 }
 
-// The number that the bits from `at` on begin with: run, stop bit and sign in one word, where they are in 56 bits.
-pub(crate) fn get_code(buf: &[u8], at: usize, w: usize) -> Got
-    requires { ⌜ at ≤ length (now buf) * 8 ⌝ }
+// The number of the 56 bits from `at` on, or 0 where fewer are left.
+fn word_from(buf: &[u8], at: usize) -> u64
+    requires { ⌜ at < 2 ^ 32 ⌝ }
     requires { ⌜ length (now buf) < 2 ^ 17 ⌝ }
-    requires { ⌜ w ≤ 40 ⌝ }
-    ensures { λ r. ⌜ r ≡ gotOf at (readCode w (drop at (bitString 8 (now (buf .entry))))) ⌝ }
+    ensures { λ r. ⌜ r ≡ pick (leb (at + 56) (length (now (buf .entry)) * 8)) (valOf (take 56 (drop at (bitString 8 (now (buf .entry)))))) 0 ⌝ }
+    ensures { λ r. ⌜ r < 2 ^ 56 ⌝ }
 {
-    let a = at + w;
-    if buf.len() * 8 < a + 56 {
-        return get_slow(buf, at, w);
+    if buf.len() * 8 < at + 56 {
+        return 0;
     }
-    let x = bits::get_bits(buf, a, 56);
-    let n = run_in(x);
-    if 54 < n {
-        return get_slow(buf, at, w);
-    }
-    let m = bits::get_bits(buf, at, w) + ((n as u64) << w);
-    if m == 0 {
-        return get_slow(buf, at, w);
-    }
-    Got::Code {
-        z: int::signed(m, (x >> (n + 1)) % 2),
-        next: a + n + 2,
-    }
+    bits::get_bits(buf, at, 56)
 }
 
-// Reads numbers from bit `at` on, one at a time.
+// The absolute value of w low bits from `at` on and n ones, or 0 where there are fewer than w bits.
+fn mag_from(buf: &[u8], at: usize, w: usize, n: usize) -> u64
+    requires { ⌜ at < 2 ^ 32 ⌝ }
+    requires { ⌜ length (now buf) < 2 ^ 17 ⌝ }
+    requires { ⌜ w ≤ 40 ⌝ }
+    requires { ⌜ n ≤ 56 ⌝ }
+    ensures { λ r. ⌜ r ≡ pick (leb (at + w) (length (now (buf .entry)) * 8)) (valOf (take w (drop at (bitString 8 (now (buf .entry))))) + n * 2 ^ w) 0 ⌝ }
+    ensures { λ r. ⌜ r < 2 ^ 63 ⌝ }
+{
+    if buf.len() * 8 < at + w {
+        return 0;
+    }
+    bits::get_bits(buf, at, w) + ((n as u64) << w)
+}
+
+// Reads numbers from bit `at` on, two at a time where a word has the run of each: the second word is loaded before the first run is known.
 fn get_wide(buf: &[u8], at: usize, w: usize, out: &mut [i64]) -> Next
     requires { ⌜ at ≤ length (now buf) * 8 ⌝ }
     requires { ⌜ length (now buf) < 2 ^ 17 ⌝ }
@@ -241,6 +244,20 @@ fn get_wide(buf: &[u8], at: usize, w: usize, out: &mut [i64]) -> Next
     let mut k = at;
     let mut i: usize = 0;
     while i < out.len() {
+        let x = word_from(buf, k + w);
+        let y = word_from(buf, k + w + w + 2);
+        let a = run_in(x);
+        let b = run_in(y >> a);
+        let p = k + w + a + 2;
+        let m = mag_from(buf, k, w, a);
+        let n = mag_from(buf, p, w, b);
+        if (y != 0) & (a + b <= 54) & (1 < out.len() - i) & (m != 0) & (n != 0) {
+            out[i] = int::signed(m, (x >> (a + 1)) % 2);
+            out[i + 1] = int::signed(n, (y >> (a + b + 1)) % 2);
+            k = p + w + b + 2;
+            i += 2;
+            continue;
+        }
         match get_code(buf, k, w) {
             Got::Bad => {
                 return Next::No;
@@ -266,18 +283,6 @@ fn clear_numbers(out: &mut [i64])
     }
 }
 
-// The number of the 56 bits from `at` on, or 0 where fewer are left.
-fn word_from(buf: &[u8], at: usize) -> u64
-    requires { ⌜ at ≤ length (now buf) * 8 ⌝ }
-    requires { ⌜ length (now buf) < 2 ^ 17 ⌝ }
-    ensures { λ r. ⌜ r ≡ pick (leb (at + 56) (length (now (buf .entry)) * 8)) (valOf (take 56 (drop at (bitString 8 (now (buf .entry)))))) 0 ⌝ }
-{
-    if buf.len() * 8 < at + 56 {
-        return 0;
-    }
-    bits::get_bits(buf, at, 56)
-}
-
 // Reads numbers with no low bits (w is 0) from bit `at` on: a 0 is one bit 0, so that a word shows at once how many there are before the next number.
 fn get_small(buf: &[u8], at: usize, out: &mut [i64]) -> Next
     requires { ⌜ at ≤ length (now buf) * 8 ⌝ }
@@ -298,7 +303,7 @@ fn get_small(buf: &[u8], at: usize, out: &mut [i64]) -> Next
             k += a + b + 2;
             continue;
         }
-        match get_slow(buf, k, 0) {
+        match get_code(buf, k, 0) {
             Got::Bad => {
                 return Next::No;
             }

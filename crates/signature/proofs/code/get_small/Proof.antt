@@ -6,6 +6,7 @@ use native.Mathlib.Nat.{sub-self}
 use lib.IntN.{ℤ, pos}
 use lib.ListN.{length, getD, take, drop, length-set, length-drop}
 use lib.Seq.{take-all, drop-drop, getD-set-other}
+use lib.Pow.{shr-le}
 use borrow.Author.Needs.{sfits-of}
 use mir.Syntax.{w64}
 use mir.Val.{SFits, toZ, ofZ}
@@ -15,18 +16,10 @@ use Rattle.signature.specs.Code.{readCode, readCodes}
 use Rattle.signature.specs.declared.code.Next.the-variants.{At}
 use Rattle.signature.proofs.Strings.{length-fields, fields-bits}
 use Rattle.signature.proofs.Lists.{got-code, got-bad, read-turn, none-left, read-le}
-use Rattle.signature.proofs.WordReads.{small-turn, word-there, word-tests, all-cleared}
+use Rattle.signature.proofs.WordReads.{small-turn, there, there-is, run-some, small-tests, all-cleared}
 use borrow.Author.Needs.{needs}
 use Rattle.signature.proofs.code.get_small.Statement.{statement}
 use Rattle.signature.proofs.code.get_small.Tie as tie
-use Rattle.signature.proofs.code.get_small.Reads as reads
-use Rattle.signature.proofs.code.get_small.Lts as lts
-use Rattle.signature.proofs.code.clear_numbers.Reads as clear-numbers-reads
-use Rattle.signature.proofs.code.get_slow.Reads as get-slow-reads
-use Rattle.signature.proofs.code.run_in.Reads as run-in-reads
-use Rattle.signature.proofs.code.word_from.Reads as word-from-reads
-use Rattle.signature.proofs.code.zeros_in.Reads as zeros-in-reads
-use Rattle.signature.proofs.int.signed.Reads as signed-reads
 
 abbrev Inv-loop : tie.InvT-loop
 Inv-loop buf at out₀ k₀ i₀ out k i =
@@ -39,14 +32,10 @@ abbrev μ-loop : tie.MeasureT-loop
 -- what the code's tests say, and the word that they were made on
 tests : (c : tie.Then1 Inv-loop μ-loop) → let a = c .before .before .zeros-in .result in let b = c .before .run-in .result in
     (0 < b) × (a + b ≤ 54) × (a < length (c .before .before .before .before .before .loop .out) - c .before .before .before .before .before .loop .i)
-tests c = word-tests (c .before .before .zeros-in .result) (c .before .run-in .result) (length (c .before .before .before .before .before .loop .out) - c .before .before .before .before .before .loop .i) (c .if1 .taken)
+tests c = small-tests (c .before .before .zeros-in .result) (c .before .run-in .result) (length (c .before .before .before .before .before .loop .out) - c .before .before .before .before .before .loop .i) (c .if1 .taken)
 
-there : (c : tie.Then1 Inv-loop μ-loop) → let f = c .before .before .before .before .before .before .before .before .before .before .args .buf .now in
-    (c .before .before .before .before .before .loop .k + 56 ≤ length f * 8) × (c .before .before .before .word-from .result ≡ valOf (take 56 (drop (c .before .before .before .before .before .loop .k) (bitString 8 f))))
-there c =
-    let f = c .before .before .before .before .before .before .before .before .before .before .args .buf .now in
-    word-there (c .before .before .before .before .before .loop .k + 56) (length f * 8) (valOf (take 56 (drop (c .before .before .before .before .before .loop .k) (bitString 8 f)))) (c .before .before .before .word-from .result) (c .before .before .zeros-in .result)
-    (c .before .run-in .result) (c .before .before .before .word-from .ensures) (c .before .run-in .ensures .0) (tests c .0)
+inside : (c : tie.Then1 Inv-loop μ-loop) → c .before .before .before .before .before .loop .k + 56 ≤ length (c .before .before .before .before .before .before .before .before .before .before .args .buf .now) * 8
+inside c = there _ _ _ _ (c .before .before .before .word-from .ensures .0) (run-some _ _ _ (c .before .run-in .ensures .0) (tests c .0))
 
 clear-numbers-requires : tie.Need-clear-numbers-requires Inv-loop μ-loop
 clear-numbers-requires c κs = search needs
@@ -67,7 +56,7 @@ shr-run-in : tie.Need-shr-run-in Inv-loop μ-loop
 shr-run-in c = search needs
 
 run-in-requires : tie.Need-run-in-requires Inv-loop μ-loop
-run-in-requires c κs = search needs
+run-in-requires c κs = omega (arith, c .before .word-from .ensures .1, shr-le (c .before .word-from .result) (c .zeros-in .result))
 
 add-if1 : tie.Need-add-if1 Inv-loop μ-loop
 add-if1 c = search needs
@@ -116,7 +105,7 @@ loop-again c =
     let l = c .before .before .before .before .before .before .loop in
     let f = c .before .before .before .before .before .before .before .before .before .before .before .args .buf .now in
     let t = tests (c .before) in
-    let w = there (c .before) in
+    let w = inside (c .before) in
     let a = c .before .before .before .zeros-in .result in
     let b = c .before .before .run-in .result in
     let x = c .before .before .before .before .word-from .result in
@@ -127,13 +116,13 @@ loop-again c =
       length-set (l .out) (l .i + a) y ∙ l .inv .1,
       omega arith,
       omega arith,
-      small-turn (bitString 8 f) (fields-bits 8 f) (l .k) x a b (omega (arith, length-fields 8 f)) (w .1) (c .before .before .run-in .ensures .0) (t .1) (c .before .before .before .before .before .before .before .before .before .before .before .args .at) (l .i) (l .out) y (l .inv .2) (t .0)
-          (c .before .before .before .zeros-in .ensures .0) room (l .inv .5) (l .inv .4) v,
+      small-turn (bitString 8 f) (c .before .before .before .before .before .before .before .before .before .before .before .args .at) (l .k) (l .i) (l .inv .2) (fields-bits 8 f) x a b (l .out) y (omega (arith, length-fields 8 f))
+          (there-is _ _ _ _ (c .before .before .before .before .word-from .ensures .0) w) (c .before .before .run-in .ensures .0) (t .1) (t .0) (c .before .before .before .zeros-in .ensures .0) room (l .inv .5) (l .inv .4) v,
       (λ p h. getD-set-other (l .out) (l .i + a) p y (pos 0) (λ e. omega arith) ∙ l .inv .5 p (omega arith)),
     )
 
-get-slow-requires : tie.Need-get-slow-requires Inv-loop μ-loop
-get-slow-requires c κs = search needs
+get-code-requires : tie.Need-get-code-requires Inv-loop μ-loop
+get-code-requires c κs = search needs
 
 enum-told : tie.Need-enum-told Inv-loop μ-loop
 enum-told c = search needs
@@ -148,7 +137,7 @@ returns c =
     let l = c .before .before .before .before .before .before .before .before .loop in
     let F = bitString 8 (a .buf .now) in
     let n = c .before .before .before .before .before .before .before .before .before .before .clear-numbers .kept .0 in
-    let f = got-bad (l .k) (readCode 0 (drop (l .k) F)) (sym (c .enum-told .given .1) ∙ g .get-slow .ensures) in
+    let f = got-bad (l .k) (readCode 0 (drop (l .k) F)) (sym (c .enum-told .given .1) ∙ g .get-code .ensures) in
     let p : a .at + (l .k - a .at) ≡ l .k = omega arith in
     let d : readCode 0 (drop (l .k - a .at) (drop (a .at) F)) ≡ none = ap (readCode 0) (drop-drop (l .k - a .at) (a .at) F ∙ ap (λ (m : ℕ). drop m F) p) ∙ f in
     rw (none-left 0 (drop (a .at) F) (l .i) (l .k - a .at) (length (a .out .now)) (take (l .i) (l .out)) (l .inv .4) d (omega arith)) refl
@@ -177,7 +166,7 @@ loop-again-2 c =
     let t = drop (a .at) F in
     let z = c .before .z .given .0 .0 in
     let next = c .before .z .given .0 .1 .0 in
-    let f = got-code (l .k) (readCode 0 (drop (l .k) F)) z next (sym (c .before .z .given .1) ∙ g .get-slow .ensures) in
+    let f = got-code (l .k) (readCode 0 (drop (l .k) F)) z next (sym (c .before .z .given .1) ∙ g .get-code .ensures) in
     let p : a .at + (l .k - a .at) ≡ l .k = omega arith in
     let d : readCode 0 (drop (l .k - a .at) t) ≡ some (z, f .0) = ap (readCode 0) (drop-drop (l .k - a .at) (a .at) F ∙ ap (λ (m : ℕ). drop m F) p) ∙ f .1 in
     let r = read-le 0 (drop (l .k) F) z (f .0) (f .1) in
@@ -232,7 +221,7 @@ get-small-spec =
     add-k-3
     loop-less
     loop-again
-    get-slow-requires
+    get-code-requires
     enum-told
     same-length
     returns

@@ -19,7 +19,7 @@ add-if1 c = search needs
 returns : tie.Need-returns
 returns c =
     let a = c .before .before .args in
-    sym (ap (λ (b : Bool). pick b (valOf (take 56 (drop (a .at) (bitString 8 (a .buf .now))))) 0) (lt-leb (a .at + 56) (length (a .buf .now) * 8) (omega (arith, c .if1 .taken))))
+    (sym (ap (λ (b : Bool). pick b (valOf (take 56 (drop (a .at) (bitString 8 (a .buf .now))))) 0) (lt-leb (a .at + 56) (length (a .buf .now) * 8) (omega (arith, c .if1 .taken)))), omega arith)
 
 get-bits-requires : tie.Need-get-bits-requires
 get-bits-requires c κs = search needs
@@ -27,8 +27,8 @@ get-bits-requires c κs = search needs
 returns-2 : tie.Need-returns-2
 returns-2 c =
     let a = c .before .before .before .args in
-    c .get-bits .ensures .0
-    ∙ sym (ap (λ (b : Bool). pick b (valOf (take 56 (drop (a .at) (bitString 8 (a .buf .now))))) 0) (le-leb (a .at + 56) (length (a .buf .now) * 8) (omega (arith, c .before .if1 .left))))
+    let e = le-leb (a .at + 56) (length (a .buf .now) * 8) (omega (arith, c .before .if1 .left)) in
+    (c .get-bits .ensures .0 ∙ sym (ap (λ (b : Bool). pick b (valOf (take 56 (drop (a .at) (bitString 8 (a .buf .now))))) 0) e), c .get-bits .ensures .1)
 
 pub word-from-spec : {M : Type 1} → statement M
 word-from-spec = tie.close (tie.spec mul-if1 add-if1 returns get-bits-requires returns-2)
