@@ -1,7 +1,7 @@
 -- Codes as numbers: one number for the bits of a code, and codes held in a word before they are stored.
 use Prim.Native.Nat.{ℕ, zero, suc, _+_, _*_, _-_, _/_, _%_, _^_, _≤_, _<_}
 use mathlib.Core.Path.{_≡_, refl, sym, ap, _∙_}
-use mathlib.Core.List.{List, [], _∷_, _++_}
+use mathlib.Core.List.{List, _∷_, _++_}
 use native.Mathlib.Omega.{arith}
 use native.Mathlib.Nat.{mod-lt, mod-eq-of-lt, pow-suc, mul-assoc, mul-comm, add-mul, one-mul}
 use lib.Dec.{lit<}
@@ -24,8 +24,8 @@ module _ (w : ℕ) (z : ℤ) where
   code-held : bitsOf (codeBits w z) (valOf (code w z)) ≡ code w z
   code-held = ap (λ (n : ℕ). bitsOf n (valOf (code w z))) (sym (one-length w z)) ∙ bits-val (code w z) (code-are w z)
 
-  pub word-below : (n v : ℕ) → n ≡ codeBits w z → v ≡ valOf (code w z) → v < 2 ^ n
-  word-below n v e f = rw (e, f, ← one-length w z) (val-lt (code w z) (code-are w z))
+  pub code-word-below : (n v : ℕ) → n ≡ codeBits w z → v ≡ valOf (code w z) → v < 2 ^ n
+  code-word-below n v e f = rw (e, f, ← one-length w z) (val-lt (code w z) (code-are w z))
 
 -- ---- its number
 
@@ -95,7 +95,7 @@ module _ (w m s n : ℕ) (is-n : n ≡ m / 2 ^ w) (plus : m ≡ 0 → s ≡ 0) w
 -- ---- codes held: the `have` bits of `held` go to p
 
 module _ (have held v n : ℕ) (l : held < 2 ^ have) (k : v < 2 ^ n) (room : have + n ≤ 56) where
-  pub held-exact : v * 2 ^ have % 2 ^ 64 ≡ v * 2 ^ have
+  held-exact : v * 2 ^ have % 2 ^ 64 ≡ v * 2 ^ have
   held-exact = shl-exact {a = v} n have 64 k (omega arith)
 
   pub held-lt : held + v * 2 ^ have % 2 ^ 64 < 2 ^ (have + n)
@@ -115,8 +115,8 @@ hold-more B p have held v n vs l e =
 -- a turn of the writer: number z, the one at place i, goes behind those that are stored or held
 module _ (w : ℕ) (zs : List ℤ) (i : ℕ) (h : i < length zs) (z : ℤ) (is-z : z ≡ getD zs i (pos 0)) (F B : List ℕ) (at p have held : ℕ)
     (so-far : sets B p (bitsOf have held) ≡ sets F at (codes w (take i zs))) (place : p + have ≡ at + length (codes w (take i zs))) where
-  behind : (m : List ℕ) → m ≡ sets (sets B p (bitsOf have held)) (p + have) (code w z) → m ≡ sets F at (codes w (take (i + 1) zs))
-  behind m e =
+  after-held : (m : List ℕ) → m ≡ sets (sets B p (bitsOf have held)) (p + have) (code w z) → m ≡ sets F at (codes w (take (i + 1) zs))
+  after-held m e =
       write-more w zs i h F (sets B p (bitsOf have held)) m at so-far
       (e ∙ ap (λ (k : ℕ). sets (sets B p (bitsOf have held)) k (code w z)) place
       ∙ ap (λ (y : ℤ). sets (sets B p (bitsOf have held)) (at + length (codes w (take i zs))) (code w y)) is-z)
@@ -125,15 +125,17 @@ module _ (w : ℕ) (zs : List ℤ) (i : ℕ) (h : i < length zs) (z : ℤ) (is-z
     bits-are : bitsOf n v ≡ code w z
     bits-are = ap (λ (k : ℕ). bitsOf k v) is-n ∙ ap (bitsOf (codeBits w z)) is-v ∙ code-held w z
 
-    pub turn-hold : held < 2 ^ have → have + n ≤ 56 → v < 2 ^ n → sets B p (bitsOf (have + n) (held + v * 2 ^ have % 2 ^ 64)) ≡ sets F at (codes w (take (i + 1) zs))
+    pub turn-hold : held < 2 ^ have → have + n ≤ 56 → v < 2 ^ n
+        → sets B p (bitsOf (have + n) (held + v * 2 ^ have % 2 ^ 64)) ≡ sets F at (codes w (take (i + 1) zs))
     turn-hold l r k =
-        behind _ (ap (λ (x : ℕ). sets B p (bitsOf (have + n) (held + x))) (held-exact have held v n l k r) ∙ hold-more B p have held v n (code w z) l bits-are)
+        after-held _ (ap (λ (x : ℕ). sets B p (bitsOf (have + n) (held + x))) (held-exact have held v n l k r)
+        ∙ hold-more B p have held v n (code w z) l bits-are)
 
     pub turn-store : (B′ : List ℕ) → B′ ≡ sets B p (bitsOf have held) → sets B′ (p + have) (bitsOf n v) ≡ sets F at (codes w (take (i + 1) zs))
-    turn-store B′ e = behind _ (ap (sets B′ (p + have)) bits-are ∙ ap (λ (l : List ℕ). sets l (p + have) (code w z)) e)
+    turn-store B′ e = after-held _ (ap (sets B′ (p + have)) bits-are ∙ ap (λ (l : List ℕ). sets l (p + have) (code w z)) e)
 
   pub turn-slow : (B′ B″ : List ℕ) → B′ ≡ sets B p (bitsOf have held) → B″ ≡ sets B′ (p + have) (code w z) → B″ ≡ sets F at (codes w (take (i + 1) zs))
-  turn-slow B′ B″ e f = behind B″ (f ∙ ap (λ (l : List ℕ). sets l (p + have) (code w z)) e)
+  turn-slow B′ B″ e f = after-held B″ (f ∙ ap (λ (l : List ℕ). sets l (p + have) (code w z)) e)
 
 -- a code that lies in 2 ^ 20 bits is that of a number below 2 ^ 62
 pub mag-room : (w : ℕ) (z : ℤ) → w ≤ 40 → length (code w z) < 2 ^ 20 → natAbs z < 2 ^ 62

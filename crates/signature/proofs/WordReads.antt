@@ -69,7 +69,7 @@ unfolding runOf
 same-run zero l t j f h = refl
 same-run (suc b) l t j f h = ap suc (f (le-of-suc-le-suc h))
 
-pub run-window : (t : List ℕ) (j k x : ℕ) → Bits t → j ≤ length t → j ≤ k → x ≡ valOf (take j t) → runOf (bitsOf k x) < j → runOf (bitsOf k x) ≡ runOf t
+run-window : (t : List ℕ) (j k x : ℕ) → Bits t → j ≤ length t → j ≤ k → x ≡ valOf (take j t) → runOf (bitsOf k x) < j → runOf (bitsOf k x) ≡ runOf t
 unfolding bitsOf valOf
 run-window t zero k x b l h e r = absurd (not-suc-le-zero r)
 run-window [] (suc j) k x b l h e r = absurd (not-suc-le-zero l)
@@ -80,9 +80,10 @@ run-window (d ∷ t) (suc j) (suc k) x b l h e r =
     let half : x / 2 ≡ valOf (take j t) = omega arith in
     let R = bitsOf k (x / 2) in
     ap (λ (n : ℕ). runOf (n ∷ R)) low
-    ∙ same-run d R t j (λ g. run-window t j k (x / 2) (λ i. b (suc i)) (le-of-suc-le-suc l) (le-of-suc-le-suc h) half g) (subst (λ (n : ℕ). runOf (n ∷ R) < suc j) low r)
+    ∙ same-run d R t j (λ g. run-window t j k (x / 2) (λ i. b (suc i)) (le-of-suc-le-suc l) (le-of-suc-le-suc h) half g)
+    (subst (λ (n : ℕ). runOf (n ∷ R) < suc j) low r)
 
-pub bit-window : (t : List ℕ) (j x p : ℕ) → Bits t → j ≤ length t → x ≡ valOf (take j t) → p < j → x / 2 ^ p % 2 ≡ getD t p 0
+bit-window : (t : List ℕ) (j x p : ℕ) → Bits t → j ≤ length t → x ≡ valOf (take j t) → p < j → x / 2 ^ p % 2 ≡ getD t p 0
 bit-window t j x p b l e h =
     let g : bitsOf j x ≡ take j t =
     ap (bitsOf j) e ∙ ap (λ (n : ℕ). bitsOf n (valOf (take j t))) (sym (length-take-le j t l)) ∙ bits-val (take j t) (bits-take j t b) in
@@ -99,7 +100,8 @@ shift-window t j x a b l h e =
     let k = length-take-le j t l in
     let s : a + (j - a) ≡ j = omega arith in
     let d : drop a (take j t) ≡ take (j - a) (drop a t) =
-    ap (λ (n : ℕ). drop a (take n t)) (sym s) ∙ ap (drop a) (take-add a (j - a) t) ∙ drop-at (take a t) (take (j - a) (drop a t)) a (length-take-le a t (omega arith)) in
+    ap (λ (n : ℕ). drop a (take n t)) (sym s) ∙ ap (drop a) (take-add a (j - a) t)
+    ∙ drop-at (take a t) (take (j - a) (drop a t)) a (length-take-le a t (omega arith)) in
     ap (λ (n : ℕ). n / 2 ^ a) e ∙ val-drop (take j t) (bits-take j t b) a (omega arith) ∙ ap valOf d
 
 -- ---- numbers with no low bits: zeros, then a number that is not 0
@@ -115,7 +117,8 @@ skip-zeros : (a : ℕ) (t : List ℕ) (out : List ℤ) (i j : ℕ) → ((p : ℕ
     → readCodes 0 i t ≡ some (take i out, j) → valOf (take a (drop j t)) ≡ 0 → j + a ≤ length t → readCodes 0 (i + a) t ≡ some (take (i + a) out, j + a)
 unfolding valOf
 skip-zeros zero t out i j rest h e v l =
-    ap (λ (n : ℕ). readCodes 0 n t) (add-zero i) ∙ e ∙ ap (λ (n : ℕ). some (take n out, j)) (sym (add-zero i)) ∙ ap (λ (n : ℕ). some (take (i + 0) out, n)) (sym (add-zero j))
+    ap (λ (n : ℕ). readCodes 0 n t) (add-zero i) ∙ e ∙ ap (λ (n : ℕ). some (take n out, j)) (sym (add-zero i))
+    ∙ ap (λ (n : ℕ). some (take (i + 0) out, n)) (sym (add-zero j))
 skip-zeros (suc a) t out i j rest h e v l =
     let u : getD t j 0 + 2 * valOf (take a (drop (suc j) t)) ≡ 0 = sym (ap (λ (m : List ℕ). valOf (take (suc a) m)) (drop-cons t j 0 (omega arith))) ∙ v in
     let z : getD t j 0 ≡ 0 = omega arith in
@@ -125,21 +128,23 @@ skip-zeros (suc a) t out i j rest h e v l =
     let m = read-more 0 t i j 1 (take i out) (pos 0) e (zero-read t j (omega arith) z) ∙ ap (λ (x : List ℤ). some (x, j + 1)) n in
     let p : i + suc a ≡ i + 1 + a = omega arith in
     let q : j + suc a ≡ j + 1 + a = omega arith in
-    let f = skip-zeros a t out (i + 1) (j + 1) (λ k g. rest k (omega arith)) (omega arith) m (ap (λ (k : ℕ). valOf (take a (drop k t))) (add-one j) ∙ r) (omega arith) in
+    let y = ap (λ (k : ℕ). valOf (take a (drop k t))) (add-one j) ∙ r in
+    let f = skip-zeros a t out (i + 1) (j + 1) (λ k g. rest k (omega arith)) (omega arith) m y (omega arith) in
     ap (λ (k : ℕ). readCodes 0 k t) p ∙ f ∙ ap (λ (k : ℕ). some (take k out, j + 1 + a)) (sym p) ∙ ap (λ (k : ℕ). some (take (i + suc a) out, k)) (sym q)
 
 -- ---- a code whose run is in a word: x is the word at q, the run starts at its bit a
 
 module _ (F : List ℕ) (bits : Bits F) (q x a n : ℕ) (inside : q + 56 ≤ length F) (word : x ≡ valOf (take 56 (drop q F)))
     (run : n ≡ runOf (bitsOf 64 (x / 2 ^ a))) (few : a + n ≤ 54) where
-  left : length (drop q F) ≡ length F - q
-  left = length-drop q F
+  word-left : length (drop q F) ≡ length F - q
+  word-left = length-drop q F
 
   word-run : n ≡ runOf (drop (q + a) F)
   word-run =
-      let t = drop a (drop q F) in
-      run ∙ run-window t (56 - a) 64 (x / 2 ^ a) (bits-drop a (drop q F) (bits-drop q F bits)) (omega (arith, left, length-drop a (drop q F))) (omega arith)
-      (shift-window (drop q F) 56 x a (bits-drop q F bits) (omega (arith, left)) (omega arith) word) (omega (arith, run)) ∙ ap runOf (drop-drop a q F)
+      let D = drop q F in
+      let t = drop a D in
+      run ∙ run-window t (56 - a) 64 (x / 2 ^ a) (bits-drop a D (bits-drop q F bits)) (omega (arith, word-left, length-drop a D)) (omega arith)
+      (shift-window D 56 x a (bits-drop q F bits) (omega (arith, word-left)) (omega arith) word) (omega (arith, run)) ∙ ap runOf (drop-drop a q F)
 
   -- the code at k, with w low bits
   word-code : (k w m : ℕ) → k + w ≡ q + a → m ≡ valOf (take w (drop k F)) + n * 2 ^ w → (m ≡ 0 → ⊥)
@@ -150,14 +155,14 @@ module _ (F : List ℕ) (bits : Bits F) (q x a n : ℕ) (inside : q + 56 ≤ len
       let r : n ≡ runOf (drop w t) = word-run ∙ ap (λ (j : ℕ). runOf (drop j F)) (sym e) ∙ ap runOf (sym (drop-drop w k F)) in
       let p : q + (a + n + 1) ≡ k + (w + n + 1) = omega arith in
       let s : x / 2 ^ (a + n + 1) % 2 ≡ getD t (w + n + 1) 0 =
-      bit-window (drop q F) 56 x (a + n + 1) (bits-drop q F bits) (omega (arith, left)) word (omega arith) ∙ getD-drop q F (a + n + 1) 0
+      bit-window (drop q F) 56 x (a + n + 1) (bits-drop q F bits) (omega (arith, word-left)) word (omega arith) ∙ getD-drop q F (a + n + 1) 0
       ∙ ap (λ (j : ℕ). getD F j 0) p ∙ sym (getD-drop k F (w + n + 1) 0) in
       read-some w t n m r (v ∙ ap (λ (j : ℕ). valOf (take w t) + j * 2 ^ w) r) (omega arith) h (x / 2 ^ (a + n + 1) % 2) s (omega arith)
 
 -- turns of the reader, at k: at starts the numbers, i of them are read
 module _ (F : List ℕ) (at k i : ℕ) (order : at ≤ k) where
-  from-start : (j : ℕ) → drop (k + j - at) (drop at F) ≡ drop (k + j) F
-  from-start j = let e : at + (k + j - at) ≡ k + j = omega arith in drop-drop (k + j - at) at F ∙ ap (λ (n : ℕ). drop n F) e
+  past-start : (j : ℕ) → drop (k + j - at) (drop at F) ≡ drop (k + j) F
+  past-start j = let e : at + (k + j - at) ≡ k + j = omega arith in drop-drop (k + j - at) at F ∙ ap (λ (n : ℕ). drop n F) e
 
   -- the word x at k has a zeros, then b ones: zeros and the number behind them go into places i to i + a of out, which has zeros from i on
   pub small-turn : (bits : Bits F) (x a b : ℕ) (out : List ℤ) (y : ℤ) → k + 56 ≤ length F → x ≡ valOf (take 56 (drop k F)) → b ≡ runOf (bitsOf 64 (x / 2 ^ a))
@@ -172,10 +177,11 @@ module _ (F : List ℕ) (at k i : ℕ) (order : at ≤ k) where
       let p : k + 0 - at ≡ k - at = omega arith in
       let q : k + a - at ≡ k - at + a = omega arith in
       let n : k - at + a + (0 + b + 2) ≡ k + (a + b + 2) - at = omega arith in
-      let d : drop (k - at) t ≡ drop k F = ap (λ (j : ℕ). drop j t) (sym p) ∙ from-start 0 ∙ ap (λ (j : ℕ). drop j F) (add-zero k) in
+      let d : drop (k - at) t ≡ drop k F = ap (λ (j : ℕ). drop j t) (sym p) ∙ past-start 0 ∙ ap (λ (j : ℕ). drop j F) (add-zero k) in
       let v = ap (λ (l : List ℕ). valOf (take a l)) d ∙ zeros-window (drop k F) 56 x a (bits-drop k F bits) (omega arith) (omega arith) word z in
       let m : b ≡ valOf (take 0 (drop (k + a) F)) + b * 2 ^ 0 = omega arith in
-      let c = ap (λ (j : ℕ). readCode 0 (drop j t)) (sym q) ∙ ap (readCode 0) (from-start a) ∙ word-code F bits k x a b inside word run few (k + a) 0 b (add-zero (k + a)) m (λ o. omega arith) in
+      let r = word-code F bits k x a b inside word run few (k + a) 0 b (add-zero (k + a)) m (λ o. omega arith) in
+      let c = ap (λ (j : ℕ). readCode 0 (drop j t)) (sym q) ∙ ap (readCode 0) (past-start a) ∙ r in
       read-turn 0 t (i + a) (k - at + a) (0 + b + 2) _ out _ y room f (skip-zeros a t out i (k - at) rest (omega arith) e v (omega arith)) c n
 
   -- two numbers, the second at k + c
@@ -188,9 +194,10 @@ module _ (F : List ℕ) (at k i : ℕ) (order : at ≤ k) where
       let q : k - at + c ≡ k + c - at = omega arith in
       let n : k + c - at + d ≡ k + c + d - at = omega arith in
       let o : i + 1 + 1 ≡ i + 2 = omega arith in
-      let s₁ = ap (λ (j : ℕ). readCode w (drop j t)) (sym p) ∙ ap (readCode w) (from-start 0 ∙ ap (λ (j : ℕ). drop j F) (add-zero k)) ∙ r₁ in
+      let s₁ = ap (λ (j : ℕ). readCode w (drop j t)) (sym p) ∙ ap (readCode w) (past-start 0 ∙ ap (λ (j : ℕ). drop j F) (add-zero k)) ∙ r₁ in
       let one = read-turn w t i (k - at) c (k + c - at) out u y (omega arith) e g s₁ q in
-      let two = read-turn w t (i + 1) (k + c - at) d (k + c + d - at) (set out i y) v z (omega (arith, length-set out i y)) f one (ap (readCode w) (from-start c) ∙ r₂) n in
+      let s₂ = ap (readCode w) (past-start c) ∙ r₂ in
+      let two = read-turn w t (i + 1) (k + c - at) d (k + c + d - at) (set out i y) v z (omega (arith, length-set out i y)) f one s₂ n in
       subst (λ (j : ℕ). readCodes w j t ≡ some (take j (set (set out i y) (i + 1) z), k + c + d - at)) o two
 
   -- the words x and y have the runs of two numbers
@@ -204,7 +211,8 @@ module _ (F : List ℕ) (at k i : ℕ) (order : at ≤ k) where
       let q : k + w + a + 2 + w ≡ k + w + w + 2 + a = omega arith in
       let p : k + (w + a + 2) ≡ k + w + a + 2 = omega arith in
       let l : k + (w + a + 2) + (w + b + 2) - at ≡ k + w + a + 2 + w + b + 2 - at = omega arith in
-      let r₁ = word-code F bits (k + w) x 0 a (omega arith) is-x (is-a ∙ ap (λ (j : ℕ). runOf (bitsOf 64 j)) z) (omega arith) k w m (sym (add-zero (k + w))) is-m hm in
+      let a-is = is-a ∙ ap (λ (j : ℕ). runOf (bitsOf 64 j)) z in
+      let r₁ = word-code F bits (k + w) x 0 a (omega arith) is-x a-is (omega arith) k w m (sym (add-zero (k + w))) is-m hm in
       let r₂ = word-code F bits (k + w + w + 2) y a b inside is-y is-b few (k + w + a + 2) w n q is-n hn in
       pair-turn w (w + a + 2) (w + b + 2) out _ _ u v room (f ∙ ap (λ (j : ℕ). signedOf m (x / 2 ^ (j + 1) % 2)) (sym (zero-add a))) g e r₁
       (ap (λ (j : ℕ). readCode w (drop j F)) p ∙ r₂) ∙ ap (λ (j : ℕ). some (take (i + 2) (set (set out i u) (i + 1) v), j)) l

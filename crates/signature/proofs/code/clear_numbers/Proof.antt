@@ -1,4 +1,4 @@
-use Prim.Native.Nat.{ℕ, _+_, _-_, _≤_}
+use Prim.Native.Nat.{ℕ, _-_, _≤_}
 use mathlib.Core.Path.{_≡_, refl, sym, ap, _∙_}
 use mathlib.Core.List.{List, [], _∷_, _++_}
 use native.Mathlib.Omega.{arith}
@@ -9,8 +9,6 @@ use lib.Seq.{take-all, take-suc-set}
 use borrow.Author.Needs.{needs}
 use Rattle.signature.proofs.code.clear_numbers.Statement.{statement}
 use Rattle.signature.proofs.code.clear_numbers.Tie as tie
-use Rattle.signature.proofs.code.clear_numbers.Reads as reads
-use Rattle.signature.proofs.code.clear_numbers.Lts as lts
 
 abbrev Inv-loop : tie.InvT-loop
 Inv-loop out₀ i₀ out i = (i ≤ length out) × (length out ≡ length out₀) × (take i out ≡ replicate i (pos 0))
@@ -20,15 +18,6 @@ abbrev μ-loop : tie.MeasureT-loop
 
 loop-holds : tie.Need-loop-holds Inv-loop μ-loop
 loop-holds c = (omega arith, refl, refl)
-
-mul-out : tie.Need-mul-out Inv-loop μ-loop
-mul-out c = search needs
-
-slice-set-of-out : tie.Need-slice-set-of-out Inv-loop μ-loop
-slice-set-of-out c = search needs
-
-add-i : tie.Need-add-i Inv-loop μ-loop
-add-i c = search needs
 
 loop-less : tie.Need-loop-less Inv-loop μ-loop
 loop-less c = simp length-set (omega arith)
@@ -42,9 +31,6 @@ loop-again c =
           ∙ ap (λ (x : List ℤ). x ++ (pos 0 ∷ [])) (l .inv .2) ∙ replicate-append-replicate (l .i) 1 (pos 0),
     )
 
-same-length : tie.Need-same-length Inv-loop μ-loop
-same-length c = search needs
-
 returns : tie.Need-returns Inv-loop μ-loop
 returns c =
     let l = c .before .loop in
@@ -53,15 +39,5 @@ returns c =
 
 pub clear-numbers-spec : {M : Type 1} → statement M
 clear-numbers-spec =
-    tie.close
-    (tie.spec
-    Inv-loop
-    μ-loop
-    loop-holds
-    mul-out
-    slice-set-of-out
-    add-i
-    loop-less
-    loop-again
-    same-length
-    returns)
+    tie.close (tie.spec Inv-loop μ-loop loop-holds (λ c. search needs) (λ c. search needs) (λ c. search needs) loop-less
+    loop-again (λ c. search needs) returns)

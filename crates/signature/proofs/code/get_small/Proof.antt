@@ -1,9 +1,9 @@
-use Prim.Native.Nat.{ℕ, _+_, _*_, _-_, _/_, _%_, _^_, _<_, _≤_}
+use Prim.Native.Nat.{ℕ, _+_, _*_, _-_, _<_, _≤_}
 use mathlib.Core.Path.{_≡_, refl, sym, ap, _∙_}
 use mathlib.Core.Option.{some, none}
 use native.Mathlib.Omega.{arith}
 use native.Mathlib.Nat.{sub-self}
-use lib.IntN.{ℤ, pos}
+use lib.IntN.{pos}
 use lib.ListN.{length, getD, take, drop, length-set, length-drop}
 use lib.Seq.{take-all, drop-drop, getD-set-other}
 use lib.Pow.{shr-le}
@@ -11,7 +11,7 @@ use borrow.Author.Needs.{sfits-of}
 use mir.Syntax.{w64}
 use mir.Val.{SFits, toZ, ofZ}
 use mir.ValLaws.{toZ-ofZ}
-use Rattle.signature.specs.Bits.{valOf, bitString}
+use Rattle.signature.specs.Bits.{bitString}
 use Rattle.signature.specs.Code.{readCode, readCodes}
 use Rattle.signature.specs.declared.code.Next.the-variants.{At}
 use Rattle.signature.proofs.Strings.{length-fields, fields-bits}
@@ -32,13 +32,15 @@ abbrev μ-loop : tie.MeasureT-loop
 -- what the code's tests say, and the word that they were made on
 tests : (c : tie.Then1 Inv-loop μ-loop) → let a = c .before .before .zeros-in .result in let b = c .before .run-in .result in
     (0 < b) × (a + b ≤ 54) × (a < length (c .before .before .before .before .before .loop .out) - c .before .before .before .before .before .loop .i)
-tests c = small-tests (c .before .before .zeros-in .result) (c .before .run-in .result) (length (c .before .before .before .before .before .loop .out) - c .before .before .before .before .before .loop .i) (c .if1 .taken)
+tests c =
+    let c5 = c .before .before .before .before .before in
+    small-tests (c .before .before .zeros-in .result) (c .before .run-in .result) (length (c5 .loop .out) - c5 .loop .i) (c .if1 .taken)
 
-inside : (c : tie.Then1 Inv-loop μ-loop) → c .before .before .before .before .before .loop .k + 56 ≤ length (c .before .before .before .before .before .before .before .before .before .before .args .buf .now) * 8
+inside : (c : tie.Then1 Inv-loop μ-loop) →
+    let c5 = c .before .before .before .before .before in
+    let f = c5 .before .before .before .before .before .args .buf .now in
+    c5 .loop .k + 56 ≤ length f * 8
 inside c = there _ _ _ _ (c .before .before .before .word-from .ensures .0) (run-some _ _ _ (c .before .run-in .ensures .0) (tests c .0))
-
-clear-numbers-requires : tie.Need-clear-numbers-requires Inv-loop μ-loop
-clear-numbers-requires c κs = search needs
 
 loop-holds : tie.Need-loop-holds Inv-loop μ-loop
 unfolding readCodes
@@ -46,32 +48,11 @@ loop-holds c =
     let s = c .before .before .before .before in
     (omega arith, refl, omega arith, s .pre .0, rw sub-self, λ p h. all-cleared _ (length (s .args .out .now)) p (c .before .clear-numbers .ensures))
 
-word-from-requires : tie.Need-word-from-requires Inv-loop μ-loop
-word-from-requires c κs = search needs
-
-zeros-in-requires : tie.Need-zeros-in-requires Inv-loop μ-loop
-zeros-in-requires c κs = search needs
-
-shr-run-in : tie.Need-shr-run-in Inv-loop μ-loop
-shr-run-in c = search needs
-
 run-in-requires : tie.Need-run-in-requires Inv-loop μ-loop
 run-in-requires c κs = omega (arith, c .before .word-from .ensures .1, shr-le (c .before .word-from .result) (c .zeros-in .result))
 
-add-if1 : tie.Need-add-if1 Inv-loop μ-loop
-add-if1 c = search needs
-
-sub-if1 : tie.Need-sub-if1 Inv-loop μ-loop
-sub-if1 c = search needs
-
 add-i : tie.Need-add-i Inv-loop μ-loop
 add-i c = omega (arith, tests c)
-
-add-signed : tie.Need-add-signed Inv-loop μ-loop
-add-signed c = search needs
-
-add-signed-2 : tie.Need-add-signed-2 Inv-loop μ-loop
-add-signed-2 c = search needs
 
 shr-signed : tie.Need-shr-signed Inv-loop μ-loop
 shr-signed c = omega (arith, tests c)
@@ -79,36 +60,25 @@ shr-signed c = omega (arith, tests c)
 signed-requires : tie.Need-signed-requires Inv-loop μ-loop
 signed-requires c κs = omega (arith, c .before .run-in .ensures .1)
 
-mul-t31 : tie.Need-mul-t31 Inv-loop μ-loop
-mul-t31 c = search needs
-
 slice-set-from-out : tie.Need-slice-set-from-out Inv-loop μ-loop
 slice-set-from-out c = omega (arith, tests (c .before))
-
-add-i-2 : tie.Need-add-i-2 Inv-loop μ-loop
-add-i-2 c = search needs
-
-add-k : tie.Need-add-k Inv-loop μ-loop
-add-k c = search needs
-
-add-k-2 : tie.Need-add-k-2 Inv-loop μ-loop
-add-k-2 c = search needs
-
-add-k-3 : tie.Need-add-k-3 Inv-loop μ-loop
-add-k-3 c = search needs
 
 loop-less : tie.Need-loop-less Inv-loop μ-loop
 loop-less c = simp length-set (omega (arith, tests (c .before)))
 
 loop-again : tie.Need-loop-again Inv-loop μ-loop
 loop-again c =
-    let l = c .before .before .before .before .before .before .loop in
-    let f = c .before .before .before .before .before .before .before .before .before .before .before .args .buf .now in
+    let c3 = c .before .before .before in
+    let c4 = c3 .before in
+    let c6 = c4 .before .before in
+    let c11 = c6 .before .before .before .before .before in
+    let l = c6 .loop in
+    let f = c11 .args .buf .now in
     let t = tests (c .before) in
     let w = inside (c .before) in
-    let a = c .before .before .before .zeros-in .result in
+    let a = c3 .zeros-in .result in
     let b = c .before .before .run-in .result in
-    let x = c .before .before .before .before .word-from .result in
+    let x = c4 .word-from .result in
     let y = toZ w64 (ofZ w64 (c .signed .result)) in
     let room : l .i + a < length (l .out) = omega arith in
     let v = toZ-ofZ w64 (c .signed .result) (sfits-of (c .signed .ok)) ∙ c .signed .ensures in (
@@ -116,19 +86,11 @@ loop-again c =
       length-set (l .out) (l .i + a) y ∙ l .inv .1,
       omega arith,
       omega arith,
-      small-turn (bitString 8 f) (c .before .before .before .before .before .before .before .before .before .before .before .args .at) (l .k) (l .i) (l .inv .2) (fields-bits 8 f) x a b (l .out) y (omega (arith, length-fields 8 f))
-          (there-is _ _ _ _ (c .before .before .before .before .word-from .ensures .0) w) (c .before .before .run-in .ensures .0) (t .1) (t .0) (c .before .before .before .zeros-in .ensures .0) room (l .inv .5) (l .inv .4) v,
+      small-turn (bitString 8 f) (c11 .args .at) (l .k) (l .i) (l .inv .2) (fields-bits 8 f) x a b (l .out) y (omega (arith, length-fields 8 f))
+          (there-is _ _ _ _ (c4 .word-from .ensures .0) w) (c .before .before .run-in .ensures .0) (t .1) (t .0) (c3 .zeros-in .ensures .0) room
+          (l .inv .5) (l .inv .4) v,
       (λ p h. getD-set-other (l .out) (l .i + a) p y (pos 0) (λ e. omega arith) ∙ l .inv .5 p (omega arith)),
     )
-
-get-code-requires : tie.Need-get-code-requires Inv-loop μ-loop
-get-code-requires c κs = search needs
-
-enum-told : tie.Need-enum-told Inv-loop μ-loop
-enum-told c = search needs
-
-same-length : tie.Need-same-length Inv-loop μ-loop
-same-length c = search needs
 
 returns : tie.Need-returns Inv-loop μ-loop
 returns c =
@@ -141,18 +103,6 @@ returns c =
     let p : a .at + (l .k - a .at) ≡ l .k = omega arith in
     let d : readCode 0 (drop (l .k - a .at) (drop (a .at) F)) ≡ none = ap (readCode 0) (drop-drop (l .k - a .at) (a .at) F ∙ ap (λ (m : ℕ). drop m F) p) ∙ f in
     rw (none-left 0 (drop (a .at) F) (l .i) (l .k - a .at) (length (a .out .now)) (take (l .i) (l .out)) (l .inv .4) d (omega arith)) refl
-
-enum-known-z : tie.Need-enum-known-z Inv-loop μ-loop
-enum-known-z c = search needs
-
-mul-z : tie.Need-mul-z Inv-loop μ-loop
-mul-z c = search needs
-
-slice-set-from-z : tie.Need-slice-set-from-z Inv-loop μ-loop
-slice-set-from-z c = search needs
-
-add-i-3 : tie.Need-add-i-3 Inv-loop μ-loop
-add-i-3 c = search needs
 
 loop-less-2 : tie.Need-loop-less-2 Inv-loop μ-loop
 loop-less-2 c = simp length-set (omega arith)
@@ -182,9 +132,6 @@ loop-again-2 c =
       (λ q e. getD-set-other (l .out) (l .i) q _ (pos 0) (λ o. omega arith) ∙ l .inv .5 q (omega arith)),
     )
 
-same-length-2 : tie.Need-same-length-2 Inv-loop μ-loop
-same-length-2 c = search needs
-
 returns-2 : tie.Need-returns-2 Inv-loop μ-loop
 returns-2 c =
     let l = c .before .loop in
@@ -196,40 +143,9 @@ returns-2 c =
 
 pub get-small-spec : {M : Type 1} → statement M
 get-small-spec =
-    tie.close
-    (tie.spec
-    Inv-loop
-    μ-loop
-    clear-numbers-requires
-    loop-holds
-    word-from-requires
-    zeros-in-requires
-    shr-run-in
-    run-in-requires
-    add-if1
-    sub-if1
-    add-i
-    add-signed
-    add-signed-2
-    shr-signed
-    signed-requires
-    mul-t31
-    slice-set-from-out
-    add-i-2
-    add-k
-    add-k-2
-    add-k-3
-    loop-less
-    loop-again
-    get-code-requires
-    enum-told
-    same-length
-    returns
-    enum-known-z
-    mul-z
-    slice-set-from-z
-    add-i-3
-    loop-less-2
-    loop-again-2
-    same-length-2
-    returns-2)
+    tie.close (tie.spec Inv-loop μ-loop (λ c κs. search needs) loop-holds (λ c κs. search needs) (λ c κs. search needs)
+    (λ c. search needs) run-in-requires (λ c. search needs) (λ c. search needs) add-i (λ c. search needs)
+    (λ c. search needs) shr-signed signed-requires (λ c. search needs) slice-set-from-out (λ c. search needs)
+    (λ c. search needs) (λ c. search needs) (λ c. search needs) loop-less loop-again (λ c κs. search needs)
+    (λ c. search needs) (λ c. search needs) returns (λ c. search needs) (λ c. search needs) (λ c. search needs)
+    (λ c. search needs) loop-less-2 loop-again-2 (λ c. search needs) returns-2)

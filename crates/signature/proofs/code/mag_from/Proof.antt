@@ -25,11 +25,15 @@ add-result c = let s = c .before .before .before in omega (arith, mag-lt (s .arg
 
 returns-2 : tie.Need-returns-2
 returns-2 c =
-    let s = c .before .before .before in
+    let c3 = c .before .before .before in
+    let s = c3 in
     let a = s .args in
     let e = le-leb (a .at + a .w) (length (a .buf .now) * 8) (omega (arith, c .before .if1 .left)) in
-    let v = ap (λ (k : ℕ). c .get-bits .result + k) (mag-exact (a .w) (a .n) (few s) (omega (arith, s .pre))) ∙ ap (λ (k : ℕ). k + a .n * 2 ^ a .w) (c .get-bits .ensures .0) in
-    (v ∙ sym (ap (λ (b : Bool). pick b (valOf (take (a .w) (drop (a .at) (bitString 8 (a .buf .now)))) + a .n * 2 ^ a .w) 0) e), mag-lt (a .w) (a .n) (few s) (omega (arith, s .pre)) _ (c .get-bits .ensures .1))
+    let v = ap (λ (k : ℕ). c .get-bits .result + k) (mag-exact (a .w) (a .n) (few s) (omega (arith, s .pre)))
+    ∙ ap (λ (k : ℕ). k + a .n * 2 ^ a .w) (c .get-bits .ensures .0) in (
+      v ∙ sym (ap (λ (b : Bool). pick b (valOf (take (a .w) (drop (a .at) (bitString 8 (a .buf .now)))) + a .n * 2 ^ a .w) 0) e),
+      mag-lt (a .w) (a .n) (few s) (omega (arith, s .pre)) _ (c .get-bits .ensures .1),
+    )
 
 pub mag-from-spec : {M : Type 1} → statement M
 mag-from-spec =

@@ -1,4 +1,4 @@
-use Prim.Native.Nat.{_+_, _*_, _-_, _≤_}
+use Prim.Native.Nat.{_*_, _-_, _≤_}
 use mathlib.Core.Path.{_≡_, refl, sym, ap, _∙_}
 use native.Mathlib.Omega.{arith}
 use native.Mathlib.Nat.{le-refl}
@@ -18,9 +18,6 @@ Inv-loop buf at end k₀ k = (k ≤ length buf * 8) × (allZero (drop at (bitStr
 abbrev μ-loop : tie.MeasureT-loop
 μ-loop buf at end k₀ k = length buf * 8 - k
 
-mul-end : tie.Need-mul-end Inv-loop μ-loop
-mul-end c = search needs
-
 returns : tie.Need-returns Inv-loop μ-loop
 returns c =
     let b = c .before .before .args .buf .now in
@@ -29,50 +26,28 @@ returns c =
 loop-holds : tie.Need-loop-holds Inv-loop μ-loop
 loop-holds c = (omega arith, refl)
 
-add-loop : tie.Need-add-loop Inv-loop μ-loop
-add-loop c = search needs
-
-get-bits-requires : tie.Need-get-bits-requires Inv-loop μ-loop
-get-bits-requires c κs = search needs
-
 returns-2 : tie.Need-returns-2 Inv-loop μ-loop
 returns-2 c =
     let l = c .before .before .before .loop in
     let b = c .before .before .before .before .before .before .args .buf .now in
     sym (l .inv .1 ∙ zeros-fail 56 (drop (l .k) (bitString 8 b)) (λ e. c .if2 .taken (c .before .get-bits .ensures .0 ∙ e)))
 
-add-k : tie.Need-add-k Inv-loop μ-loop
-add-k c = search needs
-
-loop-less : tie.Need-loop-less Inv-loop μ-loop
-loop-less c = search needs
-
 loop-again : tie.Need-loop-again Inv-loop μ-loop
 loop-again c =
-    let l = c .before .before .before .loop in
-    let b = c .before .before .before .before .before .before .args .buf .now in
-    (omega arith, l .inv .1 ∙ zeros-pass 56 56 (drop (l .k) (bitString 8 b)) (le-refl 56) (sym (c .before .get-bits .ensures .0) ∙ c .if2 .left) ∙ ap allZero (drop-drop 56 (l .k) (bitString 8 b)))
-
-rest-zero-requires : tie.Need-rest-zero-requires Inv-loop μ-loop
-rest-zero-requires c κs = search needs
+    let c3 = c .before .before .before in
+    let c6 = c3 .before .before .before in
+    let l = c3 .loop in
+    let b = c6 .args .buf .now in (
+      omega arith,
+      l .inv .1 ∙ zeros-pass 56 56 (drop (l .k) (bitString 8 b)) (le-refl 56) (sym (c .before .get-bits .ensures .0) ∙ c .if2 .left)
+          ∙ ap allZero (drop-drop 56 (l .k) (bitString 8 b)),
+    )
 
 returns-3 : tie.Need-returns-3 Inv-loop μ-loop
 returns-3 c = c .rest-zero .ensures ∙ sym (c .before .before .loop .inv .1)
 
 pub all-zero-spec : {M : Type 1} → statement M
 all-zero-spec =
-    tie.close
-    (tie.spec
-    Inv-loop
-    μ-loop
-    mul-end
-    returns
-    loop-holds
-    add-loop
-    get-bits-requires
-    returns-2
-    add-k
-    loop-less
-    loop-again
-    rest-zero-requires
+    tie.close (tie.spec Inv-loop μ-loop (λ c. search needs) returns loop-holds (λ c. search needs)
+    (λ c κs. search needs) returns-2 (λ c. search needs) (λ c. search needs) loop-again (λ c κs. search needs)
     returns-3)
