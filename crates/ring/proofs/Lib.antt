@@ -16,6 +16,7 @@ pub mod LoosePairs
 pub mod Mapped
 pub mod Pairs
 pub mod Places
+pub mod Recombined
 pub mod Reduced
 pub mod Rests
 pub mod Signs

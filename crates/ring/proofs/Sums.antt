@@ -45,6 +45,10 @@ pub sub-addq : (a b : ℕ) → a < q → b < q → addq (subq a b) b ≡ a
 unfolding addq subq
 sub-addq a b h g = omega arith
 
+add-subq : (a b : ℕ) → a < q → b < q → subq (addq a b) b ≡ a
+unfolding addq subq
+add-subq a b h g = omega arith
+
 pub addq-twice : (a : ℕ) → a < q → a ≡ addq a a → a ≡ 0
 unfolding addq
 addq-twice a h e = go (decLt (a + a) q)
@@ -120,6 +124,9 @@ module _ {p : ℕ} where
   pub residues-append : {n m : ℕ} (xs ys : List ℕ) → Residues p n xs → Residues p m ys → Residues p (n + m) (xs ++ ys)
   residues-append xs ys h g =
       record { long = length-append xs ys ∙ cc (h .long, g .long); low = below-append p xs ys (h .low) (g .low) }
+
+  pub residues-wider : {n : ℕ} (m : ℕ) → p ≤ m → (xs : List ℕ) → Residues p n xs → Residues m n xs
+  residues-wider m l xs h = record { long = h .long; low = below-wider p m l xs (h .low) }
 
   -- the first n, and those behind them
   pub residues-take : (n m : ℕ) (xs : List ℕ) → Residues p (n + m) xs → Residues p n (take n xs)
@@ -212,6 +219,12 @@ unfolding zipTo
 addW-subW [] ys h g = refl
 addW-subW (x ∷ xs) [] h g = refl
 addW-subW (x ∷ xs) (y ∷ ys) h g = cc (sub-addq x y (h .0) (g .0), addW-subW xs ys (h .1) (g .1))
+
+pub subW-addW : (xs ys : List ℕ) → Below q xs → Below q ys → subW (addW xs ys) ys ≡ xs
+unfolding zipTo
+subW-addW [] ys h g = refl
+subW-addW (x ∷ xs) [] h g = refl
+subW-addW (x ∷ xs) (y ∷ ys) h g = cc (add-subq x y (h .0) (g .0), subW-addW xs ys (h .1) (g .1))
 
 pub addW-twice : (xs : List ℕ) → Below q xs → xs ≡ addW xs xs → xs ≡ zeros (length xs)
 unfolding zipTo

@@ -7,12 +7,12 @@ use native.Mathlib.Nat.{mod-lt}
 use lib.Dec.{lit<}
 use lib.ListN.{length}
 use Rattle.hash.proofs.Paste.{table-same}
-use Rattle.ring.specs.Words.{q, addq, addW, Words, Linear}
+use Rattle.ring.specs.Words.{q, addq, addW, subW, Words, Linear}
 use Rattle.ring.specs.Poly.{eval, map2}
 use Rattle.ring.specs.Residue.{prime, zeta, mods, timesp, fwd, backOne, crtOf}
 use Rattle.ring.specs.Transform.{root, ntt, intt, pointwise, mul}
 use Rattle.ring.proofs.Cong.{Eqv, ≈refl, ≈sym, ≈trans, ≈eq, ≈mod, ≈kit}
-use Rattle.ring.proofs.Sums.{words-add}
+use Rattle.ring.proofs.Sums.{words-add, words-sub, add-sub, subW-addW}
 use Rattle.ring.proofs.Places.{length-map2, residues-map2, residues-mods, residues-table, maps}
 use Rattle.ring.proofs.Eval.{residues-prod}
 use Rattle.ring.proofs.Tables.{prime-pos}
@@ -123,6 +123,13 @@ intt-sum x y wx wy =
 
 pub intt-linear : Linear 512 512 intt
 intt-linear = record { words = intt-words; adds = intt-sum }
+
+-- .. and differences
+pub intt-sub : (x y : List ℕ) → Words 512 x → Words 512 y → intt (subW x y) ≡ subW (intt x) (intt y)
+intt-sub x y wx wy =
+    let d : Words 512 (subW x y) = words-sub x y wx in
+    let e : addW (intt (subW x y)) (intt y) ≡ intt x = sym (intt-sum (subW x y) y d wy) ∙ ap intt (add-sub x y wx wy) in
+    sym (subW-addW (intt (subW x y)) (intt y) (intt-words (subW x y) d .low) (intt-words y wy .low)) ∙ ap (λ (t : List ℕ). subW t (intt y)) e
 
 pub mul-linear : (a : List ℕ) → Linear 512 512 (mul a)
 unfolding mul

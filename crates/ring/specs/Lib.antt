@@ -4,6 +4,7 @@ pub mod Poly
 pub mod Residue
 pub mod Loose
 pub mod Transform
+pub mod Rns
 pub mod Round
 pub mod Uniform
 pub mod UniformSteps

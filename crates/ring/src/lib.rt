@@ -3,4 +3,5 @@
 pub mod poly;
 mod powers;
 mod residue;
+pub mod rns;
 pub mod uniform;

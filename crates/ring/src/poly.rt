@@ -172,15 +172,6 @@ pub fn pointwise(a: [u64; 512], b: [u64; 512]) -> [u64; 512]
     r
 }
 
-// acc and the product of a and b.
-pub fn mul_add(acc: [u64; 512], a: [u64; 512], b: [u64; 512]) -> [u64; 512]
-    requires { ⌜ Words 512 acc ⌝ }
-    ensures { λ r. ⌜ (r ≡ addW acc (pointwise a b)) × Words 512 r ⌝ }
-{
-    let p = pointwise(a, b);
-    add(acc, p)
-}
-
 // Rounding by 42 bits to the modulus 125, and by 44 bits to 31 (2.2).
 fn rounded_t(x: u64) -> u64
     requires { ⌜ x < q ⌝ }

@@ -55,7 +55,7 @@ pub fn narrow(second: bool, x: u64) -> u64
 }
 
 // x as it is, seen to have 32 bits: products of such factors are taken two at a time.
-fn low32(x: u64) -> u64
+pub fn low32(x: u64) -> u64
     requires { ⌜ x < 2 ^ 32 ⌝ }
     ensures { λ r. ⌜ r ≡ x ⌝ }
 {
@@ -295,7 +295,7 @@ fn reduce_all(second: bool, a: &mut [u64])
 }
 
 // Words below q, modulo the prime, left below two primes: q is below 32 squares of either.
-fn reduce_words(second: bool, a: &mut [u64])
+pub fn reduce_words(second: bool, a: &mut [u64])
     requires { ⌜ Below q (now a) ⌝ }
     ensures { λ _. ⌜ LooseList (prime second) 2 (mods (prime second) (now (a .entry))) (now (a .exit)) ⌝ }
 {

@@ -71,10 +71,6 @@ pub build-next : (n : ℕ) (f : ℕ → List ℕ) → build (suc n) f ≡ build 
 unfolding build
 build-next n f = refl
 
-pub build-one : (f : ℕ → List ℕ) → build 1 f ≡ f 0
-unfolding build
-build-one f = refl
-
 -- done to each element of each, and of the whole
 map-build : (f : ℕ → ℕ) (n : ℕ) (g : ℕ → List ℕ) → build n (λ (i : ℕ). mapN f (g i)) ≡ mapN f (build n g)
 unfolding build

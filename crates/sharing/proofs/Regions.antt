@@ -11,7 +11,7 @@ use lib.Seq.{length-take-le, take-append-le, drop-append-le, take-append-add, dr
 use Rattle.ring.specs.Words.{q, Below, Words}
 use Rattle.ring.proofs.Sums.{below-take, below-drop, below-append}
 use Rattle.sharing.specs.Blocks.{block, build}
-use Rattle.sharing.specs.Region.{span, put, Wrote, Kept}
+use Rattle.sharing.specs.Region.{span, put, Wrote}
 use Rattle.sharing.proofs.Lists.{inside}
 
 -- ---- a region read, and a region written
@@ -200,21 +200,3 @@ wrote-turn w i f {n} {a} {xs} {ys} {zs} h u v =
 pub wrote-end : (w : ℕ) (f : ℕ → List ℕ) {i k n a : ℕ} {xs ys : List ℕ} → i ≡ k → Wrote n a (i * w) (build i f) xs ys
     → Wrote n a (k * w) (build k f) xs ys
 wrote-end w f e u = rw e at u
-
--- ---- Kept
-
-pub kept-all : (n m : ℕ) (xs : List ℕ) → Kept n m xs xs
-kept-all n m xs = record { same = λ b j l o. refl }
-
--- what a step leaves before its region, and behind it
-pub kept-front : {n a m : ℕ} {X xs ys : List ℕ} → Wrote n a m X xs ys → Kept n a xs ys
-kept-front w = record { same = w .front }
-
-pub kept-behind : {n a m : ℕ} {X xs ys : List ℕ} (k : ℕ) → n ≤ a + m → Wrote n a m X xs ys → Kept (a + m) k xs ys
-kept-behind {n} {a} {m} k h w = record { same = λ (b j : ℕ) (l : a + m ≤ b) (o : b + j ≤ k). w .behind b j (omega arith) l }
-
-pub kept-then : {n m : ℕ} {xs ys zs : List ℕ} → Kept n m xs ys → Kept n m ys zs → Kept n m xs zs
-kept-then u v = record { same = λ b j l o. v .same b j l o ∙ u .same b j l o }
-
-pub kept-less : {n m i k : ℕ} {xs ys : List ℕ} → n ≤ i → k ≤ m → Kept n m xs ys → Kept i k xs ys
-kept-less {n} {m} {i} {k} g h u = record { same = λ (b j : ℕ) (l : i ≤ b) (o : b + j ≤ k). u .same b j (omega arith) (omega arith) }

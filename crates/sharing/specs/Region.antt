@@ -19,7 +19,3 @@ pub record Wrote (n a m : ℕ) (X xs ys : List ℕ) : Type 0 where
   pub behind : (b j : ℕ) → n ≤ b → a + m ≤ b → span ys b j ≡ span xs b j
   pub long : length ys ≡ length xs
   pub low : Below q ys
-
--- what lies between n and m is in ys as in xs
-pub record Kept (n m : ℕ) (xs ys : List ℕ) : Type 0 where
-  pub same : (b j : ℕ) → n ≤ b → b + j ≤ m → span ys b j ≡ span xs b j

@@ -3,10 +3,9 @@ use mathlib.Core.Path.{_≡_, refl, sym, ap, subst, _∙_}
 use mathlib.Core.Bool.{Bool, true, false}
 use mathlib.Core.List.{List}
 use mathlib.Core.Option.{Option, some}
-use Prim.Native.Nat.{ℕ, suc, _+_, _-_, _*_, _/_, _≤_, _<_}
+use Prim.Native.Nat.{ℕ, suc, _+_, _-_, _*_, _/_, _<_}
 use native.Mathlib.Omega.{arith}
 use lib.Dec.{lit<}
-use lib.IntN.{ℤ}
 use lib.ListN.{length}
 use Rattle.hash.specs.Shake.{absorbed, stream}
 use Rattle.hash.specs.declared.params.Params.{Params}
@@ -16,12 +15,12 @@ use Rattle.ring.specs.UniformSteps.{heldOf}
 use Rattle.ring.proofs.Checks.{absurd-bool}
 use Rattle.ring.proofs.Filled.{filled-some, not-filled}
 use Rattle.ring.proofs.Mapped.{rounded-residues}
-use Rattle.sharing.specs.Region.{span, Kept}
+use Rattle.sharing.specs.Region.{span}
 use Rattle.sharing.specs.declared.masks.MaskGen.{MaskGen}
 use Rattle.signature.specs.AnswerSteps.{FinishedAs}
 use Rattle.signature.specs.AttemptSteps.{keyIn, Answered, commitmentOf}
 use Rattle.signature.specs.Challenge.{chalHash}
-use Rattle.signature.specs.Layout.{atRoom, atS, atR, atT, atX}
+use Rattle.signature.specs.Layout.{atT, atX}
 use Rattle.signature.specs.Masked.{Noise}
 use Rattle.signature.specs.Matrix.{filled}
 use Rattle.signature.specs.Recover.{muOf}
@@ -60,32 +59,26 @@ module _ (p : Params) (P : Public) (N : Noise) (g : MaskGen) (s hash ys : List �
   pub ended-stuck : o .ok ≡ false → (xs : List ℕ) → EndedAs p P N g s AttemptEnd.Stuck xs xs ys
   ended-stuck e xs = record { told = (left-stuck p P N g s hash ys o u e, refl); held = left-idle p P N g s hash ys o u e }
 
-  -- H is the challenge hash as lines 17 to 20 read it, r their answer, xs and zs the signature's buffer before and after, ws the work buffer behind
+  -- H is the challenge hash as lines 17 to 20 read it, r their answer, xs and zs the signature's buffer before and after
   module _ (ok : o .ok ≡ true) (H : List ℕ) (same : H ≡ hash) (r : Bool) (xs zs : List ℕ)
       (f : FinishedAs (finished p (signedFields p P (span ys (atT (p .l) (p .shares)) (p .k * 512)) H (span ys (atX (p .k) (p .l) (p .shares)) (p .l * 512)) (o .poly))) r xs zs)
-      (n : ℕ) (ws : List ℕ) (l : atT (p .l) (p .shares) ≤ n) (front : Kept 0 (atRoom (p .shares)) ys ws) (behind : Kept (atS (p .shares)) n ys ws) where
-    finished-at : FinishedAs (attempted p P N g s) r xs zs
-    finished-at =
-        subst (λ (X : Attempted). FinishedAs X r xs zs) (sym (left-on p P N g s hash ys o u ok))
-        (subst
-        (λ (x : List ℕ). FinishedAs (finished p (signedFields p P (span ys (atT (p .l) (p .shares)) (p .k * 512)) x (span ys (atX (p .k) (p .l) (p .shares)) (p .l * 512)) (o .poly))) r xs zs)
-        same f)
+    where
+      finished-at : FinishedAs (attempted p P N g s) r xs zs
+      finished-at =
+          subst (λ (X : Attempted). FinishedAs X r xs zs) (sym (left-on p P N g s hash ys o u ok))
+          (subst
+          (λ (x : List ℕ). FinishedAs (finished p (signedFields p P (span ys (atT (p .l) (p .shares)) (p .k * 512)) x (span ys (atX (p .k) (p .l) (p .shares)) (p .l * 512)) (o .poly))) r xs zs)
+          same f)
 
-    -- the shares that are left
-    shares-spent : Spent p P N g s ws
-    shares-spent =
-        let L = p .l * (p .shares * 512) in
-        record {
-          key = behind .same (atS (p .shares)) L (omega arith) (omega (arith, l)) ∙ left-key p P N g s hash ys o u ok;
-          shares = λ (c : List ℤ) e. behind .same (atR (p .l) (p .shares)) L (omega arith) (omega (arith, l)) ∙ u .shares c e;
-          row = λ (i : ℕ) e. front .same (p .shares * 512) (p .shares * 512) (omega arith) (omega arith) ∙ u .row i e;
-        }
+      -- the shares that are left
+      shares-spent : Spent p P N g s ys
+      shares-spent = record { key = left-key p P N g s hash ys o u ok; shares = u .shares; row = u .row }
 
-    pub ended-made : r ≡ true → EndedAs p P N g s AttemptEnd.Made xs zs ws
-    ended-made e = record { told = told-made (attempted p P N g s) r xs zs finished-at e; held = shares-spent }
+      pub ended-made : r ≡ true → EndedAs p P N g s AttemptEnd.Made xs zs ys
+      ended-made e = record { told = told-made (attempted p P N g s) r xs zs finished-at e; held = shares-spent }
 
-    pub ended-over : r ≡ false → EndedAs p P N g s AttemptEnd.Over xs zs ws
-    ended-over e = record { told = told-over (attempted p P N g s) r xs zs finished-at e; held = shares-spent }
+      pub ended-over : r ≡ false → EndedAs p P N g s AttemptEnd.Over xs zs ys
+      ended-over e = record { told = told-over (attempted p P N g s) r xs zs finished-at e; held = shares-spent }
 
 -- ---- the attempts in order, with the shares s₀ at first; behind a attempts the shares are s
 

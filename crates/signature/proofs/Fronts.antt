@@ -1,7 +1,7 @@
 -- The first n words of a local array: written there as a part, and read back.
 use mathlib.Core.Path.{_≡_, sym, ap, _∙_}
 use mathlib.Core.List.{List, _++_}
-use Prim.Native.Nat.{ℕ, _+_, _-_, _*_, _/_, _≤_}
+use Prim.Native.Nat.{ℕ, _+_, _-_, _*_, _/_, _≤_, _<_}
 use native.Mathlib.Omega.{arith}
 use lib.ListN.{length, take, drop, replicate, length-replicate}
 use lib.Seq.{take-at, length-take-le}
@@ -9,6 +9,9 @@ use borrow.Rule.Slice.PartMut.{midOf, postOf, putMid, same-len-mid, mid-len}
 use Rattle.hash.specs.declared.params.Params.{Params}
 use Rattle.hash.specs.Shake.{absorbed, stream, shake256}
 use Rattle.hash.proofs.Table.{length-table}
+use Rattle.hash.specs.Lists.{zeros}
+use Rattle.ring.specs.Words.{Below}
+use Rattle.ring.proofs.Sums.{below-take, below-zeros}
 use Rattle.sharing.specs.Region.{span}
 use Rattle.sharing.proofs.Regions.{length-span}
 use Rattle.signature.specs.Bits.{repack}
@@ -19,6 +22,9 @@ use Rattle.signature.proofs.Packing.{length-repack}
 -- a part of an array that was just made
 pub front-long : {A : Type 0} (x : A) (n m : ℕ) → n ≤ m → length (take (n - 0) (replicate m x)) ≡ n
 front-long x n m h = let z : n - 0 ≡ n = omega arith in length-take-le (n - 0) (replicate m x) (omega (arith, length-replicate m x)) ∙ z
+
+pub front-low : (m : ℕ) → 0 < m → (n k : ℕ) → Below m (take (n - 0) (zeros k))
+front-low m pos n k = below-take m (n - 0) (zeros k) (below-zeros m pos k)
 
 -- a front that was written
 module _ {A : Type 0} (n : ℕ) (xs ys : List A) (h : n ≤ length xs) (e : length ys ≡ n) where
@@ -104,3 +110,17 @@ module _ (n : ℕ) (xs ys vk msg : List ℕ) (h : n ≤ length xs) (e : ys ≡ b
 
   pub bound-is : take (n - 0) (putMid 0 (n - 0) xs ys) ≡ boundTo n vk msg
   bound-is = front-is n xs ys h bound-long ∙ bound
+
+-- the front of the array that holds z, transformed, as it was written: ys
+module _ (l : ℕ) (h : l ≤ 7) (ys : List ℕ) (e : length ys ≡ length (take (l * 512 - 0) (zeros 3584))) where
+  z-front-fits : l * 512 ≤ length (zeros 3584)
+  z-front-fits = omega (arith, h, length-replicate {A = ℕ} 3584 0)
+
+  pub z-front-long : length ys ≡ l * 512
+  z-front-long = e ∙ front-long 0 (l * 512) 3584 (omega (arith, h))
+
+  pub z-front-in : l * 512 ≤ length (putMid 0 (l * 512 - 0) (zeros 3584) ys)
+  z-front-in = front-in (l * 512) (zeros 3584) ys z-front-fits z-front-long
+
+  pub z-front-is : take (l * 512 - 0) (putMid 0 (l * 512 - 0) (zeros 3584) ys) ≡ ys
+  z-front-is = front-is (l * 512) (zeros 3584) ys z-front-fits z-front-long

@@ -1,27 +1,28 @@
 -- The hint h = w - y, row by row, and as the definition has it.
 use mathlib.Core.Path.{_≡_, sym, ap, subst, _∙_}
 use mathlib.Core.List.{List, _++_}
-use Prim.Native.Nat.{ℕ, _+_, _-_, _*_, _≤_, _<_}
+use Prim.Native.Nat.{ℕ, _+_, _-_, _*_, _^_, _≤_, _<_}
 use native.Mathlib.Numerals.{add-one}
 use native.Mathlib.Omega.{arith}
 use borrow.Rule.Slice.PartMut.{putMid, same-len-mid, mid-len}
 use lib.IntN.{ℤ}
 use lib.ListN.{length, take, drop}
 use Rattle.hash.specs.declared.params.Params.{Params}
-use Rattle.ring.specs.Words.{q, Below, Words, zipTo}
+use Rattle.ring.specs.Words.{q, Below, Residues, Words, zipTo}
 use Rattle.ring.specs.Transform.{ntt}
 use Rattle.ring.specs.Round.{roundW}
+use Rattle.ring.proofs.Recombined.{length-words}
 use Rattle.ring.proofs.Sums.{below-take, below-drop, length-zip}
 use Rattle.sharing.specs.Blocks.{block, build}
-use Rattle.sharing.specs.Region.{span, Wrote, Kept}
+use Rattle.sharing.specs.Region.{span}
 use Rattle.sharing.proofs.Lists.{build-ext, blocks-all}
 use Rattle.sharing.proofs.Built.{block-is, build-next}
-use Rattle.sharing.proofs.Regions.{length-span, span-words, block-span, kept-front, kept-behind, kept-then, kept-less}
-use Rattle.signature.specs.AttemptSteps.{commitmentIn, responseIn, RoomUsed}
+use Rattle.sharing.proofs.Regions.{length-span, span-words, block-span}
+use Rattle.signature.specs.AttemptSteps.{commitmentIn, responseIn}
 use Rattle.signature.specs.Checks.{workWords}
 use Rattle.signature.specs.Keys.{vkVector}
-use Rattle.signature.specs.Layout.{atRoom, atT, atX}
-use Rattle.signature.specs.MaskedSteps.{matrixIn, MatrixHeld, transformed}
+use Rattle.signature.specs.Layout.{atT, atX}
+use Rattle.signature.specs.MaskedSteps.{matrixIn, MatrixHeld, ResiduesHeld, transformed}
 use Rattle.signature.specs.Recover.{sub31, centredAll, hintOf, recovered}
 use Rattle.signature.specs.RecoverSteps.{recoveredBy, hintRow, hintRows}
 use Rattle.signature.specs.Table.{Tabled}
@@ -83,55 +84,35 @@ hint-all p M z c t w h wz wc lt lw =
 hint-parts : {s s′ x x′ t t′ w w′ : List ℕ} (k l : ℕ) (M : List ℕ) → s ≡ s′ → x ≡ x′ → t ≡ t′ → w ≡ w′ → hintRows k l M s x t w ≡ hintRows k l M s′ x′ t′ w′
 hint-parts k l M b c d e = cc (b, c, d, e)
 
--- ---- all of it: xs is the work buffer, ys behind `ntt_to`, zs behind `hint_rows`; a row of y is made at `row`, the transform of z behind it; t is
--- the vector of the public key `key`
+-- ---- all of it: xs is the work buffer, with w at `at` and z at `from`; M, Z and C are the matrix, z and c, transformed; t is the vector of the
+-- public key `key`
 
-module _ (p : Params) (h : Tabled p) (row from : ℕ) (xs : List ℕ) (long : length xs ≡ workWords p) (low : Below q xs)
-    (at-row : row ≡ atRoom (p .shares)) (at-from : from ≡ atX (p .k) (p .l) (p .shares)) where
-  -- what `ntt_to` requires
-  pub response-asked : (row + 512 + p .l * 512 ≤ from) × (from + p .l * 512 ≤ length xs) × Below q xs
-  response-asked = let R = room p h (length xs) long in (omega (arith, h .columns-low), omega (arith, R .2), low)
+module _ (p : Params) (h : Tabled p) (xs : List ℕ) (long : length xs ≡ workWords p) (low : Below q xs) where
+  -- what `hint_rows` requires of the work buffer, and of the residues A, Y and B of M, Z and C
+  pub hint-asked : (at : ℕ) (A Y B t key : List ℕ) (n : ℕ) → at ≡ atT (p .l) (p .shares) → ResiduesHeld p A → length Y ≡ p .l * 512 → Below (2 ^ 60) Y
+      → Residues (2 ^ 60) 512 B → t ≡ vkVector p key → Below 125 (vkVector p key) → Below 31 (commitmentIn p xs) → n ≡ p .k * 512
+      → ((at + p .k * 512 ≤ length xs) × Below q xs × Below 31 (span xs at (p .k * 512)) × (p .k ≤ 9) × (p .l ≤ 7))
+      × (((p .k * (p .l * 512) ≤ length A) × Below (2 ^ 60) A × (p .l * 512 ≤ length Y) × Below (2 ^ 60) Y × Residues (2 ^ 60) 512 B)
+      × ((length t ≡ p .k * 512) × Below 125 t × (n ≡ p .k * 512)))
+  hint-asked at A Y B t key n there held ly by rb vector vector-low w-low hint-long =
+      let R = room p h (length xs) long in (
+        (omega (arith, R .1, there), low, subst (λ (b : ℕ). Below 31 (span xs b (p .k * 512))) (sym there) w-low, h .rows-low, h .columns-low),
+        (
+          (omega (arith, held .0 .0, length-words A), held .1, omega (arith, ly), by, rb),
+          (ap length vector ∙ vector-long p key, subst (Below 125) (sym vector) vector-low, hint-long),
+        ),
+      )
 
-  module _ (wat : ℕ) (ys M key t : List ℕ) (at-w : wat ≡ atT (p .l) (p .shares))
-      (u : Wrote 0 (row + 512) (p .l * 512) (transformed (p .l) (span xs from (p .l * 512))) xs ys) (held : MatrixHeld p M)
-      (vector : t ≡ vkVector p key) where
-    -- w is still where it was
-    w-there : span ys wat (p .k * 512) ≡ commitmentIn p xs
-    w-there =
-        u .behind wat (p .k * 512) (omega arith) (omega (arith, h .columns-low, at-row, at-w)) ∙ ap (λ (b : ℕ). span xs b (p .k * 512)) at-w
-
-    -- what `hint_rows` requires
-    pub hint-asked : (C : List ℕ) (n : ℕ) → Words 512 C → Below 125 (vkVector p key) → Below 31 (commitmentIn p xs) → n ≡ p .k * 512
-        → ((row + 512 ≤ row + 512) × (row + 512 ≤ wat) × (row + 512 + p .l * 512 ≤ length ys) × (wat + p .k * 512 ≤ length ys) × Below q ys)
-        × (((p .k ≤ 9) × (p .l ≤ 7) × Words 512 C × (length t ≡ p .k * 512) × Below 125 t × Below 31 (span ys wat (p .k * 512)) × (n ≡ p .k * 512))
-        × MatrixHeld p M)
-    hint-asked C n words vector-low w-low hint-long =
-        let R = room p h (length xs) long in (
-          (omega arith, omega arith, omega (arith, u .long, h .columns-low, R .0), omega (arith, u .long, R .1), u .low),
-          (
-            (h .rows-low, h .columns-low, words, ap length vector ∙ vector-long p key, subst (Below 125) (sym vector) vector-low, subst (Below 31) (sym w-there) w-low, hint-long),
-            held,
-          ),
-        )
-
-    -- what it leaves, with c as the residues y and their transform C
-    pub hint-made : (c y C zs : List ℕ) (e : List ℤ) → y ≡ c → Words 512 y → C ≡ ntt y
-        → (length zs ≡ length ys) × Below q zs × Kept 0 row ys zs × Kept (row + 512) (length ys) ys zs
-        → e ≡ hintRows (p .k) (p .l) M (span ys (row + 512) (p .l * 512)) C t (span ys wat (p .k * 512))
-        → RoomUsed (p .shares) xs zs × (e ≡ hintOf (commitmentIn p xs) (recovered p (matrixIn p M) (responseIn p xs) c (vkVector p key)))
-    hint-made c y C zs e residues-are words C-is kept rows-are =
-        let R = room p h (length xs) long in
-        let s : span ys (row + 512) (p .l * 512) ≡ transformed (p .l) (responseIn p xs) =
-        u .new ∙ ap (λ (b : ℕ). transformed (p .l) (span xs b (p .l * 512))) at-from in (
-          (
-            kept .0 ∙ u .long,
-            kept .1,
-            kept-then (kept-less (omega arith) (omega arith) (kept-front u)) (kept-less (omega arith) (omega arith) (kept .2)),
-            kept-then (kept-less (omega (arith, h .columns-low)) (omega arith) (kept-behind (length xs) (omega arith) u))
-                (kept-less (omega arith) (omega (arith, u .long)) (kept .3)),
-          ),
-          rows-are ∙ hint-parts (p .k) (p .l) M s (C-is ∙ ap ntt residues-are) vector w-there
-              ∙ hint-all p M (responseIn p xs) c (vkVector p key) (commitmentIn p xs) held
-              (span-words xs (atX (p .k) (p .l) (p .shares)) (p .l * 512) (R .2) low) (subst (Words 512) residues-are words) (vector-long p key)
-              (length-span xs (atT (p .l) (p .shares)) (p .k * 512) (R .1)),
-        )
+  -- what it leaves, with c as the residues y
+  pub hint-made : (at from : ℕ) (M Z C t key c y : List ℕ) (e : List ℤ) → at ≡ atT (p .l) (p .shares) → from ≡ atX (p .k) (p .l) (p .shares)
+      → MatrixHeld p M → Z ≡ transformed (p .l) (span xs from (p .l * 512)) → t ≡ vkVector p key → y ≡ c → Words 512 y → C ≡ ntt y
+      → e ≡ hintRows (p .k) (p .l) M Z C t (span xs at (p .k * 512))
+      → e ≡ hintOf (commitmentIn p xs) (recovered p (matrixIn p M) (responseIn p xs) c (vkVector p key))
+  hint-made at from M Z C t key c y e there at-from held z-is vector residues-are words C-is rows-are =
+      let R = room p h (length xs) long in
+      let z : Z ≡ transformed (p .l) (responseIn p xs) = z-is ∙ ap (λ (b : ℕ). transformed (p .l) (span xs b (p .l * 512))) at-from in
+      let w : span xs at (p .k * 512) ≡ commitmentIn p xs = ap (λ (b : ℕ). span xs b (p .k * 512)) there in
+      rows-are ∙ hint-parts (p .k) (p .l) M z (C-is ∙ ap ntt residues-are) vector w
+      ∙ hint-all p M (responseIn p xs) c (vkVector p key) (commitmentIn p xs) held
+      (span-words xs (atX (p .k) (p .l) (p .shares)) (p .l * 512) (R .2) low) (subst (Words 512) residues-are words) (vector-long p key)
+      (length-span xs (atT (p .l) (p .shares)) (p .k * 512) (R .1))

@@ -11,6 +11,7 @@ use Rattle.hash.specs.Params.{orderIndex}
 use Rattle.hash.specs.declared.params.Params.{Params}
 use Rattle.hash.proofs.Rows.{count-power}
 use Rattle.ring.specs.Words.{q, Below, Words}
+use Rattle.ring.specs.Rns.{wordsOf}
 use Rattle.ring.specs.Round.{roundT}
 use Rattle.ring.proofs.Filled.{not-there}
 use Rattle.sharing.specs.Blocks.{block, totals}
@@ -26,12 +27,12 @@ use Rattle.signature.specs.Keys.{keyShares, keyVector, compressed}
 use Rattle.signature.specs.Compress.{compressedOf}
 use Rattle.signature.specs.Layout.{atS, atT, atX}
 use Rattle.signature.specs.Masked.{Noise, seeded, maskedNoise, maskedImage}
-use Rattle.signature.specs.MaskedSteps.{matrixIn, MatrixHeld, transformed, rowsOf, SummedAll}
+use Rattle.signature.specs.MaskedSteps.{matrixIn, MatrixHeld, ResiduesHeld, transformed, rowsOf, SummedAll}
 use Rattle.signature.specs.Matrix.{matrix, matrixOf, filled}
 use Rattle.signature.specs.Table.{Tabled}
 use Rattle.signature.proofs.Masking.{image-is}
 use Rattle.signature.proofs.Product.{transformed-each}
-use Rattle.signature.proofs.Sizes.{cleared, room, coins-first, coins-second, matrix-fits, part-all}
+use Rattle.signature.proofs.Sizes.{cleared, room, coins-first, coins-second, matrix-held, part-all}
 
 -- lines 5 to 8: a sum, rounded where it is
 pub rounded-made : (p : Params) (to : ℕ) (W s₀ s₁ s₂ : List ℕ) → p .shares * 512 + p .shares * 512 ≤ to
@@ -157,21 +158,21 @@ module _ (p : Params) (work s₀ : List ℕ) (clear : s₀ ≡ zeros (length wor
         let R = room p h (length work) long in
         ((h, h .ut-pos, omega (arith, h .ut-low), coins-first p h (length coins) coins-long), (omega arith, omega (arith, R .0, start .long), start .low))
 
-    module _ (g : MaskGen) (M s₁ : List ℕ) (M-long : length M ≡ 32256) (M-low : Below q M)
+    module _ (g : MaskGen) (M s₁ : List ℕ) (M-long : length M ≡ 32256) (M-low : Below (2 ^ 60) M)
         (u : Wrote (p .shares * 512) at (p .l * (p .shares * 512)) (transformed (p .l * p .shares) (maskedNoise p (noiseOf p coins) g .shares)) s₀ s₁) where
       -- the matrix is in its array
-      held-in : MatrixHeld p M
-      held-in = (matrix-fits p h M-long, M-low)
+      held-in : ResiduesHeld p M
+      held-in = matrix-held p h M M-long M-low
 
       -- what `public_vector` requires
-      pub vector-asked : (Tabled p × (p .k * p .rep * p .shares * (p .kappa / 8) ≤ length (lentRest p coins)) × MatrixHeld p M)
+      pub vector-asked : (Tabled p × (p .k * p .rep * p .shares * (p .kappa / 8) ≤ length (lentRest p coins)) × ResiduesHeld p M)
           × ((p .shares * 512 + p .shares * 512 ≤ at) × (at + p .l * (p .shares * 512) ≤ to) × (to + p .k * 512 ≤ length s₁) × Below q s₁)
       vector-asked =
           let R = room p h (length work) long in
           ((h, coins-second p h coins coins-long, held-in), (omega arith, omega arith, omega (arith, R .1, u .long, start .long), u .low))
 
       module _ (x : MaskGen) (s₂ shares : List ℕ) (from : ℕ) (at-x : from ≡ atX (p .k) (p .l) (p .shares))
-          (v : Rounded p to (imageOf p (lentRest p coins) x M (span s₁ at (p .l * (p .shares * 512)))) s₁ s₂) where
+          (v : Rounded p to (imageOf p (lentRest p coins) x (wordsOf M) (span s₁ at (p .l * (p .shares * 512)))) s₁ s₂) where
         -- the work buffer is as long as before
         still-long : length s₂ ≡ length work
         still-long = v .vector .long ∙ u .long ∙ start .long
@@ -193,14 +194,14 @@ module _ (p : Params) (work s₀ : List ℕ) (clear : s₀ ≡ zeros (length wor
 
         -- what is left where it does
         pub parts-made : (seed s₃ : List ℕ) (g′ : MaskGen) (found r : Bool) → g ≡ g′ → found ≡ filled (matrixOf (p .k) (p .l) seed) → found ≡ true
-            → ((A : List ℕ) → matrixOf (p .k) (p .l) seed ≡ some A → matrixIn p M ≡ A) → x ≡ maskedNoise p (noiseOf p coins) g .next
+            → ((A : List ℕ) → matrixOf (p .k) (p .l) seed ≡ some A → matrixIn p (wordsOf M) ≡ A) → x ≡ maskedNoise p (noiseOf p coins) g .next
             → (r ≡ filled (compressedOf (p .edition) (p .kappa / 8) shares (p .l) (p .shares) (span s₂ at (p .l * (p .shares * 512)))))
             × (length s₃ ≡ length s₂) × Below q s₃
             → ((X : List ℕ) → compressedOf (p .edition) (p .kappa / 8) shares (p .l) (p .shares) (span s₂ at (p .l * (p .shares * 512))) ≡ some X
             → Wrote 0 from (p .l * 512) X s₂ s₃) → PartsLeft p g′ r work s₃ seed coins shares
         parts-made seed s₃ g′ found r g-is e there is x-is full wrote =
-            let m = made-parts p (count-power (p .shares) (h .count)) coins shares g seed M (lentRest p coins) s₀ s₁ s₂ s₃ x
-            (part-all (p .l * p .rep * p .shares * (p .kappa / 8)) coins) (rw at-s at u) x-is held-in (sym e ∙ there) is (rw (at-s, at-t) at v) r
+            let m = made-parts p (count-power (p .shares) (h .count)) coins shares g seed (wordsOf M) (lentRest p coins) s₀ s₁ s₂ s₃ x
+            (part-all (p .l * p .rep * p .shares * (p .kappa / 8)) coins) (rw at-s at u) x-is (held-in .0) (sym e ∙ there) is (rw (at-s, at-t) at v) r
             (rw at-s at (full .0)) (rw (at-s, at-x) at wrote) g′ g-is in
             ((m .0, full .1 ∙ still-long, full .2), m .1)
 

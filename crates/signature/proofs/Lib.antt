@@ -22,6 +22,7 @@ pub mod Finished
 pub mod Fronts
 pub mod Hints
 pub mod Images
+pub mod InResidues
 pub mod KeyBytes
 pub mod KeyEnds
 pub mod KeyMade

@@ -1,36 +1,34 @@
 -- Rows of y = A z - 2^42 c t: as the code makes them, and as the definition has them.
 use mathlib.Core.Path.{_≡_, sym, ap, _∙_}
 use mathlib.Core.List.{List}
-use Prim.Native.Nat.{ℕ, _+_, _*_, _≤_, _<_}
+use Prim.Native.Nat.{ℕ, _+_, _*_, _<_}
 use native.Mathlib.Omega.{arith}
 use lib.ListN.{length}
 use Rattle.ring.specs.Words.{Words, subW}
-use Rattle.ring.specs.Transform.{ntt, mul}
+use Rattle.ring.specs.Transform.{ntt, intt, pointwise, mul}
 use Rattle.ring.specs.Round.{scaledT}
-use Rattle.ring.proofs.Sums.{words-sub}
-use Rattle.ring.proofs.Theorems.{product}
-use Rattle.sharing.specs.Blocks.{block, build, sumOf}
-use Rattle.sharing.specs.Region.{span, put, Wrote}
-use Rattle.sharing.proofs.Built.{block-of, build-one}
+use Rattle.ring.proofs.Theorems.{ntt-words, pointwise-words, product, intt-sub}
+use Rattle.sharing.specs.Blocks.{block, sumOf}
+use Rattle.sharing.proofs.Built.{block-of}
 use Rattle.sharing.proofs.Decode.{sum-ext}
-use Rattle.sharing.proofs.Regions.{span-words, wrote-put, wrote-value, wrote-over}
-use Rattle.signature.specs.MaskedSteps.{rowShare, transformed}
+use Rattle.signature.specs.MaskedSteps.{applied, sharedPoly, rowShare, transformed}
 use Rattle.signature.specs.Recover.{productRow, recoveredRow}
 use Rattle.signature.specs.RecoverSteps.{scaledBy, recoveredBy}
 use Rattle.signature.proofs.Product.{row-share}
+use Rattle.signature.proofs.Rows.{applied-words, row-share-is}
 
--- the row of A z made at `to`, and 2^42 c t, which is r, subtracted there
-pub recover-made : (l to at : ℕ) (T C t r s₀ s₁ s₂ : List ℕ) → to + 512 ≤ length s₀
-    → Wrote 0 to 512 (build 1 (rowShare 1 l T (span s₀ at (l * 512)))) s₀ s₁ → r ≡ scaledBy C t → s₂ ≡ put s₁ to 512 (subW (span s₁ to 512) r)
-    → Wrote 0 to 512 (recoveredBy l T (span s₀ at (l * 512)) C t) s₀ s₂
-unfolding recoveredBy
-recover-made l to at T C t r s₀ s₁ s₂ h u e f =
-    let n = u .long in
-    let k : to + 512 ≤ length s₁ = omega (arith, n, h) in
-    let X = subW (span s₁ to 512) r in
-    let w : Words 512 X = words-sub (span s₁ to 512) r (span-words s₁ to 512 k (u .low)) in
-    let g : X ≡ subW (rowShare 1 l T (span s₀ at (l * 512)) 0) (scaledBy C t) = ap (λ (y : List ℕ). subW y r) (u .new ∙ build-one (rowShare 1 l T (span s₀ at (l * 512)))) ∙ ap (subW (rowShare 1 l T (span s₀ at (l * 512)) 0)) e in
-    wrote-over u (wrote-value g (wrote-put to 512 X s₁ s₂ k (w .long) (u .low) (w .low) f))
+-- 2^42 c t taken off before the sums are turned back, or behind that
+pub recovered-by : (l : ℕ) (T Z C t u : List ℕ) → u ≡ ntt (scaledT t) → length C ≡ 512
+    → intt (subW (applied l T Z) (pointwise C u)) ≡ recoveredBy l T Z C t
+unfolding recoveredBy scaledBy
+recovered-by l T Z C t u e h =
+    let P = pointwise C (ntt (scaledT t)) in
+    let wp : Words 512 P = pointwise-words C (ntt (scaledT t)) h (ntt-words (scaledT t) .long) in
+    let one : (m : ℕ) → m < l → block 512 m Z ≡ sharedPoly 1 Z 0 m =
+    λ (m : ℕ) (o : m < l). let j : m * 1 + 0 ≡ m = omega arith in sym (block-of 512 1 m 0 Z (omega arith) ∙ ap (λ (x : ℕ). block 512 x Z) j) in
+    ap (λ (x : List ℕ). intt (subW (applied l T Z) (pointwise C x))) e
+    ∙ intt-sub (applied l T Z) P (applied-words l T Z) wp
+    ∙ ap (λ (x : List ℕ). subW x (intt P)) (row-share-is 1 l T Z Z 0 one)
 
 -- row i of the matrix A, held as T; z and c below q
 pub recovered-row : (l i : ℕ) (T A z c t : List ℕ) → ((m : ℕ) → m < l → block 512 m T ≡ ntt (block 512 (i * l + m) A))

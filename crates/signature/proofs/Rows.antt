@@ -1,109 +1,122 @@
--- The loops of one row of the masked product: products added share by share, column by column, and turned back. s₀ is the buffer where the
--- loop begins, s before the turn, t behind it.
-use mathlib.Core.Path.{_≡_, refl, sym, ap, _∙_}
+-- A row of the matrix applied to a vector, both in the transform domain, and the shares of a row of the masked product.
+use mathlib.Core.Path.{_≡_, sym, ap, subst, _∙_}
 use mathlib.Core.List.{List}
-use Prim.Native.Nat.{ℕ, _+_, _*_, _≤_, _<_}
+use Prim.Native.Nat.{ℕ, _+_, _*_, _^_, _≤_, _<_}
 use native.Mathlib.Numerals.{add-one}
 use native.Mathlib.Omega.{arith}
-use Rattle.ring.specs.Words.{addW, Words}
-use Rattle.ring.specs.Transform.{intt, pointwise}
-use Rattle.ring.proofs.Theorems.{intt-words}
+use lib.Dec.{lit<}
+use lib.ListN.{length}
 use Rattle.hash.specs.Lists.{zeros}
+use Rattle.ring.specs.Words.{addW, Residues, Words}
+use Rattle.ring.specs.Transform.{intt, pointwise}
+use Rattle.ring.specs.Rns.{wordsOf, recombined, Accrued}
+use Rattle.ring.proofs.Recombined.{recombined-zeros}
+use Rattle.ring.proofs.Sums.{words-zeros, below-zeros, residues-wider}
+use Rattle.ring.proofs.Theorems.{intt-words}
 use Rattle.sharing.specs.Blocks.{block, build, sumOf}
 use Rattle.sharing.specs.Region.{span, Wrote}
-use Rattle.sharing.proofs.Lists.{build-ext, block-build, build-zeros, words-build}
-use Rattle.sharing.proofs.Built.{sum-next}
-use Rattle.sharing.proofs.Decode.{words-sum}
+use Rattle.sharing.proofs.Lists.{inside, block-build, words-build}
+use Rattle.sharing.proofs.Built.{block-is, sum-next}
+use Rattle.sharing.proofs.Decode.{words-sum, sum-ext}
 use Rattle.sharing.proofs.Loops.{sum-start}
-use Rattle.sharing.proofs.Regions.{block-span, wrote-value, wrote-over, wrote-turn}
-use Rattle.sharing.proofs.Turns.{block-rest}
-use Rattle.signature.specs.MaskedSteps.{rowShare, untransformed, accrued, rowSum}
+use Rattle.sharing.proofs.Regions.{length-span, block-span, wrote-value, wrote-turn}
+use Rattle.signature.specs.MaskedSteps.{applied, sharedPoly, rowShare, rowSum}
 
--- products added to the shares at `to`
-module _ (a : List ℕ) (d to at : ℕ) (s₀ : List ℕ) (h : to + d * 512 ≤ at) where
-  pub accrue-turn : (j : ℕ) (s t x y p : List ℕ) → j < d
-      → Wrote 0 to (j * 512) (build j (accrued a (span s₀ to (d * 512)) (span s₀ at (d * 512)))) s₀ s
-      → x ≡ span s (at + j * 512) 512 → y ≡ span s (to + j * 512) 512 → p ≡ addW y (pointwise a x)
-      → Wrote 0 (to + j * 512) 512 p s t
-      → Wrote 0 to ((j + 1) * 512) (build (j + 1) (accrued a (span s₀ to (d * 512)) (span s₀ at (d * 512)))) s₀ t
-  accrue-turn j s t x y p l u ex ey ep v =
-      let f = accrued a (span s₀ to (d * 512)) (span s₀ at (d * 512)) in
-      let b : span s (to + j * 512) 512 ≡ block 512 j (span s₀ to (d * 512)) = block-rest 0 512 d to j s₀ s l (build j f) (omega arith) u in
-      let e : span s (at + j * 512) 512 ≡ span s₀ (at + j * 512) 512 = u .behind (at + j * 512) 512 (omega arith) (omega arith) in
-      let g : block 512 j (span s₀ at (d * 512)) ≡ span s₀ (at + j * 512) 512 = block-span 512 d j s₀ at l in
-      wrote-turn 512 j f (omega arith) u (wrote-value (cc (ex, ey, ep, b, e, g)) v)
+-- ---- a row applied to a vector, column by column
 
--- ---- the sums over the columns
+pub applied-words : (l : ℕ) (T Z : List ℕ) → Words 512 (applied l T Z)
+unfolding applied
+applied-words l T Z = words-sum 512 l (λ (m : ℕ). pointwise (block 512 m T) (block 512 m Z))
+
+applied-more : (m : ℕ) (T Z : List ℕ) → applied (m + 1) T Z ≡ addW (applied m T Z) (pointwise (block 512 m T) (block 512 m Z))
+unfolding applied
+applied-more m T Z =
+    let f : ℕ → List ℕ = λ (i : ℕ). pointwise (block 512 i T) (block 512 i Z) in
+    ap (λ (n : ℕ). sumOf 512 n f) (add-one m) ∙ sum-next 512 m f
+
+-- the sums of m columns, modulo each prime
+pub record Applying (T Z : List ℕ) (m : ℕ) (hi lo : List ℕ) : Type 0 where
+  pub is : recombined hi lo ≡ applied m T Z
+  pub high : Residues (m * 2 ^ 60 + 1) 512 hi
+  pub low : Residues (m * 2 ^ 60 + 1) 512 lo
+
+pub apply-start : (T Z hi lo : List ℕ) → hi ≡ zeros 512 → lo ≡ zeros 512 → Applying T Z 0 hi lo
+unfolding applied
+apply-start T Z hi lo e g =
+    let z : Residues (0 * 2 ^ 60 + 1) 512 (zeros 512) = record { long = words-zeros 512 .long; low = below-zeros (0 * 2 ^ 60 + 1) (lit< tt) 512 } in
+    record {
+      is = cc (e, g, recombined-zeros 512, sum-start 512 (λ (m : ℕ). pointwise (block 512 m T) (block 512 m Z)));
+      high = subst (Residues (0 * 2 ^ 60 + 1) 512) (sym e) z;
+      low = subst (Residues (0 * 2 ^ 60 + 1) 512) (sym g) z;
+    }
+
+-- one more: a and x are its entry and polynomial, in residues
+pub apply-turn : (T Z : List ℕ) (m : ℕ) (a x hi lo hi' lo' : List ℕ) → Applying T Z m hi lo → wordsOf a ≡ block 512 m T → wordsOf x ≡ block 512 m Z
+    → Accrued addW (2 ^ 60) a x hi lo hi' lo' → Applying T Z (m + 1) hi' lo'
+apply-turn T Z m a x hi lo hi' lo' v ea ex u =
+    let n : m * 2 ^ 60 + 1 + 2 ^ 60 ≡ (m + 1) * 2 ^ 60 + 1 = omega arith in
+    let r = u .low (m * 2 ^ 60 + 1) (v .high) (v .low) in
+    record {
+      is = u .same ∙ cc (v .is, ea, ex, applied-more m T Z);
+      high = subst (λ (k : ℕ). Residues k 512 hi') n (r .0);
+      low = subst (λ (k : ℕ). Residues k 512 lo') n (r .1);
+    }
+
+-- all l of them, 7 at most
+pub apply-end : (T Z : List ℕ) (l m : ℕ) (hi lo : List ℕ) → m ≡ l → l ≤ 7 → Applying T Z m hi lo
+    → (recombined hi lo ≡ applied l T Z) × Residues (8 * 2 ^ 60) 512 hi × Residues (8 * 2 ^ 60) 512 lo
+apply-end T Z l m hi lo e h v =
+    let k : m * 2 ^ 60 + 1 ≤ 8 * 2 ^ 60 = omega (arith, e, h) in
+    (v .is ∙ ap (λ (n : ℕ). applied n T Z) e, residues-wider (8 * 2 ^ 60) k hi (v .high), residues-wider (8 * 2 ^ 60) k lo (v .low))
+
+-- ---- the shares of a row
+
+-- Z is share j of the vector X
+pub row-share-is : (d l : ℕ) (T X Z : List ℕ) (j : ℕ) → ((m : ℕ) → m < l → block 512 m Z ≡ sharedPoly d X j m) → intt (applied l T Z) ≡ rowShare d l T X j
+unfolding applied rowShare rowSum
+row-share-is d l T X Z j e =
+    ap intt
+    (sum-ext 512 l (λ (m : ℕ). pointwise (block 512 m T) (block 512 m Z)) (λ (m : ℕ). pointwise (block 512 m T) (sharedPoly d X j m))
+    (λ (m : ℕ) (h : m < l). ap (pointwise (block 512 m T)) (e m h)))
+
+-- one more, r, of the vector at `at`, behind the shares at `to`
+pub row-turn : (d l to at j : ℕ) (T s₀ s t r : List ℕ) → to + d * 512 ≤ at → j < d
+    → Wrote 0 to (j * 512) (build j (rowShare d l T (span s₀ at (l * (d * 512))))) s₀ s → r ≡ rowShare d l T (span s at (l * (d * 512))) j
+    → Wrote 0 (to + j * 512) 512 r s t → Wrote 0 to ((j + 1) * 512) (build (j + 1) (rowShare d l T (span s₀ at (l * (d * 512))))) s₀ t
+row-turn d l to at j T s₀ s t r h g u e v =
+    let x : span s at (l * (d * 512)) ≡ span s₀ at (l * (d * 512)) = u .behind at (l * (d * 512)) (omega arith) (omega (arith, inside j d 512 g)) in
+    wrote-turn 512 j (rowShare d l T (span s₀ at (l * (d * 512)))) (omega arith) u (wrote-value (e ∙ ap (λ (X : List ℕ). rowShare d l T X j) x) v)
 
 sum-words : (d : ℕ) (T X : List ℕ) (m j : ℕ) → Words 512 (rowSum d T X m j)
 unfolding rowSum
 sum-words d T X m j = words-sum 512 m (λ (i : ℕ). pointwise (block 512 i T) (block 512 j (block (d * 512) i X)))
 
-sum-none : (d : ℕ) (T X : List ℕ) → build d (rowSum d T X 0) ≡ zeros (d * 512)
-unfolding rowSum
-sum-none d T X = build-ext d (rowSum d T X 0) (λ (j : ℕ). zeros 512) (λ (j : ℕ) (l : j < d). sym (sum-start 512 _)) ∙ build-zeros 512 d
-
-sum-more : (d : ℕ) (T X : List ℕ) (m j : ℕ)
-    → rowSum d T X (m + 1) j ≡ addW (rowSum d T X m j) (pointwise (block 512 m T) (block 512 j (block (d * 512) m X)))
-unfolding rowSum
-sum-more d T X m j =
-    let f : ℕ → List ℕ = λ (i : ℕ). pointwise (block 512 i T) (block 512 j (block (d * 512) i X)) in
-    ap (λ (n : ℕ). sumOf 512 n f) (add-one m) ∙ sum-next 512 m f
-
-module _ (d l to at : ℕ) (T : List ℕ) (h : to + d * 512 ≤ at) where
-  -- zero is the sum of no columns
-  pub row-first : (s s₀ : List ℕ) → Wrote 0 to (d * 512) (zeros (d * 512)) s s₀
-      → Wrote 0 to (d * 512) (build d (rowSum d T (span s₀ at (l * (d * 512))) 0)) s₀ s₀
-  row-first s s₀ z =
-      record {
-        new = z .new ∙ sym (sum-none d T (span s₀ at (l * (d * 512))));
-        front = λ (b j : ℕ) m n. refl;
-        behind = λ (b j : ℕ) m n. refl;
-        long = refl;
-        low = z .low;
-      }
-
-  -- a column more; b is its entry
-  pub row-turn : (m : ℕ) (b s₀ s t : List ℕ) → m < l → b ≡ block 512 m T
-      → Wrote 0 to (d * 512) (build d (rowSum d T (span s₀ at (l * (d * 512))) m)) s₀ s
-      → Wrote 0 to (d * 512) (build d (accrued b (span s to (d * 512)) (span s (at + m * (d * 512)) (d * 512)))) s t
-      → Wrote 0 to (d * 512) (build d (rowSum d T (span s₀ at (l * (d * 512))) (m + 1))) s₀ t
-  row-turn m b s₀ s t g e u v =
-      let X = span s₀ at (l * (d * 512)) in
-      let Y = span s (at + m * (d * 512)) (d * 512) in
-      let y : Y ≡ block (d * 512) m X =
-      u .behind (at + m * (d * 512)) (d * 512) (omega arith) (omega arith) ∙ sym (block-span (d * 512) l m s₀ at g) in
-      let r : (j : ℕ) → j < d → accrued b (span s to (d * 512)) Y j ≡ rowSum d T X (m + 1) j =
-      λ (j : ℕ) (i : j < d).
-      let x : block 512 j (span s to (d * 512)) ≡ rowSum d T X m j =
-      ap (block 512 j) (u .new) ∙ block-build 512 d j (rowSum d T X m) (λ (k : ℕ) (n : k < d). sum-words d T X m k .long) i in
-      let f = sum-more d T X m j in
-      cc (x, y, e, f) in
-      wrote-over u (wrote-value (build-ext d (accrued b (span s to (d * 512)) Y) (rowSum d T X (m + 1)) r) v)
-
-  -- all columns; s is the buffer before it was cleared
-  pub row-all : (m : ℕ) (s s₀ t : List ℕ) → m ≡ l → Wrote 0 to (d * 512) (zeros (d * 512)) s s₀
-      → Wrote 0 to (d * 512) (build d (rowSum d T (span s₀ at (l * (d * 512))) m)) s₀ t
-      → Wrote 0 to (d * 512) (build d (rowSum d T (span s at (l * (d * 512))) l)) s t
-  row-all m s s₀ t e z u =
-      let x : span s₀ at (l * (d * 512)) ≡ span s at (l * (d * 512)) = z .behind at (l * (d * 512)) (omega arith) h in
-      wrote-over z (wrote-value (ap (λ (X : List ℕ). build d (rowSum d T X m)) x ∙ ap (λ (n : ℕ). build d (rowSum d T (span s at (l * (d * 512))) n)) e) u)
-
--- turned back
-pub row-back : (d l to : ℕ) (T X s₀ s t : List ℕ) → Wrote 0 to (d * 512) (build d (rowSum d T X l)) s₀ s
-    → Wrote 0 to (d * 512) (untransformed d (span s to (d * 512))) s t → Wrote 0 to (d * 512) (build d (rowShare d l T X)) s₀ t
-unfolding untransformed rowShare
-row-back d l to T X s₀ s t u v =
-    let r : (j : ℕ) → j < d → intt (block 512 j (span s to (d * 512))) ≡ rowShare d l T X j =
-    λ (j : ℕ) (i : j < d).
-    ap intt (ap (block 512 j) (u .new) ∙ block-build 512 d j (rowSum d T X l) (λ (k : ℕ) (n : k < d). sum-words d T X l k .long) i) in
-    wrote-over u (wrote-value (build-ext d (λ (j : ℕ). intt (block 512 j (span s to (d * 512)))) (rowShare d l T X) r) v)
-
--- ---- the shares of a row are words
-
+-- they are words
 pub row-share-words : (d l : ℕ) (T X : List ℕ) (j : ℕ) → Words 512 (rowShare d l T X j)
 unfolding rowShare
 row-share-words d l T X j = intt-words (rowSum d T X l j) (sum-words d T X l j)
 
 pub row-words : (d l : ℕ) (T X : List ℕ) → Words (d * 512) (build d (rowShare d l T X))
 row-words d l T X = words-build d (rowShare d l T X) (λ (j : ℕ) (h : j < d). row-share-words d l T X j)
+
+-- ---- share j of polynomial m of the vector of l sharings at `at`
+
+pub shared-in : (at l d j m n : ℕ) → m < l → j < d → at + l * (d * 512) ≤ n → at + (m * d + j) * 512 + 512 ≤ n
+shared-in at l d j m n h g k = omega (arith, inside m l (d * 512) h, inside j d 512 g)
+
+pub shared-span : (at l d j m : ℕ) (s : List ℕ) → m < l → j < d → span s (at + (m * d + j) * 512) 512 ≡ sharedPoly d (span s at (l * (d * 512))) j m
+shared-span at l d j m s h g =
+    let e : at + m * (d * 512) + j * 512 ≡ at + (m * d + j) * 512 = omega arith in
+    sym
+    (ap (block 512 j) (block-span (d * 512) l m s at h) ∙ block-span 512 d j s (at + m * (d * 512)) g ∙ ap (λ (b : ℕ). span s b 512) e)
+
+-- where a buffer begins with n polynomials f 0, f 1, ..
+pub shared-block : (n m : ℕ) (f : ℕ → List ℕ) (xs ys : List ℕ) → m < n → ((i : ℕ) → i < n → length (f i) ≡ 512) → Wrote 0 0 (n * 512) (build n f) xs ys
+    → block 512 m ys ≡ f m
+shared-block n m f xs ys h e w =
+    let z : m * 512 ≡ 0 + m * 512 = omega arith in
+    block-is 512 m ys ∙ ap (λ (b : ℕ). span ys b 512) z ∙ sym (block-span 512 n m ys 0 h) ∙ ap (block 512 m) (w .new) ∙ block-build 512 n m f e h
+
+pub shared-long : (at l d j : ℕ) (s : List ℕ) → j < d → at + l * (d * 512) ≤ length s → (m : ℕ) → m < l → length (sharedPoly d (span s at (l * (d * 512))) j m) ≡ 512
+shared-long at l d j s g k m h =
+    ap length (sym (shared-span at l d j m s h g)) ∙ length-span s (at + (m * d + j) * 512) 512 (shared-in at l d j m (length s) h g k)

@@ -1,22 +1,25 @@
 -- The numbers of a row of the parameter table, for key generation: what `Small` says, and the products that stay small.
 use mathlib.Core.Path.{_≡_, sym, ap, subst, _∙_}
 use mathlib.Core.List.{List}
-use Prim.Native.Nat.{ℕ, _+_, _-_, _*_, _/_, _≤_}
+use Prim.Native.Nat.{ℕ, _+_, _-_, _*_, _/_, _^_, _≤_}
 use native.Mathlib.Nat.{mul-le-mul}
 use native.Mathlib.Omega.{arith}
+use lib.Dec.{lit<}
 use lib.ListN.{length, take, drop, length-drop}
 use lib.Seq.{take-all, length-take-le}
 use mir.Syntax.{w64}
 use mir.Val.{Fits}
 use Rattle.hash.specs.declared.params.Params.{Params}
-use Rattle.ring.specs.Words.{q, Below, Words}
+use Rattle.ring.specs.Words.{Below, Words}
 use Rattle.hash.specs.Lists.{zeros}
-use Rattle.ring.proofs.Sums.{words-zeros}
+use Rattle.ring.proofs.Recombined.{length-words, below-words}
+use Rattle.ring.proofs.Sums.{words-zeros, below-zeros}
 use Rattle.sharing.specs.Noise.{noiseBytes}
 use Rattle.sharing.proofs.NoisePlaces.{noise-bytes}
 use Rattle.signature.specs.Checks.{workWords}
 use Rattle.signature.specs.Keys.{keygenBytes, noisePart, sharePart}
 use Rattle.signature.specs.Layout.{atS, atT, atX}
+use Rattle.signature.specs.MaskedSteps.{ResiduesHeld}
 use Rattle.signature.specs.Table.{Tabled}
 
 pub cleared : (xs ys : List ℕ) → ys ≡ zeros (length xs) → Words (length xs) ys
@@ -101,11 +104,15 @@ module _ (p : Params) (h : Tabled p) where
     share-long = length-drop (p .kappa / 8 + noiseBytes p) xs ∙ (omega (arith, e))
 
 -- the local array that holds the matrix: 63 polynomials
-pub matrix-fits : (p : Params) → Tabled p → {n : ℕ} → n ≡ 32256 → p .k * (p .l * 512) ≤ n
+matrix-fits : (p : Params) → Tabled p → {n : ℕ} → n ≡ 32256 → p .k * (p .l * 512) ≤ n
 matrix-fits p h {n} e =
     let a : p .k * p .l ≤ 9 * 7 = mul-le-mul (h .rows-low) (h .columns-low) in
     omega (arith, a, e)
 
 -- .. new as it is lent to `expand_matrix`
-pub matrix-new : (p : Params) → Tabled p → (p .k * (p .l * 512) ≤ length (zeros 32256)) × Below q (zeros 32256) × (p .k ≤ 9) × (p .l ≤ 7)
-matrix-new p h = let w = words-zeros 32256 in (matrix-fits p h (w .long), w .low, h .rows-low, h .columns-low)
+pub matrix-new : (p : Params) → Tabled p → (p .k * (p .l * 512) ≤ length (zeros 32256)) × Below (2 ^ 60) (zeros 32256) × (p .k ≤ 9) × (p .l ≤ 7)
+matrix-new p h = (matrix-fits p h (words-zeros 32256 .long), below-zeros (2 ^ 60) (lit< tt) 32256, h .rows-low, h .columns-low)
+
+-- .. and as it is left
+pub matrix-held : (p : Params) → Tabled p → (M : List ℕ) → length M ≡ 32256 → Below (2 ^ 60) M → ResiduesHeld p M
+matrix-held p h M e b = ((matrix-fits p h (length-words M ∙ e), below-words M), b)

@@ -14,14 +14,14 @@ use Rattle.ring.specs.Words.{q, addW, Below, Words}
 use Rattle.ring.specs.Transform.{intt, pointwise}
 use Rattle.ring.specs.Round.{roundW, residues}
 use Rattle.sharing.specs.Blocks.{block, build, totals}
-use Rattle.sharing.specs.Region.{span, Kept}
+use Rattle.sharing.specs.Region.{span}
 use Rattle.sharing.specs.Encoding.{skip, refreshed}
 use Rattle.sharing.specs.Masks.{masks}
 use Rattle.sharing.specs.declared.masks.MaskGen.{MaskGen}
 use Rattle.signature.specs.Challenge.{chalHash, chalPoly}
 use Rattle.signature.specs.ChallengeSteps.{chalHeld}
 use Rattle.signature.specs.ExpandedKey.{expandedIn}
-use Rattle.signature.specs.Layout.{atRoom, atS, atR, atT, atX}
+use Rattle.signature.specs.Layout.{atS, atR, atT, atX}
 use Rattle.signature.specs.Masked.{Noise, maskedNoise, maskedImage}
 use Rattle.signature.specs.MaskedSteps.{transformed, untransformed}
 use Rattle.signature.specs.declared.challenge.Challenged.{Challenged}
@@ -65,10 +65,6 @@ responseIn p work = span work (atX (p .k) (p .l) (p .shares)) (p .l * 512)
 -- lines 17 to 19, of what stands there
 abbrev pub signedIn : Params → Public → List ℕ → List ℤ → List ℕ → Fields
 signedIn p P hash c work = signedFields p P (commitmentIn p work) hash (responseIn p work) c
-
--- lines 17 to 20 write to the room of eight polynomials before s alone
-abbrev pub RoomUsed : ℕ → List ℕ → List ℕ → Type 0
-RoomUsed d xs ys = (length ys ≡ length xs) × Below q ys × Kept 0 (atRoom d) xs ys × Kept (atS d) (length xs) xs ys
 
 -- lines 4 and 5 with the noise N, zero encodings from g on: r in the transform domain, and s as it was
 pub record Begun (p : Params) (N : Noise) (g : MaskGen) (s ys : List ℕ) : Type 0 where

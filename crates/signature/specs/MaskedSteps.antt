@@ -1,10 +1,11 @@
 -- Steps (what the code leaves on its way; no call's contract reaches these): the masked product row by row, by the transform.
 use mathlib.Core.Path.{_≡_}
 use mathlib.Core.List.{List}
-use Prim.Native.Nat.{ℕ, suc, _+_, _*_, _≤_}
+use Prim.Native.Nat.{ℕ, suc, _+_, _*_, _^_, _≤_}
 use lib.ListN.{length}
 use Rattle.hash.specs.declared.params.Params.{Params}
-use Rattle.ring.specs.Words.{q, addW, Below}
+use Rattle.ring.specs.Words.{q, Below}
+use Rattle.ring.specs.Rns.{wordsOf}
 use Rattle.ring.specs.Transform.{ntt, intt, pointwise}
 use Rattle.sharing.specs.Blocks.{block, build, sumOf, total, totals}
 use Rattle.sharing.specs.Region.{span, Wrote}
@@ -27,9 +28,17 @@ matrixIn p M = untransformed (p .k * p .l) M
 abbrev pub MatrixHeld : Params → List ℕ → Type 0
 MatrixHeld p M = (p .k * (p .l * 512) ≤ length M) × Below q M
 
--- share j of the products of a with the shares Y, added to the shares X
-abbrev pub accrued : List ℕ → List ℕ → List ℕ → ℕ → List ℕ
-accrued a X Y j = addW (block 512 j X) (pointwise a (block 512 j Y))
+-- .. held as M, words of two residues (`ring`, specs/Rns)
+abbrev pub ResiduesHeld : Params → List ℕ → Type 0
+ResiduesHeld p M = MatrixHeld p (wordsOf M) × Below (2 ^ 60) M
+
+-- a row of the matrix applied to a vector, T and Z, both in the transform domain
+unfoldable pub applied : ℕ → List ℕ → List ℕ → List ℕ
+applied l T Z = sumOf 512 l (λ (m : ℕ). pointwise (block 512 m T) (block 512 m Z))
+
+-- share j of polynomial m of a vector of sharings
+abbrev pub sharedPoly : ℕ → List ℕ → ℕ → ℕ → List ℕ
+sharedPoly d X j m = block 512 j (block (d * 512) m X)
 
 -- a row of the matrix and a vector of sharings, T and X, both in the transform domain: share j of m columns of the row; of all l, turned back
 unfoldable pub rowSum : ℕ → List ℕ → List ℕ → ℕ → ℕ → List ℕ

@@ -3,11 +3,12 @@ ghost use mathlib.Core.Path.{_≡_};
 ghost use Prim.Native.Nat.{_+_, _*_};
 ghost use lib.ListN.{length};
 ghost use Rattle.ring.specs.Words.{q, Below};
+ghost use Rattle.ring.specs.Rns.{wordsOf};
 ghost use Rattle.sharing.specs.Noise.{noiseBytes};
 ghost use Rattle.signature.specs.AttemptSteps.{coinsLent, Within, keyIn, Committed};
 ghost use Rattle.signature.specs.Checks.{workWords};
 ghost use Rattle.signature.specs.Masked.{seeded, explicit};
-ghost use Rattle.signature.specs.MaskedSteps.{matrixIn, MatrixHeld};
+ghost use Rattle.signature.specs.MaskedSteps.{matrixIn, ResiduesHeld};
 ghost use Rattle.signature.specs.Sign.{noiseAt, maskAt};
 ghost use Rattle.signature.specs.Table.{Tabled};
 use crate::layout::at_r;
@@ -23,9 +24,9 @@ use sharing::masks::start;
 // With noise from seeds: the seeds of one attempt. The generator behind line 7.
 fn commit_seeds(work: &mut [u64], p: Params, a: &[u64], coins: &[u8], g: MaskGen) -> MaskGen
     requires { ⌜ Tabled p × (length (now work) ≡ workWords p) × Below q (now work) × (length (now coins) ≡ noiseBytes p)
-        × MatrixHeld p (now a) ⌝ }
+        × ResiduesHeld p (now a) ⌝ }
     ensures { λ r. ⌜ (length (now (work .exit)) ≡ length (now (work .entry))) × Below q (now (work .exit))
-        × Committed p (seeded p (p .uw) (now (coins .entry))) g (matrixIn p (now (a .entry))) (keyIn p (now (work .entry))) r
+        × Committed p (seeded p (p .uw) (now (coins .entry))) g (matrixIn p (wordsOf (now (a .entry)))) (keyIn p (now (work .entry))) r
         (now (work .exit)) ⌝ }
 {
     let l = p.l;
@@ -43,9 +44,9 @@ fn commit_seeds(work: &mut [u64], p: Params, a: &[u64], coins: &[u8], g: MaskGen
 // With explicit noise: one attempt's words.
 fn commit_explicit(work: &mut [u64], p: Params, a: &[u64], words: &[u64], g: MaskGen) -> MaskGen
     requires { ⌜ Tabled p × (length (now work) ≡ workWords p) × Below q (now work) × (length (now words) ≡ (p .l + p .k) * p .shares * 512)
-        × Below q (now words) × MatrixHeld p (now a) ⌝ }
+        × Below q (now words) × ResiduesHeld p (now a) ⌝ }
     ensures { λ r. ⌜ (length (now (work .exit)) ≡ length (now (work .entry))) × Below q (now (work .exit))
-        × Committed p (explicit p (now (words .entry))) g (matrixIn p (now (a .entry))) (keyIn p (now (work .entry))) r
+        × Committed p (explicit p (now (words .entry))) g (matrixIn p (wordsOf (now (a .entry)))) (keyIn p (now (work .entry))) r
         (now (work .exit)) ⌝ }
 {
     let l = p.l;
@@ -68,11 +69,11 @@ pub(crate) fn commit(
     mask_seeds: &[u8],
     i: usize,
 ) -> MaskGen
-    requires { ⌜ Tabled p × (length (now work) ≡ workWords p) × Below q (now work) × MatrixHeld p (now a) ⌝ }
+    requires { ⌜ Tabled p × (length (now work) ≡ workWords p) × Below q (now work) × ResiduesHeld p (now a) ⌝ }
     requires { ⌜ Within p (coinsLent explicit seeds words «mask_seeds») i ⌝ }
     ensures { λ r. ⌜ (length (now (work .exit)) ≡ length (now (work .entry))) × Below q (now (work .exit))
         × Committed p (noiseAt p (coinsLent explicit (seeds .entry) (words .entry) («mask_seeds» .entry)) i)
-        (maskAt (coinsLent explicit (seeds .entry) (words .entry) («mask_seeds» .entry)) i) (matrixIn p (now (a .entry)))
+        (maskAt (coinsLent explicit (seeds .entry) (words .entry) («mask_seeds» .entry)) i) (matrixIn p (wordsOf (now (a .entry))))
         (keyIn p (now (work .entry))) r (now (work .exit)) ⌝ }
 {
     let m = i * 32;

@@ -1,20 +1,20 @@
 // The end of a signing attempt (000, Algorithm 2, lines 17 to 20): the hint, the bounds, and the signature. The work buffer is laid out as
-// specs/Layout.antt says: w, rounded, at atT, and z at atX. These lines write only to the room of eight polynomials before s: a row of y, and
-// z in the transform domain behind it. So all shares stay where they are.
+// specs/Layout.antt says: w, rounded, at atT, and z at atX. These lines only read it.
 ghost use mathlib.Core.Path.{_≡_};
 ghost use mathlib.Core.List.{List};
 ghost use Prim.Native.Nat.{ℕ, _+_, _*_, _^_, _≤_, _<_};
 ghost use lib.IntN.{pos, natAbs};
 ghost use lib.ListN.{length, getD};
-ghost use Rattle.ring.specs.Words.{q, Below, Words, zipTo};
+ghost use Rattle.ring.specs.Words.{q, Below, Residues, Words, zipTo};
+ghost use Rattle.ring.specs.Rns.{wordsOf};
 ghost use Rattle.ring.specs.Round.{roundW, residues};
-ghost use Rattle.sharing.specs.Region.{span, Kept};
+ghost use Rattle.sharing.specs.Region.{span};
 ghost use Rattle.signature.specs.AnswerSteps.{fieldsOf, FinishedAs};
-ghost use Rattle.signature.specs.AttemptSteps.{commitmentIn, responseIn, signedIn, RoomUsed};
+ghost use Rattle.signature.specs.AttemptSteps.{commitmentIn, responseIn, signedIn};
 ghost use Rattle.signature.specs.Checks.{workWords};
 ghost use Rattle.signature.specs.Form.{hashBytes};
 ghost use Rattle.signature.specs.Keys.{vkVector};
-ghost use Rattle.signature.specs.MaskedSteps.{matrixIn, MatrixHeld};
+ghost use Rattle.signature.specs.MaskedSteps.{matrixIn, ResiduesHeld};
 ghost use Rattle.signature.specs.Recover.{sub31, centredAll, hintOf, recovered};
 ghost use Rattle.signature.specs.RecoverSteps.{hintRows};
 ghost use Rattle.signature.specs.Sign.{publicBy, finished};
@@ -23,7 +23,6 @@ use crate::bits::unpack;
 use crate::bounds::check_bounds;
 use crate::form::bit_count;
 use crate::form::write;
-use crate::layout::at_room;
 use crate::layout::at_t;
 use crate::layout::at_x;
 use crate::recover::recover_row;
@@ -33,63 +32,55 @@ use crate::vector::ntt_to;
 use hash::params::Params;
 use ring::poly::Q;
 use ring::poly::from_signed;
-use ring::poly::ntt;
 use ring::poly::round_w;
+use ring::rns::ntt_residues;
 use sharing::region::load;
 
-// Line 18 for one row: y is at `row`, the rounded w at `at`.
-fn hint_row(s: &[u64], row: usize, at: usize, out: &mut [i64])
-    requires { ⌜ (row + 512 ≤ length (now s)) × (at + 512 ≤ length (now s)) × Below q (now s) × Below 31 (span (now s) at 512)
-        × (length (now out) ≡ 512) ⌝ }
-    ensures { λ _. ⌜ now (out .exit)
-        ≡ centredAll 31 (zipTo sub31 (span (now (s .entry)) at 512) (roundW (span (now (s .entry)) row 512))) ⌝ }
+// Line 18 for one row y: the rounded w is at `at`.
+fn hint_row(s: &[u64], at: usize, y: [u64; 512], out: &mut [i64])
+    requires { ⌜ (at + 512 ≤ length (now s)) × Below q (now s) × Below 31 (span (now s) at 512) × Words 512 y × (length (now out) ≡ 512) ⌝ }
+    ensures { λ _. ⌜ now (out .exit) ≡ centredAll 31 (zipTo sub31 (span (now (s .entry)) at 512) (roundW y)) ⌝ }
 {
-    let y = round_w(load(s, row));
-    hint_into(load(s, at), y, out);
+    let r = round_w(y);
+    hint_into(load(s, at), r, out);
 }
 
-// Lines 17 and 18, row by row of the matrix a: each row of y at `row`; z, transformed, is at `at`, w at `wat`; c is transformed.
+// Lines 17 and 18, row by row of the matrix a: w is at `at`; z and c are transformed and left in residues.
 fn hint_rows(
-    work: &mut [u64],
-    row: usize,
+    work: &[u64],
     at: usize,
-    wat: usize,
     a: &[u64],
+    z: &[u64],
     k: usize,
     l: usize,
-    c: [u64; 512],
+    c: &[u64],
     t: &[u64],
     hint: &mut [i64],
 )
-    requires { ⌜ (row + 512 ≤ at) × (row + 512 ≤ wat) × (at + l * 512 ≤ length (now work)) × (wat + k * 512 ≤ length (now work))
-        × Below q (now work) ⌝ }
-    requires { ⌜ (k ≤ 9) × (l ≤ 7) × Words 512 c × (length (now t) ≡ k * 512) × Below 125 (now t) × Below 31 (span (now work) wat (k * 512))
-        × (length (now hint) ≡ k * 512) ⌝ }
-    requires { ⌜ (k * (l * 512) ≤ length (now a)) × Below q (now a) ⌝ }
-    ensures { λ _. ⌜ (length (now (work .exit)) ≡ length (now (work .entry))) × Below q (now (work .exit))
-        × Kept 0 row (now (work .entry)) (now (work .exit))
-        × Kept (row + 512) (length (now (work .entry))) (now (work .entry)) (now (work .exit)) ⌝ }
+    requires { ⌜ (at + k * 512 ≤ length (now work)) × Below q (now work) × Below 31 (span (now work) at (k * 512)) × (k ≤ 9) × (l ≤ 7) ⌝ }
+    requires { ⌜ (k * (l * 512) ≤ length (now a)) × Below (2 ^ 60) (now a) × (l * 512 ≤ length (now z)) × Below (2 ^ 60) (now z)
+        × Residues (2 ^ 60) 512 (now c) ⌝ }
+    requires { ⌜ (length (now t) ≡ k * 512) × Below 125 (now t) × (length (now hint) ≡ k * 512) ⌝ }
     ensures { λ _. ⌜ now (hint .exit)
-        ≡ hintRows k l (now (a .entry)) (span (now (work .entry)) at (l * 512)) c (now (t .entry))
-        (span (now (work .entry)) wat (k * 512)) ⌝ }
+        ≡ hintRows k l (wordsOf (now (a .entry))) (wordsOf (now (z .entry))) (wordsOf (now (c .entry))) (now (t .entry))
+        (span (now (work .entry)) at (k * 512)) ⌝ }
 {
     for i in 0..k {
         let b = i * 512;
         let e = b + 512;
-        recover_row(work, row, at, a, i * (l * 512), l, c, load(t, b));
-        hint_row(work, row, wat + b, &mut hint[b..e]);
+        let y = recover_row(a, i * (l * 512), z, l, c, load(t, b));
+        hint_row(work, at + b, y, &mut hint[b..e]);
     }
 }
 
 // Lines 17 and 18: the hint.
-fn make_hint(work: &mut [u64], p: Params, vk: &[u8], a: &[u64], c: [i8; 512], hint: &mut [i64])
+fn make_hint(work: &[u64], p: Params, vk: &[u8], a: &[u64], c: [i8; 512], hint: &mut [i64])
     requires { ⌜ Tabled p × (length (now work) ≡ workWords p) × Below q (now work) × Below 31 (commitmentIn p (now work)) ⌝ }
-    requires { ⌜ (length (now vk) ≡ p .«vk_bytes») × Below 125 (vkVector p (now vk)) × MatrixHeld p (now a)
+    requires { ⌜ (length (now vk) ≡ p .«vk_bytes») × Below 125 (vkVector p (now vk)) × ResiduesHeld p (now a)
         × (length (now hint) ≡ p .k * 512) ⌝ }
-    ensures { λ _. ⌜ RoomUsed (p .shares) (now (work .entry)) (now (work .exit)) ⌝ }
     ensures { λ _. ⌜ now (hint .exit)
         ≡ hintOf (commitmentIn p (now (work .entry)))
-        (recovered p (matrixIn p (now (a .entry))) (responseIn p (now (work .entry))) (residues q c) (vkVector p (now (vk .entry)))) ⌝ }
+        (recovered p (matrixIn p (wordsOf (now (a .entry)))) (responseIn p (now (work .entry))) (residues q c) (vkVector p (now (vk .entry)))) ⌝ }
 {
     let k = p.k;
     let l = p.l;
@@ -97,14 +88,14 @@ fn make_hint(work: &mut [u64], p: Params, vk: &[u8], a: &[u64], c: [i8; 512], hi
     let n = p.kappa / 8;
     let m = k * 512;
     let e = n + k * 448;
-    let row = at_room(d);
-    let at = row + 512;
-    let wat = at_t(l, d);
+    let f = l * 512;
     let mut t = [0u64; 4608];
+    let mut z = [0u64; 3584];
     unpack(&vk[n..e], 7, &mut t[0..m]);
-    ntt_to(work, at_x(k, l, d), at, l);
-    let x = ntt(from_signed(c));
-    hint_rows(work, row, at, wat, a, k, l, x, &t[0..m], hint);
+    ntt_to(work, at_x(k, l, d), l, &mut z[0..f]);
+    let mut x = from_signed(c);
+    ntt_residues(&mut x);
+    hint_rows(work, at_t(l, d), a, &z[0..f], k, l, &x, &t[0..m], hint);
 }
 
 // Lines 19 and 20: the signature of the fields, where they pass the bounds and fit. Else out stays as it was.
@@ -129,7 +120,7 @@ fn write_fields(p: Params, hash: &[u8], hint: &[i64], z: &[i64], out: &mut [u8])
 
 // Lines 17 to 20, with room for hint and response.
 fn finish_with(
-    work: &mut [u64],
+    work: &[u64],
     p: Params,
     vk: &[u8],
     a: &[u64],
@@ -140,12 +131,12 @@ fn finish_with(
     out: &mut [u8],
 ) -> bool
     requires { ⌜ Tabled p × (length (now work) ≡ workWords p) × Below q (now work) × Below 31 (commitmentIn p (now work)) ⌝ }
-    requires { ⌜ (length (now vk) ≡ p .«vk_bytes») × Below 125 (vkVector p (now vk)) × MatrixHeld p (now a)
+    requires { ⌜ (length (now vk) ≡ p .«vk_bytes») × Below 125 (vkVector p (now vk)) × ResiduesHeld p (now a)
         × (length (now hash) ≡ hashBytes p) ⌝ }
     requires { ⌜ (length (now hint) ≡ p .k * 512) × (length (now z) ≡ p .l * 512) × (length (now out) ≡ p .«sig_bytes») ⌝ }
-    ensures { λ r. ⌜ RoomUsed (p .shares) (now (work .entry)) (now (work .exit)) ⌝ }
     ensures { λ r. ⌜ ((mu : List ℕ)
-        → FinishedAs (finished p (signedIn p (publicBy p (now (vk .entry)) mu (matrixIn p (now (a .entry)))) (now (hash .entry)) c (now (work .entry))))
+        → FinishedAs
+        (finished p (signedIn p (publicBy p (now (vk .entry)) mu (matrixIn p (wordsOf (now (a .entry))))) (now (hash .entry)) c (now (work .entry))))
         r (now (out .entry)) (now (out .exit))) ⌝ }
 {
     let b = at_x(p.k, p.l, p.shares);
@@ -157,7 +148,7 @@ fn finish_with(
 
 // Lines 17 to 20: true where the signature was made; where it is over the bounds or too long, out stays as it was. All shares are kept.
 pub(crate) fn finish(
-    work: &mut [u64],
+    work: &[u64],
     p: Params,
     vk: &[u8],
     a: &[u64],
@@ -166,11 +157,11 @@ pub(crate) fn finish(
     out: &mut [u8],
 ) -> bool
     requires { ⌜ Tabled p × (length (now work) ≡ workWords p) × Below q (now work) × Below 31 (commitmentIn p (now work)) ⌝ }
-    requires { ⌜ (length (now vk) ≡ p .«vk_bytes») × Below 125 (vkVector p (now vk)) × MatrixHeld p (now a)
+    requires { ⌜ (length (now vk) ≡ p .«vk_bytes») × Below 125 (vkVector p (now vk)) × ResiduesHeld p (now a)
         × (length (now hash) ≡ hashBytes p) × (length (now out) ≡ p .«sig_bytes») ⌝ }
-    ensures { λ r. ⌜ RoomUsed (p .shares) (now (work .entry)) (now (work .exit)) ⌝ }
     ensures { λ r. ⌜ ((mu : List ℕ)
-        → FinishedAs (finished p (signedIn p (publicBy p (now (vk .entry)) mu (matrixIn p (now (a .entry)))) (now (hash .entry)) c (now (work .entry))))
+        → FinishedAs
+        (finished p (signedIn p (publicBy p (now (vk .entry)) mu (matrixIn p (wordsOf (now (a .entry))))) (now (hash .entry)) c (now (work .entry))))
         r (now (out .entry)) (now (out .exit))) ⌝ }
 {
     let m = p.k * 512;

@@ -5,6 +5,7 @@ ghost use mathlib.Core.Option.{some};
 ghost use Prim.Native.Nat.{ℕ, _+_, _-_, _*_, _/_, _≤_};
 ghost use lib.ListN.{length};
 ghost use Rattle.ring.specs.Words.{q, Below};
+ghost use Rattle.ring.specs.Rns.{wordsOf};
 ghost use Rattle.sharing.specs.Region.{span};
 ghost use Rattle.sharing.specs.Encoding.{skip, addNoise};
 ghost use Rattle.sharing.specs.Masks.{masks, maskStart};
@@ -13,7 +14,7 @@ ghost use Rattle.signature.specs.Checks.{firstNo, both, workWords};
 ghost use Rattle.signature.specs.KeygenSteps.{Rounded, Generated, fullShareOf, keyOf};
 ghost use Rattle.signature.specs.KeyCalls.{keygenLeaves, keygenCall};
 ghost use Rattle.signature.specs.Keys.{vkSeed, noisePart, sharePart, keygenBytes, keygenOf};
-ghost use Rattle.signature.specs.MaskedSteps.{MatrixHeld, rowsOf};
+ghost use Rattle.signature.specs.MaskedSteps.{ResiduesHeld, rowsOf};
 ghost use Rattle.signature.specs.Matrix.{matrix, filled};
 ghost use Rattle.signature.specs.Outcome.{outcome};
 ghost use Rattle.signature.specs.Table.{Tabled};
@@ -45,12 +46,12 @@ fn public_vector(
     seeds: &[u8],
     g: MaskGen,
 ) -> MaskGen
-    requires { ⌜ Tabled p × (p .k * p .rep * p .shares * (p .kappa / 8) ≤ length (now seeds)) × MatrixHeld p (now a) ⌝ }
+    requires { ⌜ Tabled p × (p .k * p .rep * p .shares * (p .kappa / 8) ≤ length (now seeds)) × ResiduesHeld p (now a) ⌝ }
     requires { ⌜ (p .shares * 512 + p .shares * 512 ≤ at) × (at + p .l * (p .shares * 512) ≤ to) × (to + p .k * 512 ≤ length (now s))
         × Below q (now s) ⌝ }
     ensures { λ r. ⌜ Rounded p to
         (addNoise masks (p .shares) g (p .k) (p .rep) (seedNoise (p .shares) (p .rep) (p .ut) (p .kappa / 8) (now (seeds .entry)))
-        (rowsOf (p .shares) (p .k) (p .l) (now (a .entry)) (span (now (s .entry)) at (p .l * (p .shares * 512)))))
+        (rowsOf (p .shares) (p .k) (p .l) (wordsOf (now (a .entry))) (span (now (s .entry)) at (p .l * (p .shares * 512)))))
         (now (s .entry)) (now (s .exit))
         × (r ≡ skip masks (p .shares) (p .k * p .rep) g) ⌝ }
 {

@@ -1,85 +1,96 @@
 // The masked product by the transform (000, Algorithm 1 lines 5 to 7, Algorithm 2 lines 6 to 8): row by row of the matrix, which is lent in the
-// transform domain; then the row's noise, and the sum of its shares.
+// transform domain, left in residues; then the row's noise, and the sum of its shares.
 ghost use mathlib.Core.Path.{_≡_};
-ghost use Prim.Native.Nat.{_+_, _*_, _/_, _≤_, _<_};
+ghost use Prim.Native.Nat.{_+_, _*_, _/_, _^_, _≤_, _<_};
 ghost use lib.ListN.{length};
-ghost use Rattle.ring.specs.Words.{q, Below, Words};
+ghost use Rattle.ring.specs.Words.{q, Below, Residues, Words};
+ghost use Rattle.ring.specs.Rns.{wordsOf, recombined};
 ghost use Rattle.hash.specs.Lists.{zeros};
 ghost use Rattle.sharing.specs.Blocks.{block, build};
 ghost use Rattle.sharing.specs.Region.{span, Wrote};
 ghost use Rattle.sharing.specs.Encoding.{skip, addNoise};
 ghost use Rattle.sharing.specs.Masks.{masks};
 ghost use Rattle.sharing.specs.Noise.{seedNoise, explicitNoise};
-ghost use Rattle.signature.specs.MaskedSteps.{MatrixHeld, accrued, rowSum, rowShare, noisedRow, rowsOf, Summed, SummedAll};
+ghost use Rattle.signature.specs.MaskedSteps.{ResiduesHeld, applied, sharedPoly, rowShare, noisedRow, rowsOf, Summed, SummedAll};
 ghost use Rattle.signature.specs.Table.{Tabled};
-use crate::vector::intt_vector;
 use hash::params::Params;
-use ring::poly::mul_add;
+use ring::poly::copy_into;
+use ring::rns::add_product;
+use ring::rns::intt_sums;
+use ring::rns::residues_of;
 use sharing::masks::MaskGen;
-use sharing::region::clear;
 use sharing::region::load;
 use sharing::region::store_at;
 use sharing::repeat::add_explicit_noise_at;
 use sharing::repeat::add_rep_noise_at;
 use sharing::shares::decode_at;
 
-// d zero polynomials at `at`.
-fn clear_at(s: &mut [u64], at: usize, d: usize)
-    requires { ⌜ (at + d * 512 ≤ length (now s)) × Below q (now s) ⌝ }
-    ensures { λ _. ⌜ Wrote 0 at (d * 512) (zeros (d * 512)) (now (s .entry)) (now (s .exit)) ⌝ }
+// A row of the matrix, which begins at `from` in a, applied to a vector of l polynomials: the sums of the products, modulo each prime.
+pub(crate) fn apply_row(hi: &mut [u64], lo: &mut [u64], a: &[u64], from: usize, z: &[u64], l: usize)
+    requires { ⌜ (now hi ≡ zeros 512) × (now lo ≡ zeros 512) × (l ≤ 7) ⌝ }
+    requires { ⌜ (from + l * 512 ≤ length (now a)) × Below (2 ^ 60) (now a) × (l * 512 ≤ length (now z)) × Below (2 ^ 60) (now z) ⌝ }
+    ensures { λ _. ⌜ (recombined (now (hi .exit)) (now (lo .exit))
+        ≡ applied l (span (wordsOf (now (a .entry))) from (l * 512)) (wordsOf (now (z .entry))))
+        × Residues (8 * 2 ^ 60) 512 (now (hi .exit)) × Residues (8 * 2 ^ 60) 512 (now (lo .exit)) ⌝ }
 {
-    let e = at + d * 512;
-    clear(&mut s[at..e]);
-}
-
-// The products of a and the d polynomials at `at`, added to those at `to`, all in the transform domain.
-fn add_products(s: &mut [u64], to: usize, at: usize, a: [u64; 512], d: usize)
-    requires { ⌜ (to + d * 512 ≤ at) × (at + d * 512 ≤ length (now s)) × Below q (now s) × Words 512 a ⌝ }
-    ensures { λ _. ⌜ Wrote 0 to (d * 512) (build d (accrued a (span (now (s .entry)) to (d * 512)) (span (now (s .entry)) at (d * 512))))
-        (now (s .entry)) (now (s .exit)) ⌝ }
-{
-    for j in 0..d {
-        let b = to + j * 512;
-        let x = load(s, at + j * 512);
-        let y = load(s, b);
-        let p = mul_add(y, a, x);
-        store_at(s, b, &p);
-    }
-}
-
-// A row before it is turned back: it begins at `from` in the matrix a, which is in the transform domain as the vector at `at` is.
-fn row_sums(s: &mut [u64], to: usize, at: usize, a: &[u64], from: usize, l: usize, d: usize)
-    requires { ⌜ (to + d * 512 ≤ at) × (at + l * (d * 512) ≤ length (now s)) × Below q (now s) × (from + l * 512 ≤ length (now a))
-        × Below q (now a) ⌝ }
-    ensures { λ _. ⌜ Wrote 0 to (d * 512)
-        (build d (rowSum d (span (now (a .entry)) from (l * 512)) (span (now (s .entry)) at (l * (d * 512))) l)) (now (s .entry))
-        (now (s .exit)) ⌝ }
-{
-    clear_at(s, to, d);
     for m in 0..l {
-        let e = load(a, from + m * 512);
-        add_products(s, to, at + m * (d * 512), e, d);
+        let f = m * 512;
+        let g = f + 512;
+        let b = from + f;
+        let e = b + 512;
+        add_product(hi, lo, &a[b..e], &z[f..g]);
     }
 }
 
-// A row of the masked product at `to`; the vector of l sharings, transformed, is at `at`.
-pub(crate) fn row_at(
-    s: &mut [u64],
-    to: usize,
+// Share j of the vector of l sharings at `at`, in residues.
+fn share_residues(s: &[u64], at: usize, l: usize, d: usize, j: usize, out: &mut [u64])
+    requires { ⌜ (at + l * (d * 512) ≤ length (now s)) × Below q (now s) × (j < d) × (l * 512 ≤ length (now out)) × Below (2 ^ 60) (now out) ⌝ }
+    ensures { λ _. ⌜ Wrote 0 0 (l * 512) (build l (sharedPoly d (span (now (s .entry)) at (l * (d * 512))) j)) (wordsOf (now (out .entry)))
+        (wordsOf (now (out .exit))) × (length (now (out .exit)) ≡ length (now (out .entry))) × Below (2 ^ 60) (now (out .exit)) ⌝ }
+{
+    for m in 0..l {
+        let x = residues_of(load(s, at + (m * d + j) * 512));
+        let b = m * 512;
+        let e = b + 512;
+        copy_into(&mut out[b..e], &x);
+    }
+}
+
+// Share j of a row of the masked product; the vector of l sharings, transformed, is at `at`.
+fn row_share(
+    s: &[u64],
     at: usize,
     a: &[u64],
     from: usize,
     l: usize,
     d: usize,
-)
-    requires { ⌜ (to + d * 512 ≤ at) × (at + l * (d * 512) ≤ length (now s)) × Below q (now s) × (from + l * 512 ≤ length (now a))
-        × Below q (now a) ⌝ }
-    ensures { λ _. ⌜ Wrote 0 to (d * 512)
-        (build d (rowShare d l (span (now (a .entry)) from (l * 512)) (span (now (s .entry)) at (l * (d * 512))))) (now (s .entry))
-        (now (s .exit)) ⌝ }
+    j: usize,
+) -> [u64; 512]
+    requires { ⌜ (at + l * (d * 512) ≤ length (now s)) × Below q (now s) × (from + l * 512 ≤ length (now a)) × Below (2 ^ 60) (now a)
+        × (l ≤ 7) × (j < d) ⌝ }
+    ensures { λ r. ⌜ (r ≡ rowShare d l (span (wordsOf (now (a .entry))) from (l * 512)) (span (now (s .entry)) at (l * (d * 512))) j)
+        × Words 512 r ⌝ }
 {
-    row_sums(s, to, at, a, from, l, d);
-    intt_vector(s, to, d);
+    let mut z = [0u64; 3584];
+    let mut hi = [0u64; 512];
+    let mut lo = [0u64; 512];
+    share_residues(s, at, l, d, j, &mut z);
+    apply_row(&mut hi, &mut lo, a, from, &z, l);
+    intt_sums(hi, lo)
+}
+
+// A row of the masked product at `to`, share by share.
+fn row_at(s: &mut [u64], to: usize, at: usize, a: &[u64], from: usize, l: usize, d: usize)
+    requires { ⌜ (to + d * 512 ≤ at) × (at + l * (d * 512) ≤ length (now s)) × Below q (now s) × (from + l * 512 ≤ length (now a))
+        × Below (2 ^ 60) (now a) × (l ≤ 7) ⌝ }
+    ensures { λ _. ⌜ Wrote 0 to (d * 512)
+        (build d (rowShare d l (span (wordsOf (now (a .entry))) from (l * 512)) (span (now (s .entry)) at (l * (d * 512)))))
+        (now (s .entry)) (now (s .exit)) ⌝ }
+{
+    for j in 0..d {
+        let r = row_share(s, at, a, from, l, d, j);
+        store_at(s, to + j * 512, &r);
+    }
 }
 
 // Lines 6 to 8 at row i, with noise from seeds: its d shares in the region `row`, behind a zero encoding's room, and their sum at `to`; r, or s,
@@ -97,12 +108,12 @@ fn image_row_seeds(
     g: MaskGen,
 ) -> MaskGen
     requires { ⌜ Tabled p × (i < 256) × (1 ≤ u) × (u ≤ 48) × ((i * p .rep + p .rep) * p .shares * (p .kappa / 8) ≤ length (now seeds))
-        × (i * (p .l * 512) + p .l * 512 ≤ length (now a)) × Below q (now a) ⌝ }
+        × (i * (p .l * 512) + p .l * 512 ≤ length (now a)) × Below (2 ^ 60) (now a) ⌝ }
     requires { ⌜ (p .shares * 512 ≤ row) × (row + p .shares * 512 ≤ at) × (at + p .l * (p .shares * 512) ≤ to) × (to + 512 ≤ length (now s))
         × Below q (now s) ⌝ }
     ensures { λ r. ⌜ Summed (p .shares) row to
         (noisedRow (p .shares) (p .l) g (p .rep) (seedNoise (p .shares) (p .rep) u (p .kappa / 8) (now (seeds .entry)) i)
-        (block (p .l * 512) i (now (a .entry))) (span (now (s .entry)) at (p .l * (p .shares * 512))))
+        (block (p .l * 512) i (wordsOf (now (a .entry)))) (span (now (s .entry)) at (p .l * (p .shares * 512))))
         (now (s .entry)) (now (s .exit))
         × (r ≡ skip masks (p .shares) (p .rep) g) ⌝ }
 {
@@ -128,12 +139,12 @@ pub(crate) fn image_seeds(
     g: MaskGen,
 ) -> MaskGen
     requires { ⌜ Tabled p × (1 ≤ u) × (u ≤ 48) × (p .k * p .rep * p .shares * (p .kappa / 8) ≤ length (now seeds))
-        × MatrixHeld p (now a) ⌝ }
+        × ResiduesHeld p (now a) ⌝ }
     requires { ⌜ (p .shares * 512 ≤ row) × (row + p .shares * 512 ≤ at) × (at + p .l * (p .shares * 512) ≤ to)
         × (to + p .k * 512 ≤ length (now s)) × Below q (now s) ⌝ }
     ensures { λ r. ⌜ SummedAll (p .shares) (p .k) row to
         (addNoise masks (p .shares) g (p .k) (p .rep) (seedNoise (p .shares) (p .rep) u (p .kappa / 8) (now (seeds .entry)))
-        (rowsOf (p .shares) (p .k) (p .l) (now (a .entry)) (span (now (s .entry)) at (p .l * (p .shares * 512)))))
+        (rowsOf (p .shares) (p .k) (p .l) (wordsOf (now (a .entry))) (span (now (s .entry)) at (p .l * (p .shares * 512)))))
         (now (s .entry)) (now (s .exit))
         × (r ≡ skip masks (p .shares) (p .k * p .rep) g) ⌝ }
 {
@@ -159,11 +170,11 @@ fn image_row_explicit(
     g: MaskGen,
 ) -> MaskGen
     requires { ⌜ Tabled p × (i < 256) × (i * (p .shares * 512) + p .shares * 512 ≤ length (now words)) × Below q (now words)
-        × (i * (p .l * 512) + p .l * 512 ≤ length (now a)) × Below q (now a) ⌝ }
+        × (i * (p .l * 512) + p .l * 512 ≤ length (now a)) × Below (2 ^ 60) (now a) ⌝ }
     requires { ⌜ (p .shares * 512 ≤ row) × (row + p .shares * 512 ≤ at) × (at + p .l * (p .shares * 512) ≤ to) × (to + 512 ≤ length (now s))
         × Below q (now s) ⌝ }
     ensures { λ r. ⌜ Summed (p .shares) row to
-        (noisedRow (p .shares) (p .l) g 1 (explicitNoise (p .shares) (now (words .entry)) i) (block (p .l * 512) i (now (a .entry)))
+        (noisedRow (p .shares) (p .l) g 1 (explicitNoise (p .shares) (now (words .entry)) i) (block (p .l * 512) i (wordsOf (now (a .entry))))
         (span (now (s .entry)) at (p .l * (p .shares * 512))))
         (now (s .entry)) (now (s .exit))
         × (r ≡ skip masks (p .shares) 1 g) ⌝ }
@@ -187,12 +198,12 @@ pub(crate) fn image_explicit(
     words: &[u64],
     g: MaskGen,
 ) -> MaskGen
-    requires { ⌜ Tabled p × (p .k * (p .shares * 512) ≤ length (now words)) × Below q (now words) × MatrixHeld p (now a) ⌝ }
+    requires { ⌜ Tabled p × (p .k * (p .shares * 512) ≤ length (now words)) × Below q (now words) × ResiduesHeld p (now a) ⌝ }
     requires { ⌜ (p .shares * 512 ≤ row) × (row + p .shares * 512 ≤ at) × (at + p .l * (p .shares * 512) ≤ to)
         × (to + p .k * 512 ≤ length (now s)) × Below q (now s) ⌝ }
     ensures { λ r. ⌜ SummedAll (p .shares) (p .k) row to
         (addNoise masks (p .shares) g (p .k) 1 (explicitNoise (p .shares) (now (words .entry)))
-        (rowsOf (p .shares) (p .k) (p .l) (now (a .entry)) (span (now (s .entry)) at (p .l * (p .shares * 512)))))
+        (rowsOf (p .shares) (p .k) (p .l) (wordsOf (now (a .entry))) (span (now (s .entry)) at (p .l * (p .shares * 512)))))
         (now (s .entry)) (now (s .exit))
         × (r ≡ skip masks (p .shares) (p .k * 1) g) ⌝ }
 {

@@ -6,11 +6,12 @@ ghost use Prim.Native.Nat.{_≤_};
 ghost use lib.ListN.{length};
 ghost use Rattle.hash.specs.declared.params.Selected.{Selected};
 ghost use Rattle.ring.specs.Words.{q, Below};
+ghost use Rattle.ring.specs.Rns.{wordsOf};
 ghost use Rattle.signature.specs.AttemptSteps.{keyLent, coinsLent, Within, keyIn};
 ghost use Rattle.signature.specs.Checks.{workWords};
 ghost use Rattle.signature.specs.ExpandedKey.{expandedIn};
 ghost use Rattle.signature.specs.Keys.{vkSeed, vkVector};
-ghost use Rattle.signature.specs.MaskedSteps.{matrixIn, MatrixHeld};
+ghost use Rattle.signature.specs.MaskedSteps.{matrixIn, ResiduesHeld};
 ghost use Rattle.signature.specs.Matrix.{matrix};
 ghost use Rattle.signature.specs.Outcome.{answer, signing};
 ghost use Rattle.signature.specs.Sign.{publicBy, fromSeeds, fromNoise, signFrom};
@@ -70,11 +71,11 @@ fn attempt(
     i: usize,
     out: &mut [u8],
 ) -> AttemptEnd
-    requires { ⌜ Tabled p × (length (now work) ≡ workWords p) × Below q (now work) × MatrixHeld p (now a) ⌝ }
+    requires { ⌜ Tabled p × (length (now work) ≡ workWords p) × Below q (now work) × ResiduesHeld p (now a) ⌝ }
     requires { ⌜ (length (now vk) ≡ p .«vk_bytes») × Below 125 (vkVector p (now vk)) × (length (now out) ≡ p .«sig_bytes») ⌝ }
     requires { ⌜ Within p (coinsLent explicit seeds noise masks) i ⌝ }
     ensures { λ r. ⌜ (length (now (work .exit)) ≡ length (now (work .entry))) × Below q (now (work .exit)) ⌝ }
-    ensures { λ r. ⌜ EndedAt p (publicBy p (now (vk .entry)) (now (mu .entry)) (matrixIn p (now (a .entry))))
+    ensures { λ r. ⌜ EndedAt p (publicBy p (now (vk .entry)) (now (mu .entry)) (matrixIn p (wordsOf (now (a .entry)))))
         (coinsLent explicit (seeds .entry) (noise .entry) (masks .entry)) i (keyIn p (now (work .entry))) r (now (out .entry))
         (now (out .exit)) (now (work .exit)) ⌝ }
 {
@@ -106,12 +107,12 @@ fn attempt_all(
     n: usize,
     out: &mut [u8],
 ) -> Signed
-    requires { ⌜ Tabled p × (length (now work) ≡ workWords p) × Below q (now work) × MatrixHeld p (now a) ⌝ }
+    requires { ⌜ Tabled p × (length (now work) ≡ workWords p) × Below q (now work) × ResiduesHeld p (now a) ⌝ }
     requires { ⌜ (length (now vk) ≡ p .«vk_bytes») × Below 125 (vkVector p (now vk)) × (length (now out) ≡ p .«sig_bytes») ⌝ }
     requires { ⌜ (n ≤ 16) × (coinsGood p n (coinsLent explicit seeds noise masks) ≡ true) ⌝ }
     ensures { λ r. ⌜ length (now (work .exit)) ≡ length (now (work .entry)) ⌝ }
     ensures { λ r. ⌜ answer (r .status) (r .attempts) (now (out .exit))
-        ≡ answerIn (signFrom p (publicBy p (now (vk .entry)) (now (mu .entry)) (matrixIn p (now (a .entry))))
+        ≡ answerIn (signFrom p (publicBy p (now (vk .entry)) (now (mu .entry)) (matrixIn p (wordsOf (now (a .entry)))))
         (coinsLent explicit (seeds .entry) (noise .entry) (masks .entry)) n 0 (keyIn p (now (work .entry))))
         (now (out .entry)) ⌝ }
 {

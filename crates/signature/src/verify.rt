@@ -3,13 +3,14 @@ ghost use mathlib.Core.Path.{_≡_};
 ghost use mathlib.Core.Bool.{true};
 ghost use mathlib.Core.List.{List};
 ghost use mathlib.Core.Option.{some};
-ghost use Prim.Native.Nat.{ℕ, _+_, _*_, _≤_, _<_};
+ghost use Prim.Native.Nat.{ℕ, _*_, _^_, _≤_, _<_};
 ghost use lib.IntN.{pos, natAbs};
 ghost use lib.ListN.{length, getD};
 ghost use Rattle.hash.specs.declared.params.Selected.{Selected};
-ghost use Rattle.ring.specs.Words.{q, Below, Words};
+ghost use Rattle.ring.specs.Words.{q, Below, Residues};
+ghost use Rattle.ring.specs.Transform.{ntt};
+ghost use Rattle.ring.specs.Rns.{wordsOf};
 ghost use Rattle.ring.specs.Round.{residues};
-ghost use Rattle.sharing.specs.Region.{span};
 ghost use Rattle.signature.specs.AnswerSteps.{fieldsOf};
 ghost use Rattle.signature.specs.Checks.{firstNo, sameBytes};
 ghost use Rattle.signature.specs.Form.{hashBytes};
@@ -32,7 +33,6 @@ use crate::matrix::expand_row;
 use crate::recover::recover_row;
 use crate::residues::adjust;
 use crate::residues::residues_into;
-use crate::vector::ntt_vector;
 use hash::params::Edition;
 use hash::params::Params;
 use hash::params::Selected;
@@ -40,29 +40,28 @@ use hash::params::lookup;
 use hash::shake::shake256;
 use ring::poly::Q;
 use ring::poly::from_signed;
-use ring::poly::ntt;
 use ring::poly::round_w;
+use ring::rns::ntt_residues;
 use sharing::region::load;
 
-// Lines 6 and 7, row by row: the bytes of w' = y + h. In s: room for a row, then z, transformed; c is transformed. False where the matrix does
-// not fill.
+// Lines 6 and 7, row by row: the bytes of w' = y + h; z and c are transformed and left in residues. False where the matrix does not fill.
 fn adjust_rows(
-    s: &mut [u64],
+    z: &[u64],
     seed: &[u8],
     k: usize,
     l: usize,
-    c: [u64; 512],
+    c: &[u64],
     t: &[u64],
     hint: &[i64],
     w: &mut [u8],
 ) -> bool
-    requires { ⌜ (512 + l * 512 ≤ length (now s)) × Below q (now s) × (k ≤ 9) × (l ≤ 7) × Words 512 c ⌝ }
+    requires { ⌜ (l * 512 ≤ length (now z)) × Below (2 ^ 60) (now z) × (k ≤ 9) × (l ≤ 7) × Residues (2 ^ 60) 512 (now c) ⌝ }
     requires { ⌜ (length (now t) ≡ k * 512) × Below 125 (now t) × (length (now hint) ≡ k * 512) × (length (now w) ≡ k * 512) ⌝ }
     requires { ⌜ ((i : ℕ) → i < length (now hint) → natAbs (getD (now hint) i (pos 0)) < 31) ⌝ }
     ensures { λ r. ⌜ r ≡ filled (matrixOf k l (now (seed .entry))) ⌝ }
     ensures { λ r. ⌜ (r ≡ true
         → now (w .exit)
-        ≡ adjustedRows k l (now (seed .entry)) (span (now (s .entry)) 512 (l * 512)) c (now (t .entry)) (now (hint .entry))) ⌝ }
+        ≡ adjustedRows k l (now (seed .entry)) (wordsOf (now (z .entry))) (wordsOf (now (c .entry))) (now (t .entry)) (now (hint .entry))) ⌝ }
 {
     let mut a = [0u64; 3584];
     for i in 0..k {
@@ -71,23 +70,34 @@ fn adjust_rows(
         if !expand_row(&mut a, 0, seed, i, l) {
             return false;
         }
-        recover_row(s, 0, 512, &a, 0, l, c, load(t, b));
-        let y = round_w(load(s, 0));
+        let y = round_w(recover_row(&a, 0, z, l, c, load(t, b)));
         adjust(y, &hint[b..e], &mut w[b..e]);
     }
     true
 }
 
-// z behind the room for a row, transformed.
-fn place(z: &[i64], l: usize, s: &mut [u64])
-    requires { ⌜ (512 + l * 512 ≤ length (now s)) × Below q (now s) × (length (now z) ≡ l * 512) ⌝ }
+// A polynomial of z, transformed and left in residues.
+fn place_poly(z: &[i64], out: &mut [u64])
+    requires { ⌜ (length (now z) ≡ 512) × (length (now out) ≡ 512) ⌝ }
     requires { ⌜ ((i : ℕ) → i < length (now z) → natAbs (getD (now z) i (pos 0)) < q) ⌝ }
-    ensures { λ _. ⌜ (span (now (s .exit)) 512 (l * 512) ≡ transformed l (residues q (now (z .entry))))
-        × (length (now (s .exit)) ≡ length (now (s .entry))) × Below q (now (s .exit)) ⌝ }
+    ensures { λ _. ⌜ (wordsOf (now (out .exit)) ≡ ntt (residues q (now (z .entry)))) × Residues (2 ^ 60) 512 (now (out .exit)) ⌝ }
 {
-    let b = 512 + l * 512;
-    residues_into(z, Q, &mut s[512..b]);
-    ntt_vector(s, 512, l);
+    residues_into(z, Q, out);
+    ntt_residues(out);
+}
+
+// .. all l of them.
+fn place(z: &[i64], l: usize, out: &mut [u64])
+    requires { ⌜ (length (now z) ≡ l * 512) × (length (now out) ≡ l * 512) × Below (2 ^ 60) (now out) ⌝ }
+    requires { ⌜ ((i : ℕ) → i < length (now z) → natAbs (getD (now z) i (pos 0)) < q) ⌝ }
+    ensures { λ _. ⌜ (wordsOf (now (out .exit)) ≡ transformed l (residues q (now (z .entry))))
+        × (length (now (out .exit)) ≡ length (now (out .entry))) × Below (2 ^ 60) (now (out .exit)) ⌝ }
+{
+    for i in 0..l {
+        let b = i * 512;
+        let e = b + 512;
+        place_poly(&z[b..e], &mut out[b..e]);
+    }
 }
 
 // Lines 4 to 7: the bytes of w', of the matrix, t, the fields and the challenge polynomial.
@@ -106,13 +116,15 @@ fn recompute(p: Params, vk: &[u8], hint: &[i64], z: &[i64], c: [i8; 512], w: &mu
     let l = p.l;
     let n = p.kappa / 8;
     let m = k * 512;
+    let f = l * 512;
     let e = n + k * 448;
     let mut t = [0u64; 4608];
-    let mut s = [0u64; 4096];
+    let mut s = [0u64; 3584];
     unpack(&vk[n..e], 7, &mut t[0..m]);
-    place(z, l, &mut s);
-    let x = ntt(from_signed(c));
-    adjust_rows(&mut s, &vk[0..n], k, l, x, &t[0..m], hint, w)
+    place(z, l, &mut s[0..f]);
+    let mut x = from_signed(c);
+    ntt_residues(&mut x);
+    adjust_rows(&s[0..f], &vk[0..n], k, l, &x, &t[0..m], hint, w)
 }
 
 // mu = H(H(vk) || msg) (line 3); out has the bytes of a hash.

@@ -9,6 +9,7 @@ use Rattle.signature.specs.Masked.{seeded, explicit}
 use Rattle.signature.proofs.Commits.{below-part}
 use Rattle.signature.proofs.Sizes.{coins-low}
 use Rattle.signature.proofs.Coins.{part-long, fits-mid, words-size, seeds-size, explicit-long, explicit-low, explicit-at, seeds-long, seeds-at, mask-at, committed-at}
+use Rattle.ring.specs.Rns.{wordsOf}
 use borrow.Author.Needs.{needs}
 use Rattle.signature.proofs.commit.commit.Statement.{statement}
 use Rattle.signature.proofs.commit.commit.Tie as tie
@@ -68,7 +69,7 @@ returns c =
     let z = c .before .before .commit-explicit .ensures in
     let N = ap (explicit p) (part-block n (b .i) (b .words .now)) ∙ explicit-at p (b .seeds .now) (b .words .now) (b .mask-seeds .now) (b .i) (b .explicit) (c .before .before .before .before .before .if1 .taken) in
     let g = c .before .before .before .before .before .before .before .before .start .ensures ∙ ap maskStart (part-block 32 (b .i) (b .mask-seeds .now)) ∙ mask-at p (b .seeds .now) (b .words .now) (b .mask-seeds .now) (b .i) (b .explicit) in
-    (z .0, z .1, committed-at p (matrixIn p (b .a .now)) N g (z .2))
+    (z .0, z .1, committed-at p (matrixIn p (wordsOf (b .a .now))) N g (z .2))
 
 mul-n-2 : tie.Need-mul-n-2
 mul-n-2 c =
@@ -119,7 +120,7 @@ returns-2 c =
     let z = c .before .before .commit-seeds .ensures in
     let N = ap (seeded p (p .uw)) (part-block ((p .l + p .k) * p .shares * p .rep * (p .kappa / 8)) (b .i) (b .seeds .now)) ∙ seeds-at p (b .seeds .now) (b .words .now) (b .mask-seeds .now) (b .i) (b .explicit) (c .before .before .before .before .before .before .before .if1 .left) in
     let g = c .before .before .before .before .before .before .before .before .before .before .start .ensures ∙ ap maskStart (part-block 32 (b .i) (b .mask-seeds .now)) ∙ mask-at p (b .seeds .now) (b .words .now) (b .mask-seeds .now) (b .i) (b .explicit) in
-    (z .0, z .1, committed-at p (matrixIn p (b .a .now)) N g (z .2))
+    (z .0, z .1, committed-at p (matrixIn p (wordsOf (b .a .now))) N g (z .2))
 
 pub commit-spec : {M : Type 1} → statement M
 commit-spec =

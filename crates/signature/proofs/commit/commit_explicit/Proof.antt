@@ -7,6 +7,7 @@ use Rattle.sharing.specs.Noise.{explicitNoise}
 use Rattle.signature.specs.Masked.{explicit}
 use Rattle.signature.proofs.Commits.{commit-made, words-first, words-second, below-part}
 use Rattle.signature.proofs.Sizes.{fits-low, part-all, region-low, room}
+use Rattle.ring.specs.Rns.{wordsOf}
 use borrow.Author.Needs.{needs}
 use Rattle.signature.proofs.commit.commit_explicit.Statement.{statement}
 use Rattle.signature.proofs.commit.commit_explicit.Tie as tie
@@ -57,7 +58,7 @@ returns c =
     let f = ap (explicitNoise (p .shares)) (part-all (p .l * (p .shares * 512)) (b .words .now)) in
     let e = c .before .before .before .before .before .before .before .before .before .before .at-r .ensures in
     let d = count-power (p .shares) (a .pre .0 .count) in
-    (z .0 .sums .long ∙ u .0 .long, z .0 .sums .low, commit-made p (explicit p (b .words .now)) (b .g) _ (b .a .now) (b .work .now) _ _ d (a .pre .5) (rw e at (u .0)) (u .1) _ f _ (rw (e, c .before .before .before .before .before .before .before .before .before .at-t .ensures) at (z .0)) (z .1))
+    (z .0 .sums .long ∙ u .0 .long, z .0 .sums .low, commit-made p (explicit p (b .words .now)) (b .g) _ (wordsOf (b .a .now)) (b .work .now) _ _ d (a .pre .5 .0) (rw e at (u .0)) (u .1) _ f _ (rw (e, c .before .before .before .before .before .before .before .before .before .at-t .ensures) at (z .0)) (z .1))
 
 pub commit-explicit-spec : {M : Type 1} → statement M
 commit-explicit-spec =

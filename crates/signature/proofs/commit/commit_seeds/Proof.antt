@@ -7,6 +7,7 @@ use Rattle.signature.specs.Masked.{seeded}
 use Rattle.hash.proofs.Rows.{count-power}
 use Rattle.signature.proofs.Commits.{commit-made}
 use Rattle.signature.proofs.Sizes.{part-all, first-fits, room, coins-first, coins-second}
+use Rattle.ring.specs.Rns.{wordsOf}
 use borrow.Author.Needs.{needs}
 use Rattle.signature.proofs.commit.commit_seeds.Statement.{statement}
 use Rattle.signature.proofs.commit.commit_seeds.Tie as tie
@@ -70,7 +71,7 @@ returns c =
     let f = ap (seedNoise (p .shares) (p .rep) (p .uw) (p .kappa / 8)) (part-all (p .l * p .rep * p .shares * (p .kappa / 8)) (b .coins .now)) in
     let e = c .before .before .before .before .before .before .before .before .before .before .at-r .ensures in
     let d = count-power (p .shares) (a .pre .0 .count) in
-    (z .0 .sums .long ∙ u .0 .long, z .0 .sums .low, commit-made p (seeded p (p .uw) (b .coins .now)) (b .g) _ (b .a .now) (b .work .now) _ _ d (a .pre .4) (rw e at (u .0)) (u .1) _ f _ (rw (e, c .before .before .before .before .before .before .before .before .before .at-t .ensures) at (z .0)) (z .1))
+    (z .0 .sums .long ∙ u .0 .long, z .0 .sums .low, commit-made p (seeded p (p .uw) (b .coins .now)) (b .g) _ (wordsOf (b .a .now)) (b .work .now) _ _ d (a .pre .4 .0) (rw e at (u .0)) (u .1) _ f _ (rw (e, c .before .before .before .before .before .before .before .before .before .at-t .ensures) at (z .0)) (z .1))
 
 pub commit-seeds-spec : {M : Type 1} → statement M
 commit-seeds-spec =

@@ -12,6 +12,8 @@ use Rattle.sharing.proofs.Added.{skip-start}
 use Rattle.sharing.proofs.Regions.{wrote-start}
 use Rattle.sharing.proofs.Turns.{skip-turn}
 use Rattle.signature.proofs.Images.{imaged, RowsDone, rows-none, rows-turn, image-turn, image-end}
+use Rattle.ring.specs.Rns.{wordsOf}
+use Rattle.ring.proofs.Recombined.{length-words}
 use borrow.Author.Needs.{needs}
 use Rattle.signature.proofs.masked.image_explicit.Statement.{statement}
 use Rattle.signature.proofs.masked.image_explicit.Tie as tie
@@ -19,9 +21,9 @@ use Rattle.signature.proofs.masked.image_explicit.Tie as tie
 abbrev Inv-loop : tie.InvT-loop
 Inv-loop s₀ row at to p a words k x₀ i₀ s x i =
     (i ≤ k)
-    × Wrote (row + p .shares * 512) to (i * 512) (build i (imaged (p .shares) (p .l) 1 (explicitNoise (p .shares) words) x₀ a (span s₀ at (p .l * (p .shares * 512))))) s₀ s
+    × Wrote (row + p .shares * 512) to (i * 512) (build i (imaged (p .shares) (p .l) 1 (explicitNoise (p .shares) words) x₀ (wordsOf a) (span s₀ at (p .l * (p .shares * 512))))) s₀ s
     × (x ≡ skip masks (p .shares) (i * 1) x₀)
-    × RowsDone (p .shares) (p .l) 1 (explicitNoise (p .shares) words) x₀ a (span s₀ at (p .l * (p .shares * 512))) row s i
+    × RowsDone (p .shares) (p .l) 1 (explicitNoise (p .shares) words) x₀ (wordsOf a) (span s₀ at (p .l * (p .shares * 512))) row s i
 
 abbrev μ-loop : tie.MeasureT-loop
 μ-loop s₀ row at to p a words k x₀ i₀ s x i = k - i
@@ -34,9 +36,9 @@ loop-holds c =
     let f = explicitNoise (r .shares) (b .words .now) in
     let X = span (b .s .now) (b .at) (r .l * (r .shares * 512)) in (
       omega arith,
-      wrote-start 512 (imaged (r .shares) (r .l) 1 f (b .g) (b .a .now) X) (b .row + r .shares * 512) (b .to) (b .s .now) (a .pre .1 .4),
+      wrote-start 512 (imaged (r .shares) (r .l) 1 f (b .g) (wordsOf (b .a .now)) X) (b .row + r .shares * 512) (b .to) (b .s .now) (a .pre .1 .4),
       skip-start masks (r .shares) 1 (b .g),
-      rows-none (r .shares) (r .l) 1 f (b .g) (b .a .now) X (b .row) (b .s .now),
+      rows-none (r .shares) (r .l) 1 f (b .g) (wordsOf (b .a .now)) X (b .row) (b .s .now),
     )
 
 mul-b : tie.Need-mul-b Inv-loop μ-loop
@@ -57,7 +59,7 @@ image-row-explicit-requires c κs =
     let n = v .long in
     let m = inside (l .i) (b .p .k) (b .p .l * 512) t in
     let o = inside (l .i) (b .p .k) (b .p .shares * 512) t in
-    ((h .0, omega (arith, t, h .0 .rows-low), omega (arith, o, h .1), h .2, omega (arith, m, h .3 .0), h .3 .1), (p .0, p .1, omega (arith, p .2), omega (arith, n, t, p .3), v .low))
+    ((h .0, omega (arith, t, h .0 .rows-low), omega (arith, o, h .1), h .2, omega (arith, m, h .3 .0 .0, length-words (b .a .now)), h .3 .1), (p .0, p .1, omega (arith, p .2), omega (arith, n, t, p .3), v .low))
 
 loop-again : tie.Need-loop-again Inv-loop μ-loop
 loop-again c =
@@ -70,9 +72,9 @@ loop-again c =
     let z = c .before .before .image-row-explicit .ensures in
     let f = explicitNoise (r .shares) (b .words .now) in (
       omega (arith, c .before .before .before .before .loop-test .taken),
-      image-turn (r .shares) (r .l) 1 (b .row) (b .at) (b .to) f (b .g) (b .a .now) (b .s .now) (p .1) (p .2) (l .i) (l .x) (l .s) _ (v .2) (v .1) (z .0),
+      image-turn (r .shares) (r .l) 1 (b .row) (b .at) (b .to) f (b .g) (wordsOf (b .a .now)) (b .s .now) (p .1) (p .2) (l .i) (l .x) (l .s) _ (v .2) (v .1) (z .0),
       skip-turn masks (r .shares) (l .i) 1 (b .g) (l .x) _ (v .2) (z .1),
-      rows-turn (r .shares) (r .l) 1 (b .row) (b .at) (b .to) f (b .g) (b .a .now) (b .s .now) (p .1) (p .2) (l .i) (l .x) (l .s) _ (v .2) (v .1) (z .0),
+      rows-turn (r .shares) (r .l) 1 (b .row) (b .at) (b .to) f (b .g) (wordsOf (b .a .now)) (b .s .now) (p .1) (p .2) (l .i) (l .x) (l .s) _ (v .2) (v .1) (z .0),
     )
 
 returns : tie.Need-returns Inv-loop μ-loop
@@ -85,7 +87,7 @@ returns c =
     let e : l .i ≡ r .k = omega (arith, v .0, c .loop-test .left) in
     let f = explicitNoise (r .shares) (b .words .now) in
     let X = span (b .s .now) (b .at) (r .l * (r .shares * 512)) in
-    (image-end (r .shares) (r .k) (r .l) 1 f (b .g) (b .a .now) X (count-power (r .shares) (a .pre .0 .0 .count)) (b .row) (b .to) (l .i) (b .s .now) (l .s) e (v .1) (v .3), v .2 ∙ ap (λ n. skip masks (r .shares) (n * 1) (b .g)) e)
+    (image-end (r .shares) (r .k) (r .l) 1 f (b .g) (wordsOf (b .a .now)) X (count-power (r .shares) (a .pre .0 .0 .count)) (b .row) (b .to) (l .i) (b .s .now) (l .s) e (v .1) (v .3), v .2 ∙ ap (λ n. skip masks (r .shares) (n * 1) (b .g)) e)
 
 pub image-explicit-spec : {M : Type 1} → statement M
 image-explicit-spec =

@@ -5,6 +5,7 @@ use mathlib.Core.Path.{_∙_}
 use Rattle.sharing.specs.Noise.{explicitNoise}
 use native.Mathlib.Omega.{arith}
 use Rattle.signature.proofs.Images.{image-made}
+use Rattle.ring.specs.Rns.{wordsOf}
 use borrow.Author.Needs.{needs}
 use Rattle.signature.proofs.masked.image_row_explicit.Statement.{statement}
 use Rattle.signature.proofs.masked.image_row_explicit.Tie as tie
@@ -22,7 +23,7 @@ row-at-requires c κs =
     let a = c .before .before .before .before in
     let h = a .pre .0 in
     let p = a .pre .1 in
-    (p .1, omega (arith, p .2, p .3), p .4, h .4, h .5)
+    (p .1, omega (arith, p .2, p .3), p .4, h .4, h .5, h .0 .columns-low)
 
 add-explicit-noise-at-requires : tie.Need-add-explicit-noise-at-requires
 add-explicit-noise-at-requires c κs =
@@ -47,9 +48,9 @@ returns c =
     let r = b .p in
     let p = a .pre .1 in
     let v = c .before .before .before .before .before .before .add-explicit-noise-at .ensures in
-    let T = span (b .a .now) (b .i * (r .l * 512)) (r .l * 512) in
+    let T = span (wordsOf (b .a .now)) (b .i * (r .l * 512)) (r .l * 512) in
     let w = image-made (r .shares) (r .l) 1 (b .row) (b .at) (b .to) (b .g) (explicitNoise (r .shares) (b .words .now) (b .i)) T (b .s .now) _ _ _ (p .0) (omega (arith, p .1, p .2)) (c .before .before .before .before .before .before .before .before .before .before .row-at .ensures) (v .0) (c .before .before .decode-at .ensures) in
-    (rw (block-is (r .l * 512) (b .i) (b .a .now)) w, v .1)
+    (rw (block-is (r .l * 512) (b .i) (wordsOf (b .a .now))) w, v .1)
 
 pub image-row-explicit-spec : {M : Type 1} → statement M
 image-row-explicit-spec =

@@ -9,8 +9,8 @@ use borrow.Author.Tests.{not-true, not-false}
 use borrow.Rule.Slice.PartMut.{mid-len}
 use Rattle.signature.specs.Sign.{publicBy, noiseAt, maskAt}
 use Rattle.signature.proofs.AttemptEnds.{hash-long, commitment-low, ended-stuck, ended-made, ended-over}
-use Rattle.signature.proofs.Sizes.{room}
 use Rattle.signature.proofs.Fronts.{front-in, front-is}
+use Rattle.ring.specs.Rns.{wordsOf}
 use borrow.Author.Needs.{needs}
 use Rattle.signature.proofs.sign.attempt.Statement.{statement}
 use Rattle.signature.proofs.sign.attempt.Tie as tie
@@ -35,10 +35,10 @@ returns c =
     let N = noiseAt p T (b .i) in
     let g = maskAt T (b .i) in
     let s = keyIn p (b .work .now) in
-    let P = publicBy p (b .vk .now) (b .mu .now) (matrixIn p (b .a .now)) in
+    let P = publicBy p (b .vk .now) (b .mu .now) (matrixIn p (wordsOf (b .a .now))) in
     let z = c .before .before .before .before .before .before .before .before .before .before .commit .ensures in
     let v = c .before .before .before .before .before .answer .ensures in
-    let u = v .1 N g (matrixIn p (b .a .now)) s (z .2) in
+    let u = v .1 N g (matrixIn p (wordsOf (b .a .now))) s (z .2) in
     ((v .0 .0 ∙ z .0, v .0 .1), ended-stuck p P N g s _ _ _ u (not-true _ (c .if1 .taken)) (b .out .now))
 
 part-finish-end : tie.Need-part-finish-end
@@ -49,10 +49,10 @@ part-finish-end c =
     let N = noiseAt p T (b .i) in
     let g = maskAt T (b .i) in
     let s = keyIn p (b .work .now) in
-    let P = publicBy p (b .vk .now) (b .mu .now) (matrixIn p (b .a .now)) in
+    let P = publicBy p (b .vk .now) (b .mu .now) (matrixIn p (wordsOf (b .a .now))) in
     let z = c .before .before .before .before .before .before .before .before .before .before .before .before .before .commit .ensures in
     let v = c .before .before .before .before .before .before .before .before .answer .ensures in
-    let u = v .1 N g (matrixIn p (b .a .now)) s (z .2) in
+    let u = v .1 N g (matrixIn p (wordsOf (b .a .now))) s (z .2) in
     front-in (p .kappa / 4) (replicate 64 0) (c .before .before .before .before .before .before .before .before .answer .last .1 .1 .1 .0) (c .before .before .before .before .before .before .before .before .before .before .before .before .before .before .before .before .before .before .before .before .before .before .before .before .pre .0 .0 .hash-low) (hash-long p P N g s _ _ _ u)
 
 finish-requires : tie.Need-finish-requires
@@ -63,10 +63,10 @@ finish-requires c κs =
     let N = noiseAt p T (b .i) in
     let g = maskAt T (b .i) in
     let s = keyIn p (b .work .now) in
-    let P = publicBy p (b .vk .now) (b .mu .now) (matrixIn p (b .a .now)) in
+    let P = publicBy p (b .vk .now) (b .mu .now) (matrixIn p (wordsOf (b .a .now))) in
     let z = c .before .before .before .before .before .before .before .before .before .before .before .before .before .before .before .commit .ensures in
     let v = c .before .before .before .before .before .before .before .before .before .before .answer .ensures in
-    let u = v .1 N g (matrixIn p (b .a .now)) s (z .2) in
+    let u = v .1 N g (matrixIn p (wordsOf (b .a .now))) s (z .2) in
     let a = c .before .before .before .before .before .before .before .before .before .before .before .before .before .before .before .before .before .before .before .before .before .before .before .before .before .before in
     let n = hash-long p P N g s _ _ _ u in
     let H = front-is (p .kappa / 4) (replicate 64 0) (c .before .before .before .before .before .before .before .before .before .before .answer .last .1 .1 .1 .0) (a .pre .0 .0 .hash-low) n in
@@ -74,46 +74,42 @@ finish-requires c κs =
 
 returns-2 : tie.Need-returns-2
 returns-2 c =
-    let b = c .before .before .before .before .before .before .before .before .before .before .before .before .before .before .before .before .before .before .before .before .before .before .before .before .before .before .before .before .before .before .before .before .args in
+    let b = c .before .before .before .before .before .before .before .before .before .before .before .before .before .before .before .before .before .before .before .before .before .before .before .before .before .before .before .before .before .before .args in
     let p = b .p in
     let T = coinsOf (b .explicit) (b .seeds .now) (b .noise .now) (b .masks .now) in
     let N = noiseAt p T (b .i) in
     let g = maskAt T (b .i) in
     let s = keyIn p (b .work .now) in
-    let P = publicBy p (b .vk .now) (b .mu .now) (matrixIn p (b .a .now)) in
-    let z = c .before .before .before .before .before .before .before .before .before .before .before .before .before .before .before .before .before .before .before .before .before .commit .ensures in
-    let v = c .before .before .before .before .before .before .before .before .before .before .before .before .before .before .before .before .answer .ensures in
-    let u = v .1 N g (matrixIn p (b .a .now)) s (z .2) in
-    let a = c .before .before .before .before .before .before .before .before .before .before .before .before .before .before .before .before .before .before .before .before .before .before .before .before .before .before .before .before .before .before .before .before in
+    let P = publicBy p (b .vk .now) (b .mu .now) (matrixIn p (wordsOf (b .a .now))) in
+    let z = c .before .before .before .before .before .before .before .before .before .before .before .before .before .before .before .before .before .before .before .commit .ensures in
+    let v = c .before .before .before .before .before .before .before .before .before .before .before .before .before .before .answer .ensures in
+    let u = v .1 N g (matrixIn p (wordsOf (b .a .now))) s (z .2) in
+    let a = c .before .before .before .before .before .before .before .before .before .before .before .before .before .before .before .before .before .before .before .before .before .before .before .before .before .before .before .before .before .before in
     let n = hash-long p P N g s _ _ _ u in
-    let H = front-is (p .kappa / 4) (replicate 64 0) (c .before .before .before .before .before .before .before .before .before .before .before .before .before .before .before .before .answer .last .1 .1 .1 .0) (a .pre .0 .0 .hash-low) n in
-    let ok = not-false _ (c .before .before .before .before .before .before .before .before .before .before .before .if1 .left) in
-    let f = c .before .before .before .before .before .finish .ensures in
-    let l = room p (a .pre .0 .0) (length (b .work .now)) (a .pre .0 .1) .1 in
-    ((f .0 .0 ∙ v .0 .0 ∙ z .0, f .0 .1), ended-made p P N g s _ _ _ u ok _ H _ _ _ (f .1 (b .mu .now)) _ _ (omega (arith, l, v .0 .0, z .0)) (f .0 .2) (f .0 .3) (c .if2 .taken))
+    let H = front-is (p .kappa / 4) (replicate 64 0) (c .before .before .before .before .before .before .before .before .before .before .before .before .before .before .answer .last .1 .1 .1 .0) (a .pre .0 .0 .hash-low) n in
+    let ok = not-false _ (c .before .before .before .before .before .before .before .before .before .if1 .left) in
+    let f = c .before .before .before .finish .ensures in
+    ((v .0 .0 ∙ z .0, v .0 .1), ended-made p P N g s _ _ _ u ok _ H _ _ _ (f (b .mu .now)) (c .if2 .taken))
 
 returns-3 : tie.Need-returns-3
 returns-3 c =
-    let b = c .before .before .before .before .before .before .before .before .before .before .before .before .before .before .before .before .before .before .before .before .before .before .before .before .before .before .before .before .before .before .before .before .args in
+    let b = c .before .before .before .before .before .before .before .before .before .before .before .before .before .before .before .before .before .before .before .before .before .before .before .before .before .before .before .before .before .before .args in
     let p = b .p in
     let T = coinsOf (b .explicit) (b .seeds .now) (b .noise .now) (b .masks .now) in
     let N = noiseAt p T (b .i) in
     let g = maskAt T (b .i) in
     let s = keyIn p (b .work .now) in
-    let P = publicBy p (b .vk .now) (b .mu .now) (matrixIn p (b .a .now)) in
-    let z = c .before .before .before .before .before .before .before .before .before .before .before .before .before .before .before .before .before .before .before .before .before .commit .ensures in
-    let v = c .before .before .before .before .before .before .before .before .before .before .before .before .before .before .before .before .answer .ensures in
-    let u = v .1 N g (matrixIn p (b .a .now)) s (z .2) in
-    let a = c .before .before .before .before .before .before .before .before .before .before .before .before .before .before .before .before .before .before .before .before .before .before .before .before .before .before .before .before .before .before .before .before in
+    let P = publicBy p (b .vk .now) (b .mu .now) (matrixIn p (wordsOf (b .a .now))) in
+    let z = c .before .before .before .before .before .before .before .before .before .before .before .before .before .before .before .before .before .before .before .commit .ensures in
+    let v = c .before .before .before .before .before .before .before .before .before .before .before .before .before .before .answer .ensures in
+    let u = v .1 N g (matrixIn p (wordsOf (b .a .now))) s (z .2) in
+    let a = c .before .before .before .before .before .before .before .before .before .before .before .before .before .before .before .before .before .before .before .before .before .before .before .before .before .before .before .before .before .before in
     let n = hash-long p P N g s _ _ _ u in
-    let H = front-is (p .kappa / 4) (replicate 64 0) (c .before .before .before .before .before .before .before .before .before .before .before .before .before .before .before .before .answer .last .1 .1 .1 .0) (a .pre .0 .0 .hash-low) n in
-    let ok = not-false _ (c .before .before .before .before .before .before .before .before .before .before .before .if1 .left) in
-    let f = c .before .before .before .before .before .finish .ensures in
-    let l = room p (a .pre .0 .0) (length (b .work .now)) (a .pre .0 .1) .1 in
-    ((f .0 .0 ∙ v .0 .0 ∙ z .0, f .0 .1), ended-over p P N g s _ _ _ u ok _ H _ _ _ (f .1 (b .mu .now)) _ _ (omega (arith, l, v .0 .0, z .0)) (f .0 .2) (f .0 .3) (c .if2 .left))
+    let H = front-is (p .kappa / 4) (replicate 64 0) (c .before .before .before .before .before .before .before .before .before .before .before .before .before .before .answer .last .1 .1 .1 .0) (a .pre .0 .0 .hash-low) n in
+    let ok = not-false _ (c .before .before .before .before .before .before .before .before .before .if1 .left) in
+    let f = c .before .before .before .finish .ensures in
+    ((v .0 .0 ∙ z .0, v .0 .1), ended-over p P N g s _ _ _ u ok _ H _ _ _ (f (b .mu .now)) (c .if2 .left))
 
 pub attempt-spec : {M : Type 1} → statement M
 attempt-spec =
-    tie.close (tie.spec (λ c κs. search needs) (λ c. search needs) (λ c. search needs) part-hash-end answer-requires
-    (λ c. search needs) returns (λ c. search needs) (λ c. search needs) part-finish-end finish-requires
-    (λ c. search needs) (λ c. search needs) returns-2 (λ c. search needs) (λ c. search needs) returns-3)
+    tie.close (tie.spec (λ c κs. search needs) (λ c. search needs) (λ c. search needs) part-hash-end answer-requires (λ c. search needs) returns (λ c. search needs) (λ c. search needs) part-finish-end finish-requires (λ c. search needs) (λ c. search needs) returns-2 (λ c. search needs) (λ c. search needs) returns-3)

@@ -9,6 +9,7 @@ use Rattle.ring.specs.Words.{q, Below}
 use Rattle.signature.specs.Sign.{publicBy, signFrom}
 use Rattle.signature.proofs.AttemptEnds.{told-as, all-over, all-pass, all-stuck, all-next}
 use Rattle.signature.proofs.Coins.{coins-within}
+use Rattle.ring.specs.Rns.{wordsOf}
 use borrow.Author.Needs.{needs}
 use Rattle.signature.proofs.sign.attempt_all.Statement.{statement}
 use Rattle.signature.proofs.sign.attempt_all.Tie as tie
@@ -16,8 +17,8 @@ use Rattle.signature.proofs.sign.attempt_all.Tie as tie
 abbrev Inv-loop : tie.InvT-loop
 Inv-loop work₀ p vk a mu explicit seeds noise masks n out₀ i₀ work out i =
     (i ≤ n) × (length work ≡ length work₀) × Below q work × (out ≡ out₀)
-    × (signFrom p (publicBy p vk mu (matrixIn p a)) (coinsOf explicit seeds noise masks) n 0 (keyIn p work₀)
-    ≡ signFrom p (publicBy p vk mu (matrixIn p a)) (coinsOf explicit seeds noise masks) (n - i) i (keyIn p work))
+    × (signFrom p (publicBy p vk mu (matrixIn p (wordsOf a))) (coinsOf explicit seeds noise masks) n 0 (keyIn p work₀)
+    ≡ signFrom p (publicBy p vk mu (matrixIn p (wordsOf a))) (coinsOf explicit seeds noise masks) (n - i) i (keyIn p work))
 
 abbrev μ-loop : tie.MeasureT-loop
 μ-loop work₀ p vk a mu explicit seeds noise masks n out₀ i₀ work out i = n - i
@@ -28,7 +29,7 @@ loop-holds c =
     let b = a .args in
     let p = b .p in
     let e : b .n ≡ b .n - 0 = omega arith in
-    (omega arith, refl, a .pre .0 .2, refl, ap (λ (m : ℕ). signFrom p (publicBy p (b .vk .now) (b .mu .now) (matrixIn p (b .a .now))) (coinsOf (b .explicit) (b .seeds .now) (b .noise .now) (b .masks .now)) m 0 (keyIn p (b .work .now))) e)
+    (omega arith, refl, a .pre .0 .2, refl, ap (λ (m : ℕ). signFrom p (publicBy p (b .vk .now) (b .mu .now) (matrixIn p (wordsOf (b .a .now)))) (coinsOf (b .explicit) (b .seeds .now) (b .noise .now) (b .masks .now)) m 0 (keyIn p (b .work .now))) e)
 
 attempt-requires : tie.Need-attempt-requires Inv-loop μ-loop
 attempt-requires c κs =
@@ -59,7 +60,7 @@ returns c =
     let i = l .inv in
     let v = c .before .before .before .before .before .before .before .attempt .ensures in
     let T = coinsOf (b .explicit) (b .seeds .now) (b .noise .now) (b .masks .now) in
-    let P = publicBy p (b .vk .now) (b .mu .now) (matrixIn p (b .a .now)) in
+    let P = publicBy p (b .vk .now) (b .mu .now) (matrixIn p (wordsOf (b .a .now))) in
     let r = c .reported .ensures in
     (v .0 .0 ∙ i .1, told-as _ (r .0) (r .1) (all-pass p P T (b .n) (l .i) _ _ (b .out .now) (i .4) (c .before .before .before .before .before .before .before .before .before .before .loop-test .taken) _ _ _ _ (i .3) (v .1) (c .before .enum-told .given .1)))
 
@@ -74,7 +75,7 @@ loop-again c =
     let i = l .inv in
     let v = c .before .before .before .before .before .before .attempt .ensures in
     let T = coinsOf (b .explicit) (b .seeds .now) (b .noise .now) (b .masks .now) in
-    let P = publicBy p (b .vk .now) (b .mu .now) (matrixIn p (b .a .now)) in
+    let P = publicBy p (b .vk .now) (b .mu .now) (matrixIn p (wordsOf (b .a .now))) in
     let n = all-next p P T (b .n) (l .i) _ _ (b .out .now) (i .4) (c .before .before .before .before .before .before .before .before .before .loop-test .taken) _ _ _ _ (i .3) (v .1) (c .enum-told2 .given .1) in
     (omega (arith, c .before .before .before .before .before .before .before .before .before .loop-test .taken), v .0 .0 ∙ i .1, v .0 .1, n .0, n .1)
 
@@ -98,7 +99,7 @@ returns-2 c =
     let i = l .inv in
     let v = c .before .before .before .before .before .before .before .attempt .ensures in
     let T = coinsOf (b .explicit) (b .seeds .now) (b .noise .now) (b .masks .now) in
-    let P = publicBy p (b .vk .now) (b .mu .now) (matrixIn p (b .a .now)) in
+    let P = publicBy p (b .vk .now) (b .mu .now) (matrixIn p (wordsOf (b .a .now))) in
     let r = c .reported2 .ensures in
     (v .0 .0 ∙ i .1, told-as _ (r .0) (r .1) (all-stuck p P T (b .n) (l .i) _ _ (b .out .now) (i .4) (c .before .before .before .before .before .before .before .before .before .before .loop-test .taken) _ _ _ _ (i .3) (v .1) (c .before .enum-told3 .given .1)))
 
@@ -116,7 +117,7 @@ returns-3 c =
     let l = c .before .before .loop in
     let i = l .inv in
     let T = coinsOf (b .explicit) (b .seeds .now) (b .noise .now) (b .masks .now) in
-    let P = publicBy p (b .vk .now) (b .mu .now) (matrixIn p (b .a .now)) in
+    let P = publicBy p (b .vk .now) (b .mu .now) (matrixIn p (wordsOf (b .a .now))) in
     let z : b .n - l .i ≡ 0 = omega (arith, c .before .loop-test .left) in
     let r = c .reported3 .ensures in
     (i .1, told-as _ (r .0) (r .1) (all-over p P T (b .n) (l .i) _ _ (b .out .now) (i .4) _ (i .3) z))

@@ -10,7 +10,7 @@ use Rattle.signature.specs.Matrix.{matrix, filled}
 use Rattle.signature.proofs.AttemptEnds.{told-as, matrix-none, matrix-made}
 use Rattle.signature.proofs.Fronts.{bound-in, bound-is}
 use Rattle.signature.proofs.SignEnds.{seed-front}
-use Rattle.signature.proofs.Sizes.{matrix-fits, matrix-new}
+use Rattle.signature.proofs.Sizes.{matrix-held, matrix-new}
 use borrow.Author.Needs.{needs}
 use Rattle.signature.proofs.sign.sign_loaded.Statement.{statement}
 use Rattle.signature.proofs.sign.sign_loaded.Tie as tie
@@ -48,7 +48,7 @@ attempt-all-requires : tie.Need-attempt-all-requires
 attempt-all-requires c κs =
     let a = c .before .before .before .before .before .before .before .before .before .before .before .before .before .before .before .before .before .before .before .before .before .before in
     let z = c .before .before .before .before .before .before .before .before .before .before .expand-matrix .ensures .0 in
-    ((a .pre .0 .0, a .pre .0 .1, a .pre .0 .2, (matrix-fits (a .args .p) (a .pre .0 .0) (z .1), z .2)), (a .pre .1 .0, a .pre .1 .1))
+    ((a .pre .0 .0, a .pre .0 .1, a .pre .0 .2, matrix-held (a .args .p) (a .pre .0 .0) _ (z .1) (z .2)), (a .pre .1 .0, a .pre .1 .1))
 
 returns-2 : tie.Need-returns-2
 returns-2 c =
