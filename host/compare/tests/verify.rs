@@ -268,6 +268,29 @@ fn length_at_its_edges() {
 }
 
 #[test]
+fn codes_at_the_edges_of_a_word() {
+    for set in SETS {
+        let c = Case::new(set, Edition::Printed, vec![]);
+        let p = &c.p;
+        let all = 8 * p.sig_bytes;
+        for ones in 50..62 {
+            for zeros in [0, 1, 54, 55, 56, 57, 110] {
+                let of = |f: &Fields| c.verdict_on(&packed(&form_bits(f), p.sig_bytes));
+                let mut f = zero_fields(p);
+                // a run behind so many codes of 0, in hint and response; one more takes up the fill, to the last bit
+                f.hint[zeros] = ones;
+                f.response[zeros] = -(ones << 40);
+                f.hint[zeros + 1] = 1;
+                f.hint[zeros + 1] += (all - form_bits(&f).len()) as i64;
+                assert_eq!(of(&f), 15, "exactly full, {ones} ones behind {zeros} zeros");
+                f.hint[zeros + 1] += 1;
+                assert_eq!(of(&f), 14, "a bit too many, {ones} ones behind {zeros} zeros");
+            }
+        }
+    }
+}
+
+#[test]
 fn random_bytes() {
     let mut random = Random(52);
     let mut met = BTreeSet::new();
