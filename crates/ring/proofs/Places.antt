@@ -2,7 +2,7 @@
 use mathlib.Core.Path.{_≡_, refl, ap, sym, _∙_}
 use mathlib.Core.List.{List, [], _∷_, _++_}
 use Prim.Native.Nat.{ℕ, zero, suc, _*_, _%_, _<_}
-use native.Mathlib.Nat.{mod-lt, mod-mod, mod-eq-of-lt}
+use native.Mathlib.Nat.{mod-lt, mod-mod, mod-eq-of-lt, not-suc-le-zero}
 use native.Mathlib.Omega.{arith}
 use lib.ListN.{length, take, drop, getD, set}
 use Rattle.hash.specs.Lists.{table}
@@ -26,6 +26,18 @@ pub below-map2 : (p : ℕ) (h : ℕ → ℕ → ℕ) → ((a b : ℕ) → h a b 
 below-map2 p h l [] ys = tt
 below-map2 p h l (x ∷ xs) [] = tt
 below-map2 p h l (x ∷ xs) (y ∷ ys) = (l x y, below-map2 p h l xs ys)
+
+-- .. by bounds of the lists
+pub map2-low : (p m n : ℕ) (h : ℕ → ℕ → ℕ) → ((a b : ℕ) → a < m → b < n → h a b < p) → (xs ys : List ℕ) → Below m xs → Below n ys → Below p (map2 h xs ys)
+map2-low p m n h l [] ys bx by = tt
+map2-low p m n h l (x ∷ xs) [] bx by = tt
+map2-low p m n h l (x ∷ xs) (y ∷ ys) bx by = (l x y (bx .0) (by .0), map2-low p m n h l xs ys (bx .1) (by .1))
+
+pub map2-at : (h : ℕ → ℕ → ℕ) (xs ys : List ℕ) (i : ℕ) → i < length xs → i < length ys → getD (map2 h xs ys) i 0 ≡ h (getD xs i 0) (getD ys i 0)
+map2-at h [] ys i l g = absurd (not-suc-le-zero l)
+map2-at h (x ∷ xs) [] i l g = absurd (not-suc-le-zero g)
+map2-at h (x ∷ xs) (y ∷ ys) zero l g = refl
+map2-at h (x ∷ xs) (y ∷ ys) (suc i) l g = map2-at h xs ys i (omega arith) (omega arith)
 
 pub residues-map2 : {p n : ℕ} (h : ℕ → ℕ → ℕ) → ((a b : ℕ) → h a b < p) → (xs ys : List ℕ)
     → length xs ≡ n → length ys ≡ n → Residues p n (map2 h xs ys)

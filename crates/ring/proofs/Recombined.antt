@@ -3,22 +3,22 @@ use mathlib.Core.Path.{_≡_, refl, ap, sym, _∙_, subst}
 use mathlib.Core.Bool.{Bool, true, false}
 use mathlib.Core.List.{List, [], _∷_, _++_}
 use Prim.Native.Nat.{ℕ, zero, suc, _+_, _*_, _-_, _%_, _^_, _<_, _≤_}
-use native.Mathlib.Nat.{mul-le-mul, not-suc-le-zero}
+use native.Mathlib.Nat.{mul-le-mul}
 use native.Mathlib.Omega.{arith}
 use lib.Dec.{lit<, lit≤}
-use lib.ListN.{length, take, drop, getD}
+use lib.ListN.{length, take, drop}
 use Rattle.hash.specs.Lists.{zeros}
 use Rattle.ring.specs.Words.{q, addq, subq, addW, subW, zipTo, Below, Residues, Words}
 use Rattle.ring.specs.Poly.{mapN, map2}
 use Rattle.ring.specs.Residue.{prime, zeta, mods, timesp, fwd, backOne, crtOf}
 use Rattle.ring.specs.Transform.{intt, pointwise}
 use Rattle.ring.specs.Loose.{LooseList}
-use Rattle.ring.specs.Rns.{residueIn, wordOf, wordsOf, recombined, timesIn, multiple, Accrued}
+use Rattle.ring.specs.Rns.{residueIn, wordsOf, recombined, timesIn, multiple, Accrued}
 use Rattle.ring.proofs.Cong.{Eqv, ≈refl, ≈sym, ≈trans, ≈eq, ≈by, ≈mod, ≈kit, ≈cancel}
 use Rattle.ring.proofs.Crt.{each-prime, below-crt, mods-crt-false, mods-crt-true, lists-by-rests}
 use Rattle.ring.proofs.Mapped.{length-map, map-append, map-take, map-drop}
 use Rattle.ring.proofs.Rests.{pointwise-rest}
-use Rattle.ring.proofs.Places.{length-map2, length-mods, below-mods, residues-mods, maps}
+use Rattle.ring.proofs.Places.{length-map2, map2-low, length-mods, below-mods, residues-mods, maps}
 use Rattle.ring.proofs.Values.{residues-fwd}
 use Rattle.ring.proofs.Sums.{addq-lt, subq-lt, below-wider, below-zip}
 use Rattle.ring.proofs.Tables.{prime-pos}
@@ -85,39 +85,40 @@ forth-residues s f rs e l =
 
 -- ---- words of two residues
 
-pub length-words : (xs : List ℕ) → length (wordsOf xs) ≡ length xs
-unfolding wordsOf
-length-words xs = length-map wordOf xs
+-- what they stand for, word by word
+abbrev wordOf : ℕ → ℕ
+wordOf x = crtOf (residueIn true x % prime true) (residueIn false x % prime false)
 
-words-recombined : (xs : List ℕ) → wordsOf xs ≡ recombined (mapN (residueIn true) xs) (mapN (residueIn false) xs)
+words-each : (xs : List ℕ) → wordsOf xs ≡ mapN wordOf xs
 unfolding wordsOf recombined mapN
-words-recombined [] = refl
-words-recombined (x ∷ xs) = ap (λ (t : List ℕ). wordOf x ∷ t) (words-recombined xs)
+words-each [] = refl
+words-each (x ∷ xs) = ap (λ (t : List ℕ). wordOf x ∷ t) (words-each xs)
+
+pub length-words : (xs : List ℕ) → length (wordsOf xs) ≡ length xs
+length-words xs = ap length (words-each xs) ∙ length-map wordOf xs
 
 pub below-words : (xs : List ℕ) → Below q (wordsOf xs)
-unfolding recombined
+unfolding wordsOf recombined
 below-words xs =
-    subst (Below q) (sym (words-recombined xs))
-    (below-crt (mods (prime true) (mapN (residueIn true) xs)) (mods (prime false) (mapN (residueIn false) xs)) (below-mods (prime-pos false) (mapN (residueIn false) xs)))
+    below-crt (mods (prime true) (mapN (residueIn true) xs)) (mods (prime false) (mapN (residueIn false) xs)) (below-mods (prime-pos false) (mapN (residueIn false) xs))
 
 -- a part of them, and a part put in its place
 pub words-part : (xs : List ℕ) (a k : ℕ) → wordsOf (take k (drop a xs)) ≡ take k (drop a (wordsOf xs))
-unfolding wordsOf
-words-part xs a k = sym (ap (take k) (map-drop wordOf a xs) ∙ map-take wordOf k (drop a xs))
+words-part xs a k =
+    words-each (take k (drop a xs)) ∙ sym (ap (λ (l : List ℕ). take k (drop a l)) (words-each xs) ∙ ap (take k) (map-drop wordOf a xs) ∙ map-take wordOf k (drop a xs))
 
 pub words-put : (xs ys : List ℕ) (a k : ℕ)
     → wordsOf (take a xs ++ (ys ++ drop k (drop a xs))) ≡ take a (wordsOf xs) ++ (wordsOf ys ++ drop k (drop a (wordsOf xs)))
-unfolding wordsOf
 words-put xs ys a k =
-    map-append wordOf (take a xs) (ys ++ drop k (drop a xs)) ∙ cc (map-append wordOf ys (drop k (drop a xs)), map-take wordOf a xs, map-drop wordOf k (drop a xs), map-drop wordOf a xs)
+    words-each (take a xs ++ (ys ++ drop k (drop a xs))) ∙ map-append wordOf (take a xs) (ys ++ drop k (drop a xs))
+    ∙ cc (map-append wordOf ys (drop k (drop a xs)), map-take wordOf a xs, map-drop wordOf k (drop a xs), map-drop wordOf a xs, words-each xs, words-each ys)
 
 words-rest : (s : Bool) (xs : List ℕ) → length xs ≡ 512 → mods (prime s) (wordsOf xs) ≡ mods (prime s) (mapN (residueIn s) xs)
+unfolding wordsOf
 words-rest true xs e =
-    ap (mods (prime true)) (words-recombined xs)
-    ∙ recombined-rest (mapN (residueIn true) xs) (mapN (residueIn false) xs) (length-map (residueIn true) xs ∙ e) (length-map (residueIn false) xs ∙ e) true
+    recombined-rest (mapN (residueIn true) xs) (mapN (residueIn false) xs) (length-map (residueIn true) xs ∙ e) (length-map (residueIn false) xs ∙ e) true
 words-rest false xs e =
-    ap (mods (prime false)) (words-recombined xs)
-    ∙ recombined-rest (mapN (residueIn true) xs) (mapN (residueIn false) xs) (length-map (residueIn true) xs ∙ e) (length-map (residueIn false) xs ∙ e) false
+    recombined-rest (mapN (residueIn true) xs) (mapN (residueIn false) xs) (length-map (residueIn true) xs ∙ e) (length-map (residueIn false) xs ∙ e) false
 
 -- two residues to a word
 pub two-words : (a b : List ℕ) → Below (2 ^ 30) b → wordsOf (map2 (λ (x y : ℕ). x * 2 ^ 30 + y) a b) ≡ recombined a b
@@ -130,9 +131,7 @@ two-words (x ∷ a) (y ∷ b) h =
     cc (e, g, two-words a b (h .1))
 
 pub below-two : (a b : List ℕ) → Below (2 ^ 30) a → Below (2 ^ 30) b → Below (2 ^ 60) (map2 (λ (x y : ℕ). x * 2 ^ 30 + y) a b)
-below-two [] b h g = tt
-below-two (x ∷ a) [] h g = tt
-below-two (x ∷ a) (y ∷ b) h g = (omega (arith, h .0, g .0), below-two a b (h .1) (g .1))
+below-two = map2-low (2 ^ 60) (2 ^ 30) (2 ^ 30) (λ (x y : ℕ). x * 2 ^ 30 + y) (λ x y h g. omega arith)
 
 -- ---- products and sums
 
@@ -148,9 +147,8 @@ times-low y z h g =
     omega (arith, mul-le-mul a b)
 
 below-times : (s : Bool) (a x : List ℕ) → Below (2 ^ 60) a → Below (2 ^ 60) x → Below (2 ^ 60) (map2 (timesIn s) a x)
-below-times s [] x h g = tt
-below-times s (y ∷ a) [] h g = tt
-below-times s (y ∷ a) (z ∷ x) h g = (times-low (residueIn s y) (residueIn s z) (residue-in-low s y (h .0)) (residue-in-low s z (g .0)), below-times s a x (h .1) (g .1))
+below-times s =
+    map2-low (2 ^ 60) (2 ^ 60) (2 ^ 60) (timesIn s) (λ y z h g. times-low (residueIn s y) (residueIn s z) (residue-in-low s y h) (residue-in-low s z g))
 
 pub multiple-above : (s : Bool) → 2 ^ 60 ≤ multiple s
 multiple-above true = lit≤ tt
@@ -162,12 +160,6 @@ multiple-rest false = ≈by 0 69810257854 refl
 
 pub times-long : (s : Bool) (a x : List ℕ) → Residues (2 ^ 60) 512 a → Residues (2 ^ 60) 512 x → length (map2 (timesIn s) a x) ≡ 512
 times-long s a x ra rx = length-map2 (timesIn s) a x (ra .long ∙ sym (rx .long)) ∙ ra .long
-
-pub times-at : (s : Bool) (a x : List ℕ) (i : ℕ) → i < length a → i < length x → getD (map2 (timesIn s) a x) i 0 ≡ timesIn s (getD a i 0) (getD x i 0)
-times-at s [] x i h g = absurd (not-suc-le-zero h)
-times-at s (y ∷ a) [] i h g = absurd (not-suc-le-zero g)
-times-at s (y ∷ a) (z ∷ x) zero h g = refl
-times-at s (y ∷ a) (z ∷ x) (suc i) h g = times-at s a x i (omega arith) (omega arith)
 
 -- the rests of the product are those of the products of residues
 module _ (s : Bool) where
@@ -221,22 +213,17 @@ module _ (s : Bool) where
 
 -- ---- a step on the sums
 
-below-map : (m n : ℕ) (g : ℕ → ℕ → ℕ) → ((u v : ℕ) → v < 2 ^ 60 → u < m → g u v < m + n) → (U W : List ℕ) → Below m U → Below (2 ^ 60) W → Below (m + n) (map2 g U W)
-below-map m n g h [] W b d = tt
-below-map m n g h (u ∷ U) [] b d = tt
-below-map m n g h (u ∷ U) (v ∷ W) b d = (h u v (d .0) (b .0), below-map m n g h U W (b .1) (d .1))
-
 -- by f modulo q where it goes by g s modulo each prime
 module _ (n : ℕ) (f : ℕ → ℕ → ℕ) (g : Bool → ℕ → ℕ → ℕ)
     (h : (s : Bool) (x y u v : ℕ) → Eqv (prime s) x u → Eqv (prime s) y v → y < q → v < 2 ^ 60 → f x y % prime s ≡ g s u v % prime s)
-    (f-low : (x y : ℕ) → f x y < q) (g-low : (s : Bool) (m u v : ℕ) → v < 2 ^ 60 → u < m → g s u v < m + n)
+    (f-low : (x y : ℕ) → f x y < q) (g-low : (s : Bool) (m u v : ℕ) → u < m → v < 2 ^ 60 → g s u v < m + n)
     (a x hi lo hi' lo' : List ℕ) (ra : Residues (2 ^ 60) 512 a) (rx : Residues (2 ^ 60) 512 x) (eh : length hi ≡ 512) (el : length lo ≡ 512) where
   step-residues : (s : Bool) (m : ℕ) (U : List ℕ) → Residues m 512 U → Residues (m + n) 512 (map2 (g s) U (map2 (timesIn s) a x))
   step-residues s m U r =
       let e = times-long s a x ra rx in
       record {
         long = length-map2 (g s) U (map2 (timesIn s) a x) (r .long ∙ sym e) ∙ r .long;
-        low = below-map m n (g s) (g-low s m) U (map2 (timesIn s) a x) (r .low) (below-times s a x (ra .low) (rx .low));
+        low = map2-low (m + n) m (2 ^ 60) (g s) (g-low s m) U (map2 (timesIn s) a x) (r .low) (below-times s a x (ra .low) (rx .low));
       }
 
   both-accrued : hi' ≡ map2 (g true) hi (map2 (timesIn true) a x) → lo' ≡ map2 (g false) lo (map2 (timesIn false) a x)
@@ -266,7 +253,7 @@ pub add-accrued : (a x hi lo hi' lo' : List ℕ) → Residues (2 ^ 60) 512 a →
     → hi' ≡ map2 (λ (y z : ℕ). y + z) hi (map2 (timesIn true) a x) → lo' ≡ map2 (λ (y z : ℕ). y + z) lo (map2 (timesIn false) a x)
     → Accrued addW (2 ^ 60) a x hi lo hi' lo'
 add-accrued a x hi lo hi' lo' ra rx eh el =
-    both-accrued (2 ^ 60) addq (λ (s : Bool) (y z : ℕ). y + z) rest-added addq-lt (λ s m u v b l. omega arith) a x hi lo hi' lo' ra rx eh el
+    both-accrued (2 ^ 60) addq (λ (s : Bool) (y z : ℕ). y + z) rest-added addq-lt (λ s m u v l b. omega arith) a x hi lo hi' lo' ra rx eh el
 
 pub multiple-low : (s : Bool) → multiple s < 2 ^ 61
 multiple-low true = lit< tt
@@ -276,4 +263,4 @@ pub sub-accrued : (a x hi lo hi' lo' : List ℕ) → Residues (2 ^ 60) 512 a →
     → hi' ≡ map2 (λ (y z : ℕ). y + (multiple true - z)) hi (map2 (timesIn true) a x)
     → lo' ≡ map2 (λ (y z : ℕ). y + (multiple false - z)) lo (map2 (timesIn false) a x) → Accrued subW (2 ^ 61) a x hi lo hi' lo'
 sub-accrued a x hi lo hi' lo' ra rx eh el =
-    both-accrued (2 ^ 61) subq (λ (s : Bool) (y z : ℕ). y + (multiple s - z)) rest-taken subq-lt (λ s m u v b l. omega (arith, multiple-low s)) a x hi lo hi' lo' ra rx eh el
+    both-accrued (2 ^ 61) subq (λ (s : Bool) (y z : ℕ). y + (multiple s - z)) rest-taken subq-lt (λ s m u v l b. omega (arith, multiple-low s)) a x hi lo hi' lo' ra rx eh el

@@ -4,7 +4,7 @@
 use mathlib.Core.Bool.{Bool, true, false}
 use mathlib.Core.Path.{_≡_}
 use mathlib.Core.List.{List}
-use Prim.Native.Nat.{ℕ, _+_, _*_, _-_, _%_, _/_, _^_}
+use Prim.Native.Nat.{ℕ, _+_, _*_, _%_, _/_, _^_}
 use Rattle.ring.specs.Words.{Residues}
 use Rattle.ring.specs.Poly.{mapN, map2}
 use Rattle.ring.specs.Residue.{prime, mods, crtOf}
@@ -15,16 +15,13 @@ abbrev pub residueIn : Bool → ℕ → ℕ
 residueIn true x = x / 2 ^ 30
 residueIn false x = x % 2 ^ 30
 
--- the number below q of such a word, and those of a list of them
-abbrev pub wordOf : ℕ → ℕ
-wordOf x = crtOf (residueIn true x % prime true) (residueIn false x % prime false)
-
-unfoldable pub wordsOf : List ℕ → List ℕ
-wordsOf xs = mapN wordOf xs
-
 -- the numbers below q of residues modulo q2, in hi, and modulo q1, in lo, or of sums of them
 unfoldable pub recombined : List ℕ → List ℕ → List ℕ
 recombined hi lo = map2 crtOf (mods (prime true) hi) (mods (prime false) lo)
+
+-- .. of words of two
+unfoldable pub wordsOf : List ℕ → List ℕ
+wordsOf xs = recombined (mapN (residueIn true) xs) (mapN (residueIn false) xs)
 
 -- products of residues modulo one prime, place by place, not reduced
 abbrev pub timesIn : Bool → ℕ → ℕ → ℕ

@@ -1,11 +1,9 @@
 // Polynomials in the transform domain left as residues modulo the two primes of q (000, 2.7.2), two to a word. A row of a matrix product is added
 // up in them: products of residues, not reduced, modulo each prime; the sums are reduced, turned back and recombined once.
-ghost use mathlib.Core.Bool.{true, false};
 ghost use mathlib.Core.Path.{_≡_};
-ghost use Prim.Native.Nat.{ℕ, _+_, _*_, _-_, _%_, _^_, _<_};
-ghost use Rattle.ring.specs.Words.{q, addW, subW, Residues, Words};
+ghost use Prim.Native.Nat.{ℕ, _+_, _*_, _-_, _^_, _<_};
+ghost use Rattle.ring.specs.Words.{addW, subW, Residues, Words};
 ghost use Rattle.ring.specs.Poly.{map2};
-ghost use Rattle.ring.specs.Residue.{prime};
 ghost use Rattle.ring.specs.Transform.{ntt, intt};
 ghost use Rattle.ring.specs.Rns.{residueIn, wordsOf, recombined, timesIn, multiple, Accrued};
 use crate::poly::copy_into;

@@ -119,7 +119,6 @@ module _ (w : ℕ) (t : List ℕ) where
       read-some s e h = rw (← is-n, lt-ltb _ _ stop, ← m-is, ne-eqb m 0 some-m, lt-ltb _ _ h, ← e)
 
 -- the code's own numbers are those of the definition
-
 module _ (w n : ℕ) (few : n < 2 ^ 20) (narrow : w ≤ 40) where
   pub mag-exact : n * 2 ^ w % 2 ^ 64 ≡ n * 2 ^ w
   mag-exact = shl-exact {a = n} 20 w 64 few (omega arith)

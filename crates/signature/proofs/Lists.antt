@@ -1,5 +1,5 @@
 -- Laws of several numbers.
-use Prim.Native.Nat.{ℕ, zero, suc, _+_, _≤_, _<_}
+use Prim.Native.Nat.{ℕ, zero, suc, _+_, _-_, _≤_, _<_}
 use mathlib.Core.Path.{_≡_, refl, sym, ap, _∙_}
 use mathlib.Core.List.{List, [], _∷_, _++_, append-assoc, append-nil}
 use mathlib.Core.Option.{Option, some, none}
@@ -8,11 +8,12 @@ use native.Mathlib.Nat.{not-suc-le-zero, le-of-suc-le-suc}
 use native.Mathlib.Numerals.{add-one}
 use native.Mathlib.Decide.{le-ind, decLt, ℕ-discrete}
 use Rattle.signature.specs.declared.code.Got.the-variants.{Code, Bad}
+use Rattle.signature.specs.declared.code.Next.the-variants.{At}
 use lib.IntN.{ℤ, pos}
-use lib.ListN.{length, getD, set, take, drop, length-append}
-use lib.Seq.{sets, take-suc-set}
+use lib.ListN.{length, getD, set, take, drop, length-append, length-drop}
+use lib.Seq.{sets, take-all, take-suc-set, drop-drop}
 use Rattle.signature.specs.Code.{code, signedOf, codes, runOf, magOf, readCode, readCodes}
-use Rattle.signature.specs.AnswerSteps.{gotOf}
+use Rattle.signature.specs.AnswerSteps.{gotOf, NextOf}
 use Rattle.signature.proofs.Strings.{sets-append}
 use Rattle.signature.proofs.Codes.{read-short, read-zero, read-cut, read-some}
 
@@ -46,14 +47,14 @@ module _ (w : ℕ) (zs : List ℤ) (i : ℕ) (h : i < length zs) where
 
 -- ---- reading
 
-pub got-code : (at : ℕ) (o : Option (ℤ × ℕ)) (z : ℤ) (next : ℕ) → Code z next ≡ gotOf at o → (k : ℕ) × (o ≡ some (z, k)) × (next ≡ at + k)
+got-code : (at : ℕ) (o : Option (ℤ × ℕ)) (z : ℤ) (next : ℕ) → Code z next ≡ gotOf at o → (k : ℕ) × (o ≡ some (z, k)) × (next ≡ at + k)
 got-code at none z next e = let x : _≡_ {A = ℕ} 0 1 = cc in absurd (omega arith)
 got-code at (some r) z next e =
     let a : z ≡ r .0 = cc in
     let b : next ≡ at + r .1 = cc in
     (r .1, ap (λ (x : ℤ). some (x, r .1)) (sym a), b)
 
-pub got-bad : (at : ℕ) (o : Option (ℤ × ℕ)) → Bad ≡ gotOf at o → o ≡ none
+got-bad : (at : ℕ) (o : Option (ℤ × ℕ)) → Bad ≡ gotOf at o → o ≡ none
 got-bad at none e = refl
 got-bad at (some r) e = let x : _≡_ {A = ℕ} 0 1 = cc in absurd (omega arith)
 
@@ -70,7 +71,7 @@ read-none : (w : ℕ) (t : List ℕ) (i j : ℕ) (xs : List ℤ) → readCodes w
 unfolding readCodes
 read-none w t i j xs e f = rw (readCodes, e, f)
 
-pub none-left : (w : ℕ) (t : List ℕ) (i j n : ℕ) (xs : List ℤ) → readCodes w i t ≡ some (xs, j) → readCode w (drop j t) ≡ none → i < n → readCodes w n t ≡ none
+none-left : (w : ℕ) (t : List ℕ) (i j n : ℕ) (xs : List ℤ) → readCodes w i t ≡ some (xs, j) → readCode w (drop j t) ≡ none → i < n → readCodes w n t ≡ none
 unfolding readCodes
 none-left w t i j n xs e f h = le-ind (λ (m : ℕ). readCodes w m t ≡ none) (read-none w t i j xs e f) (λ m k ih. rw (readCodes, ih)) n h
 
@@ -94,3 +95,29 @@ read-le w t z k e = go₁ (decLt (w + runOf (drop w t)) (length t))
     go₁ : Dec (w + runOf (drop w t) < length t) → k ≤ length t
     go₁ (yes s) = go₂ s (ℕ-discrete (magOf w t) 0)
     go₁ (no s) = let r = read-short w t (omega (arith, s)) in let x : _≡_ {A = ℕ} 0 1 = cc in absurd (omega arith)
+
+-- ---- the reader at place k: the numbers begin at `at`, i of them are read and lie in out
+
+pub past-start : (F : List ℕ) (at k : ℕ) → at ≤ k → drop (k - at) (drop at F) ≡ drop k F
+past-start F at k h = let e : at + (k - at) ≡ k = omega arith in drop-drop (k - at) at F ∙ ap (λ (n : ℕ). drop n F) e
+
+module _ (F : List ℕ) (w at k i : ℕ) (out : List ℤ) (order : at ≤ k) (e : readCodes w i (drop at F) ≡ some (take i out, k - at)) where
+  -- the next has too few bits
+  pub read-stopped : (n : ℕ) → i < n → Bad ≡ gotOf k (readCode w (drop k F)) → readCodes w n (drop at F) ≡ none
+  read-stopped n h b =
+      none-left w (drop at F) i (k - at) n (take i out) e (ap (readCode w) (past-start F at k order) ∙ got-bad k (readCode w (drop k F)) b) h
+
+  -- the next is z, and goes into place i as y
+  pub read-on : (z y : ℤ) (next : ℕ) → y ≡ z → i < length out → k ≤ length F → Code z next ≡ gotOf k (readCode w (drop k F))
+      → (at ≤ next) × (next ≤ length F) × (readCodes w (i + 1) (drop at F) ≡ some (take (i + 1) (set out i y), next - at))
+  read-on z y next same h l g =
+      let f = got-code k (readCode w (drop k F)) z next g in
+      let x : k - at + f .0 ≡ next - at = omega (arith, f .2) in (
+        omega (arith, f .2),
+        omega (arith, f .2, read-le w (drop k F) z (f .0) (f .1), length-drop k F),
+        read-turn w (drop at F) i (k - at) (f .0) (next - at) out z y h same e (ap (readCode w) (past-start F at k order) ∙ f .1) x,
+      )
+
+  -- all are read
+  pub read-done : (n : ℕ) → n ≡ i → length out ≤ i → NextOf at (readCodes w n (drop at F)) (At k) out
+  read-done n h l = let p : k ≡ at + (k - at) = omega arith in rw (h, e) (ap At p, sym (take-all i out l))

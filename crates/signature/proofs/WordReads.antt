@@ -1,5 +1,5 @@
 -- Codes read off a word: runs of a number's bits, and the bits of a string that the number holds.
-use Prim.Native.Nat.{ℕ, zero, suc, _+_, _*_, _-_, _/_, _%_, _^_, _≤_, _<_}
+use Prim.Native.Nat.{ℕ, zero, suc, min, _+_, _*_, _-_, _/_, _%_, _^_, _≤_, _<_}
 use mathlib.Core.Path.{_≡_, refl, sym, ap, subst, _∙_}
 use mathlib.Core.Bool.{Bool, true, false, not, _&&_}
 use mathlib.Core.List.{List, [], _∷_, _++_}
@@ -20,7 +20,7 @@ use Rattle.signature.specs.Code.{runOf, signedOf, readCode, readCodes}
 use Rattle.signature.proofs.Strings.{getD-bits, Bits, bits-take, bits-drop, bits-val}
 use Rattle.signature.proofs.Words.{val-drop, val-take}
 use Rattle.signature.proofs.Codes.{run-stop, read-zero, read-some}
-use Rattle.signature.proofs.Lists.{read-more, read-turn}
+use Rattle.signature.proofs.Lists.{read-more, read-turn, past-start}
 
 -- ---- a number's own runs: ones are the zeros of its complement
 
@@ -56,11 +56,14 @@ zero-below : (r t x d : ℕ) → x % 2 ≡ d → suc r ≤ under d t → (r ≤ 
 zero-below r t x zero e h f = omega (arith, f (le-of-suc-le-suc h), mod-pow-add x r 1, ap (λ (n : ℕ). x % 2 ^ n) (add-one r))
 zero-below r t x (suc d) e h f = absurd (not-suc-le-zero h)
 
-pub zeros-divide : (k x r : ℕ) → r ≤ trailingZeros k x → x % 2 ^ r ≡ 0
+zeros-divide : (k x r : ℕ) → r ≤ trailingZeros k x → x % 2 ^ r ≡ 0
 unfolding trailingZeros
 zeros-divide k x zero h = omega arith
 zeros-divide zero x (suc r) h = absurd (not-suc-le-zero h)
 zeros-divide (suc k) x (suc r) h = zero-below r (trailingZeros k (x / 2)) x (x % 2) refl h (λ g. zeros-divide k (x / 2) r g)
+
+pub zeros-least : (x r : ℕ) → r ≡ min 56 (trailingZeros 64 x) → x % 2 ^ r ≡ 0
+zeros-least x r e = zeros-divide 64 x r (omega (arith, e))
 
 -- ---- a number that holds the first j bits of t
 
@@ -161,9 +164,6 @@ module _ (F : List ℕ) (bits : Bits F) (q x a n : ℕ) (inside : q + 56 ≤ len
 
 -- turns of the reader, at k: at starts the numbers, i of them are read
 module _ (F : List ℕ) (at k i : ℕ) (order : at ≤ k) where
-  past-start : (j : ℕ) → drop (k + j - at) (drop at F) ≡ drop (k + j) F
-  past-start j = let e : at + (k + j - at) ≡ k + j = omega arith in drop-drop (k + j - at) at F ∙ ap (λ (n : ℕ). drop n F) e
-
   -- the word x at k has a zeros, then b ones: zeros and the number behind them go into places i to i + a of out, which has zeros from i on
   pub small-turn : (bits : Bits F) (x a b : ℕ) (out : List ℤ) (y : ℤ) → k + 56 ≤ length F → x ≡ valOf (take 56 (drop k F)) → b ≡ runOf (bitsOf 64 (x / 2 ^ a))
       → a + b ≤ 54 → 0 < b → x % 2 ^ a ≡ 0 → i + a < length out → ((p : ℕ) → i ≤ p → getD out p (pos 0) ≡ pos 0)
@@ -174,14 +174,12 @@ module _ (F : List ℕ) (at k i : ℕ) (order : at ≤ k) where
       let t = drop at F in
       let lt : length t ≡ length F - at = length-drop at F in
       let lk = length-drop k F in
-      let p : k + 0 - at ≡ k - at = omega arith in
       let q : k + a - at ≡ k - at + a = omega arith in
       let n : k - at + a + (0 + b + 2) ≡ k + (a + b + 2) - at = omega arith in
-      let d : drop (k - at) t ≡ drop k F = ap (λ (j : ℕ). drop j t) (sym p) ∙ past-start 0 ∙ ap (λ (j : ℕ). drop j F) (add-zero k) in
-      let v = ap (λ (l : List ℕ). valOf (take a l)) d ∙ zeros-window (drop k F) 56 x a (bits-drop k F bits) (omega arith) (omega arith) word z in
+      let v = ap (λ (l : List ℕ). valOf (take a l)) (past-start F at k order) ∙ zeros-window (drop k F) 56 x a (bits-drop k F bits) (omega arith) (omega arith) word z in
       let m : b ≡ valOf (take 0 (drop (k + a) F)) + b * 2 ^ 0 = omega arith in
       let r = word-code F bits k x a b inside word run few (k + a) 0 b (add-zero (k + a)) m (λ o. omega arith) in
-      let c = ap (λ (j : ℕ). readCode 0 (drop j t)) (sym q) ∙ ap (readCode 0) (past-start a) ∙ r in
+      let c = ap (λ (j : ℕ). readCode 0 (drop j t)) (sym q) ∙ ap (readCode 0) (past-start F at (k + a) (omega arith)) ∙ r in
       read-turn 0 t (i + a) (k - at + a) (0 + b + 2) _ out _ y room f (skip-zeros a t out i (k - at) rest (omega arith) e v (omega arith)) c n
 
   -- two numbers, the second at k + c
@@ -190,14 +188,12 @@ module _ (F : List ℕ) (at k i : ℕ) (order : at ≤ k) where
       → readCodes w (i + 2) (drop at F) ≡ some (take (i + 2) (set (set out i y) (i + 1) z), k + c + d - at)
   pair-turn w c d out u v y z room e f g r₁ r₂ =
       let t = drop at F in
-      let p : k + 0 - at ≡ k - at = omega arith in
       let q : k - at + c ≡ k + c - at = omega arith in
       let n : k + c - at + d ≡ k + c + d - at = omega arith in
       let o : i + 1 + 1 ≡ i + 2 = omega arith in
-      let s₁ = ap (λ (j : ℕ). readCode w (drop j t)) (sym p) ∙ ap (readCode w) (past-start 0 ∙ ap (λ (j : ℕ). drop j F) (add-zero k)) ∙ r₁ in
-      let one = read-turn w t i (k - at) c (k + c - at) out u y (omega arith) e g s₁ q in
-      let s₂ = ap (readCode w) (past-start c) ∙ r₂ in
-      let two = read-turn w t (i + 1) (k + c - at) d (k + c + d - at) (set out i y) v z (omega (arith, length-set out i y)) f one s₂ n in
+      let one = read-turn w t i (k - at) c (k + c - at) out u y (omega arith) e g (ap (readCode w) (past-start F at k order) ∙ r₁) q in
+      let two = read-turn w t (i + 1) (k + c - at) d (k + c + d - at) (set out i y) v z (omega (arith, length-set out i y)) f one
+      (ap (readCode w) (past-start F at (k + c) (omega arith)) ∙ r₂) n in
       subst (λ (j : ℕ). readCodes w j t ≡ some (take j (set (set out i y) (i + 1) z), k + c + d - at)) o two
 
   -- the words x and y have the runs of two numbers

@@ -1,8 +1,9 @@
 // The coefficients of a signature as bits (000, 2.5.1): w low bits, the rest in ones, a stop bit, a sign. Hint: w is 0; response: w is 40.
 ghost use mathlib.Core.Path.{_≡_};
-ghost use Prim.Native.Nat.{ℕ, _+_, _*_, _%_, _^_, _<_, _≤_};
+ghost use Prim.Native.Nat.{ℕ, min, _+_, _*_, _^_, _<_, _≤_};
 ghost use lib.IntN.{pos, natAbs};
 ghost use lib.ListN.{length, getD, take, drop, replicate};
+ghost use lib.Count.{trailingZeros};
 ghost use lib.Dec.{leb};
 ghost use lib.Seq.{sets};
 ghost use Rattle.hash.specs.Lists.{pick};
@@ -11,6 +12,7 @@ ghost use Rattle.signature.specs.Code.{codeOf, code, codes, codeBits, co
 ghost use Rattle.signature.specs.AnswerSteps.{gotOf, NextOf};
 use crate::bits;
 use crate::int;
+use hash::num::least;
 
 // A number and the place behind it, or too few bits.
 pub enum Got {
@@ -196,14 +198,9 @@ fn run_in(x: u64) -> usize
 
 // How many zeros x has below its lowest one, no more than 56.
 fn zeros_in(x: u64) -> usize
-    ensures { λ r. ⌜ x % 2 ^ r ≡ 0 ⌝ }
-    ensures { λ r. ⌜ r ≤ 56 ⌝ }
+    ensures { λ r. ⌜ r ≡ min 56 (trailingZeros 64 x) ⌝ }
 {
-    let n = u64::trailing_zeros(x) as usize;
-    if 56 < n {
-        return 56;
-    }
-    n
+    least(56, u64::trailing_zeros(x) as usize)
 }
 
 // The number of the 56 bits from `at` on, or 0 where fewer are left.

@@ -7,7 +7,8 @@ use borrow.Author.Needs.{needs}
 use Rattle.ring.specs.Poly.{map2}
 use Rattle.ring.specs.Rns.{timesIn}
 use Rattle.ring.proofs.Pairs.{Each, each-start, each-low, each-more, each-end}
-use Rattle.ring.proofs.Recombined.{times-low, times-at, times-long}
+use Rattle.ring.proofs.Places.{map2-at}
+use Rattle.ring.proofs.Recombined.{times-low, times-long}
 use Rattle.ring.proofs.Sums.{below-at}
 use Rattle.ring.proofs.rns.add_times.Statement.{statement}
 use Rattle.ring.proofs.rns.add_times.Tie as tie
@@ -46,7 +47,7 @@ loop-again c =
     let ha : l .i < length (b .args .a .now) = omega (arith, h, l .inv .long, b .pre .0 .long, b .pre .1 .long) in
     let hx : l .i < length (b .args .x .now) = omega (arith, h, l .inv .long, b .pre .0 .long, b .pre .2 .long) in
     each-more _ _ _ (l .i) (l .s) (l .inv) _ h (b .pre .0 .long ∙ sym (times-long (b .args .second) (b .args .a .now) (b .args .x .now) (b .pre .1) (b .pre .2)))
-    (ap (λ (t : ℕ). getD (l .s) (l .i) 0 + t) (ap₂ _*_ (c .before .before .residue-in .ensures .0) (c .residue-in2 .ensures .0) ∙ sym (times-at (b .args .second) (b .args .a .now) (b .args .x .now) (l .i) ha hx)))
+    (ap (λ (t : ℕ). getD (l .s) (l .i) 0 + t) (ap₂ _*_ (c .before .before .residue-in .ensures .0) (c .residue-in2 .ensures .0) ∙ sym (map2-at (timesIn (b .args .second)) (b .args .a .now) (b .args .x .now) (l .i) ha hx)))
 
 returns : tie.Need-returns Inv-loop μ-loop
 returns c =

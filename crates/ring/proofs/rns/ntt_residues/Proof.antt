@@ -5,7 +5,7 @@ use mathlib.Core.Path.{sym, ap, _∙_, subst}
 use lib.ListN.{length}
 use borrow.Author.Needs.{needs}
 use Rattle.ring.specs.Words.{Words}
-use Rattle.ring.specs.Residue.{zeta, mods, fwd}
+use Rattle.ring.specs.Residue.{prime, zeta, mods, fwd}
 use Rattle.ring.proofs.Recombined.{recombined-is, forth-residues}
 use Rattle.ring.proofs.Theorems.{ntt-by-rests}
 use Rattle.ring.proofs.rns.ntt_residues.Statement.{statement}
@@ -25,7 +25,7 @@ words-of-two-requires c κs =
 returns : tie.Need-returns
 returns c =
     let f = c .before .before .before .before .before .before .before .before .before .before .before .before .before .before .before .before .before .args .a .now in
-    let e = ap (λ (x : List ℕ). fwd 16515073 (zeta false) 9 1 (mods 16515073 x)) (c .before .before .before .before .before .before .before .before .before .before .before .before .before .copy-into .ensures) in (
+    let e = ap (λ (x : List ℕ). fwd (prime false) (zeta false) 9 1 (mods (prime false) x)) (c .before .before .before .before .before .before .before .before .before .before .before .before .before .copy-into .ensures) in (
       c .before .before .words-of-two .ensures .0 ∙ recombined-is _ _ (c .before .before .before .before .before .before .before .before .before .before .forward-words .ensures .same) (c .before .before .before .before .before .before .forward-words2 .ensures .same ∙ e) ∙ ntt-by-rests f (c .before .before .before .before .before .before .before .before .before .before .before .before .before .before .before .before .before .pre .long),
       c .before .before .words-of-two .ensures .1,
     )

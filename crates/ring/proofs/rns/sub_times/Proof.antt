@@ -7,7 +7,8 @@ use borrow.Author.Needs.{needs}
 use Rattle.ring.specs.Poly.{map2}
 use Rattle.ring.specs.Rns.{timesIn, multiple}
 use Rattle.ring.proofs.Pairs.{Each, each-start, each-low, each-more, each-end}
-use Rattle.ring.proofs.Recombined.{times-low, times-at, times-long, multiple-above, multiple-low}
+use Rattle.ring.proofs.Places.{map2-at}
+use Rattle.ring.proofs.Recombined.{times-low, times-long, multiple-above, multiple-low}
 use Rattle.ring.proofs.Sums.{below-at}
 use Rattle.ring.proofs.rns.sub_times.Statement.{statement}
 use Rattle.ring.proofs.rns.sub_times.Tie as tie
@@ -51,7 +52,7 @@ loop-again c =
     let ha : l .i < length (b .args .a .now) = omega (arith, h, l .inv .long, b .pre .0 .long, b .pre .1 .long) in
     let hx : l .i < length (b .args .x .now) = omega (arith, h, l .inv .long, b .pre .0 .long, b .pre .2 .long) in
     each-more _ _ _ (l .i) (l .s) (l .inv) _ h (b .pre .0 .long ∙ sym (times-long (b .args .second) (b .args .a .now) (b .args .x .now) (b .pre .1) (b .pre .2)))
-    (ap (λ (t : ℕ). getD (l .s) (l .i) 0 + t) (ap₂ (λ (y z : ℕ). y - z) (c .before .before .before .before .before .multiple .ensures) (ap₂ _*_ (c .before .before .before .residue-in .ensures .0) (c .before .residue-in2 .ensures .0) ∙ sym (times-at (b .args .second) (b .args .a .now) (b .args .x .now) (l .i) ha hx))))
+    (ap (λ (t : ℕ). getD (l .s) (l .i) 0 + t) (ap₂ (λ (y z : ℕ). y - z) (c .before .before .before .before .before .multiple .ensures) (ap₂ _*_ (c .before .before .before .residue-in .ensures .0) (c .before .residue-in2 .ensures .0) ∙ sym (map2-at (timesIn (b .args .second)) (b .args .a .now) (b .args .x .now) (l .i) ha hx))))
 
 returns : tie.Need-returns Inv-loop μ-loop
 returns c =

@@ -1,22 +1,21 @@
 use Prim.Native.Nat.{ℕ, _+_, _*_, _-_, _<_, _≤_}
-use mathlib.Core.Path.{_≡_, refl, sym, ap, _∙_}
-use mathlib.Core.Option.{some, none}
+use mathlib.Core.Path.{_≡_, refl, sym, _∙_}
+use mathlib.Core.Option.{some}
 use native.Mathlib.Omega.{arith}
 use native.Mathlib.Nat.{sub-self}
 use lib.IntN.{pos}
-use lib.ListN.{length, getD, take, drop, length-set, length-drop}
-use lib.Seq.{take-all, drop-drop, getD-set-other}
+use lib.ListN.{length, getD, take, drop, length-set}
+use lib.Seq.{getD-set-other}
 use lib.Pow.{shr-le}
 use borrow.Author.Needs.{sfits-of}
 use mir.Syntax.{w64}
 use mir.Val.{SFits, toZ, ofZ}
 use mir.ValLaws.{toZ-ofZ}
 use Rattle.signature.specs.Bits.{bitString}
-use Rattle.signature.specs.Code.{readCode, readCodes}
-use Rattle.signature.specs.declared.code.Next.the-variants.{At}
+use Rattle.signature.specs.Code.{readCodes}
 use Rattle.signature.proofs.Strings.{length-fields, fields-bits}
-use Rattle.signature.proofs.Lists.{got-code, got-bad, read-turn, none-left, read-le}
-use Rattle.signature.proofs.WordReads.{small-turn, there, there-is, run-some, small-tests, all-cleared}
+use Rattle.signature.proofs.Lists.{read-stopped, read-on, read-done}
+use Rattle.signature.proofs.WordReads.{zeros-least, small-turn, there, there-is, run-some, small-tests, all-cleared}
 use borrow.Author.Needs.{needs}
 use Rattle.signature.proofs.code.get_small.Statement.{statement}
 use Rattle.signature.proofs.code.get_small.Tie as tie
@@ -87,48 +86,35 @@ loop-again c =
       omega arith,
       omega arith,
       small-turn (bitString 8 f) (c11 .args .at) (l .k) (l .i) (l .inv .2) (fields-bits 8 f) x a b (l .out) y (omega (arith, length-fields 8 f))
-          (there-is _ _ _ _ (c4 .word-from .ensures .0) w) (c .before .before .run-in .ensures .0) (t .1) (t .0) (c3 .zeros-in .ensures .0) room
+          (there-is _ _ _ _ (c4 .word-from .ensures .0) w) (c .before .before .run-in .ensures .0) (t .1) (t .0) (zeros-least x a (c3 .zeros-in .ensures)) room
           (l .inv .5) (l .inv .4) v,
       (λ p h. getD-set-other (l .out) (l .i + a) p y (pos 0) (λ e. omega arith) ∙ l .inv .5 p (omega arith)),
     )
 
 returns : tie.Need-returns Inv-loop μ-loop
 returns c =
-    let g = c .before .before in
     let a = c .before .before .before .before .before .before .before .before .before .before .before .before .before .args in
     let l = c .before .before .before .before .before .before .before .before .loop in
-    let F = bitString 8 (a .buf .now) in
     let n = c .before .before .before .before .before .before .before .before .before .before .clear-numbers .kept .0 in
-    let f = got-bad (l .k) (readCode 0 (drop (l .k) F)) (sym (c .enum-told .given .1) ∙ g .get-code .ensures) in
-    let p : a .at + (l .k - a .at) ≡ l .k = omega arith in
-    let d : readCode 0 (drop (l .k - a .at) (drop (a .at) F)) ≡ none = ap (readCode 0) (drop-drop (l .k - a .at) (a .at) F ∙ ap (λ (m : ℕ). drop m F) p) ∙ f in
-    rw (none-left 0 (drop (a .at) F) (l .i) (l .k - a .at) (length (a .out .now)) (take (l .i) (l .out)) (l .inv .4) d (omega arith)) refl
+    rw (read-stopped (bitString 8 (a .buf .now)) 0 (a .at) (l .k) (l .i) (l .out) (l .inv .2) (l .inv .4) (length (a .out .now)) (omega arith) (sym (c .enum-told .given .1) ∙ c .before .before .get-code .ensures)) refl
 
 loop-less-2 : tie.Need-loop-less-2 Inv-loop μ-loop
 loop-less-2 c = simp length-set (omega arith)
 
 loop-again-2 : tie.Need-loop-again-2 Inv-loop μ-loop
 loop-again-2 c =
-    let g = c .before .before .before in
     let a = c .before .before .before .before .before .before .before .before .before .before .before .before .before .before .args in
     let l = c .before .before .before .before .before .before .before .before .before .loop in
-    let F = bitString 8 (a .buf .now) in
-    let t = drop (a .at) F in
+    let b = a .buf .now in
     let z = c .before .z .given .0 .0 in
-    let next = c .before .z .given .0 .1 .0 in
-    let f = got-code (l .k) (readCode 0 (drop (l .k) F)) z next (sym (c .before .z .given .1) ∙ g .get-code .ensures) in
-    let p : a .at + (l .k - a .at) ≡ l .k = omega arith in
-    let d : readCode 0 (drop (l .k - a .at) t) ≡ some (z, f .0) = ap (readCode 0) (drop-drop (l .k - a .at) (a .at) F ∙ ap (λ (m : ℕ). drop m F) p) ∙ f .1 in
-    let r = read-le 0 (drop (l .k) F) z (f .0) (f .1) in
-    let n : length (drop (l .k) F) ≡ length (a .buf .now) * 8 - l .k = length-drop (l .k) F ∙ ap (λ (k : ℕ). k - l .k) (length-fields 8 (a .buf .now)) in
     let s : SFits w64 z = search needs in
-    let h : l .i < length (l .out) = omega arith in
-    let x : l .k - a .at + f .0 ≡ next - a .at = omega (arith, f .2) in (
+    let r = read-on (bitString 8 b) 0 (a .at) (l .k) (l .i) (l .out) (l .inv .2) (l .inv .4) z _ (c .before .z .given .0 .1 .0) (toZ-ofZ w64 z s) (omega arith)
+    (omega (arith, length-fields 8 b)) (sym (c .before .z .given .1) ∙ c .before .before .before .get-code .ensures) in (
       simp length-set (omega arith),
       length-set (l .out) (l .i) _ ∙ l .inv .1,
-      omega (arith, f .2),
-      omega (arith, f .2),
-      read-turn 0 t (l .i) (l .k - a .at) (f .0) (next - a .at) (l .out) z _ h (toZ-ofZ w64 z s) (l .inv .4) d x,
+      r .0,
+      omega (arith, r .1, length-fields 8 b),
+      r .2,
       (λ q e. getD-set-other (l .out) (l .i) q _ (pos 0) (λ o. omega arith) ∙ l .inv .5 q (omega arith)),
     )
 
@@ -137,9 +123,7 @@ returns-2 c =
     let l = c .before .loop in
     let a = c .before .before .before .before .before .before .args in
     let n = c .before .before .before .clear-numbers .kept .0 in
-    let e : length (a .out .now) ≡ l .i = omega arith in
-    let p : l .k ≡ a .at + (l .k - a .at) = omega arith in
-    rw (e, l .inv .4) (ap At p, sym (take-all (l .i) (l .out) (omega arith)))
+    read-done (bitString 8 (a .buf .now)) 0 (a .at) (l .k) (l .i) (l .out) (l .inv .2) (l .inv .4) (length (a .out .now)) (omega arith) (omega arith)
 
 pub get-small-spec : {M : Type 1} → statement M
 get-small-spec =

@@ -1,20 +1,18 @@
-use Prim.Native.Nat.{ℕ, _+_, _*_, _-_, _<_, _≤_}
-use mathlib.Core.Path.{_≡_, refl, sym, ap, _∙_}
-use mathlib.Core.Option.{some, none}
+use Prim.Native.Nat.{_+_, _*_, _-_, _<_, _≤_}
+use mathlib.Core.Path.{_≡_, refl, sym, _∙_}
+use mathlib.Core.Option.{some}
 use native.Mathlib.Omega.{arith}
 use native.Mathlib.Nat.{sub-self}
-use lib.ListN.{length, set, take, drop, length-set, length-drop}
-use lib.Seq.{take-all, drop-drop}
+use lib.ListN.{length, set, take, drop, length-set}
 use lib.Pow.{shr-le}
 use borrow.Author.Needs.{needs, sfits-of}
 use mir.Syntax.{w64}
 use mir.Val.{SFits, toZ, ofZ}
 use mir.ValLaws.{toZ-ofZ}
 use Rattle.signature.specs.Bits.{bitString}
-use Rattle.signature.specs.Code.{readCode, readCodes}
-use Rattle.signature.specs.declared.code.Next.the-variants.{At}
+use Rattle.signature.specs.Code.{readCodes}
 use Rattle.signature.proofs.Strings.{length-fields, fields-bits}
-use Rattle.signature.proofs.Lists.{got-code, got-bad, read-turn, none-left, read-le}
+use Rattle.signature.proofs.Lists.{read-stopped, read-on, read-done}
 use Rattle.signature.proofs.WordReads.{wide-turn, there, there-is, pair-tests}
 use Rattle.signature.proofs.code.get_wide.Statement.{statement}
 use Rattle.signature.proofs.code.get_wide.Tie as tie
@@ -99,15 +97,9 @@ loop-again c =
 returns : tie.Need-returns Inv-loop μ-loop
 returns c =
     let c11 = c .before .before .before .before .before .before .before .before .before .before .before in
-    let c13 = c11 .before .before in
-    let a = c13 .args in
+    let a = c11 .before .before .args in
     let l = c11 .loop in
-    let F = bitString 8 (a .buf .now) in
-    let f = got-bad (l .k) (readCode (a .w) (drop (l .k) F)) (sym (c .enum-told .given .1) ∙ c .before .before .get-code .ensures) in
-    let p : a .at + (l .k - a .at) ≡ l .k = omega arith in
-    let d : readCode (a .w) (drop (l .k - a .at) (drop (a .at) F)) ≡ none = ap (readCode (a .w))
-    (drop-drop (l .k - a .at) (a .at) F ∙ ap (λ (m : ℕ). drop m F) p) ∙ f in
-    rw (none-left (a .w) (drop (a .at) F) (l .i) (l .k - a .at) (length (a .out .now)) (take (l .i) (l .out)) (l .inv .4) d (omega arith)) refl
+    rw (read-stopped (bitString 8 (a .buf .now)) (a .w) (a .at) (l .k) (l .i) (l .out) (l .inv .2) (l .inv .4) (length (a .out .now)) (omega arith) (sym (c .enum-told .given .1) ∙ c .before .before .get-code .ensures)) refl
 
 loop-less-2 : tie.Need-loop-less-2 Inv-loop μ-loop
 loop-less-2 c = simp length-set (omega arith)
@@ -116,37 +108,20 @@ loop-again-2 : tie.Need-loop-again-2 Inv-loop μ-loop
 loop-again-2 c =
     let c3 = c .before .before .before in
     let c11 = c3 .before .before .before .before .before .before .before .before in
-    let c12 = c11 .before in
-    let c14 = c12 .before .before in
-    let a = c14 .args in
-    let l = c12 .loop in
-    let F = bitString 8 (a .buf .now) in
-    let t = drop (a .at) F in
+    let l = c11 .before .loop in
+    let a = c11 .before .before .before .args in
+    let b = a .buf .now in
     let z = c .before .z .given .0 .0 in
-    let next = c .before .z .given .0 .1 .0 in
-    let f = got-code (l .k) (readCode (a .w) (drop (l .k) F)) z next (sym (c .before .z .given .1) ∙ c3 .get-code .ensures) in
-    let p : a .at + (l .k - a .at) ≡ l .k = omega arith in
-    let d : readCode (a .w) (drop (l .k - a .at) t) ≡ some (z, f .0) = ap (readCode (a .w))
-    (drop-drop (l .k - a .at) (a .at) F ∙ ap (λ (m : ℕ). drop m F) p) ∙ f .1 in
-    let r = read-le (a .w) (drop (l .k) F) z (f .0) (f .1) in
-    let n : length (drop (l .k) F) ≡ length (a .buf .now) * 8 - l .k = length-drop (l .k) F ∙ ap (λ (k : ℕ). k - l .k) (length-fields 8 (a .buf .now)) in
     let s : SFits w64 z = search needs in
-    let h : l .i < length (l .out) = c11 .loop-test .taken in
-    let x : l .k - a .at + f .0 ≡ next - a .at = omega (arith, f .2) in (
-      simp length-set (omega arith),
-      length-set (l .out) (l .i) _ ∙ l .inv .1,
-      omega (arith, f .2),
-      omega (arith, f .2),
-      read-turn (a .w) t (l .i) (l .k - a .at) (f .0) (next - a .at) (l .out) z _ h (toZ-ofZ w64 z s) (l .inv .4) d x,
-    )
+    let r = read-on (bitString 8 b) (a .w) (a .at) (l .k) (l .i) (l .out) (l .inv .2) (l .inv .4) z _ (c .before .z .given .0 .1 .0) (toZ-ofZ w64 z s) (c11 .loop-test .taken)
+    (omega (arith, length-fields 8 b)) (sym (c .before .z .given .1) ∙ c3 .get-code .ensures) in
+    (simp length-set (omega arith), length-set (l .out) (l .i) _ ∙ l .inv .1, r .0, omega (arith, r .1, length-fields 8 b), r .2)
 
 returns-2 : tie.Need-returns-2 Inv-loop μ-loop
 returns-2 c =
     let l = c .before .loop in
     let a = c .before .before .before .args in
-    let e : length (a .out .now) ≡ l .i = omega arith in
-    let p : l .k ≡ a .at + (l .k - a .at) = omega arith in
-    rw (e, l .inv .4) (ap At p, sym (take-all (l .i) (l .out) (omega arith)))
+    read-done (bitString 8 (a .buf .now)) (a .w) (a .at) (l .k) (l .i) (l .out) (l .inv .2) (l .inv .4) (length (a .out .now)) (omega arith) (omega arith)
 
 pub get-wide-spec : {M : Type 1} → statement M
 get-wide-spec =

@@ -25,8 +25,7 @@ add-result c = let s = c .before .before .before in omega (arith, mag-lt (s .arg
 
 returns-2 : tie.Need-returns-2
 returns-2 c =
-    let c3 = c .before .before .before in
-    let s = c3 in
+    let s = c .before .before .before in
     let a = s .args in
     let e = le-leb (a .at + a .w) (length (a .buf .now) * 8) (omega (arith, c .before .if1 .left)) in
     let v = ap (λ (k : ℕ). c .get-bits .result + k) (mag-exact (a .w) (a .n) (few s) (omega (arith, s .pre)))

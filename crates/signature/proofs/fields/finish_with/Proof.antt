@@ -1,4 +1,3 @@
-use Rattle.signature.specs.MaskedSteps.{matrixIn}
 use mathlib.Core.Path.{_≡_, sym, ap, subst, _∙_}
 use mathlib.Core.List.{List}
 use Prim.Native.Nat.{ℕ, _+_, _-_, _*_}
@@ -6,6 +5,7 @@ use native.Mathlib.Omega.{arith}
 use lib.Dec.{lit<}
 use lib.ListN.{length, take, drop}
 use Rattle.ring.specs.Words.{q}
+use Rattle.ring.specs.Rns.{wordsOf}
 use Rattle.ring.specs.Round.{residues}
 use Rattle.sharing.specs.Region.{span}
 use Rattle.sharing.proofs.Regions.{length-span, span-words}
@@ -13,12 +13,12 @@ use Rattle.signature.specs.AnswerSteps.{FinishedAs}
 use Rattle.signature.specs.Form.{Fields}
 use Rattle.signature.specs.Keys.{vkVector}
 use Rattle.signature.specs.Layout.{atT, atX}
+use Rattle.signature.specs.MaskedSteps.{matrixIn}
 use Rattle.signature.specs.Matrix.{matrix}
 use Rattle.signature.specs.Recover.{centredAll, recovered}
 use Rattle.signature.specs.Sign.{finished}
 use Rattle.signature.proofs.Finished.{hint-small, hint-length, response-small, response-length, fields-are}
 use Rattle.signature.proofs.Sizes.{room}
-use Rattle.ring.specs.Rns.{wordsOf}
 use borrow.Author.Needs.{needs}
 use Rattle.signature.proofs.fields.finish_with.Statement.{statement}
 use Rattle.signature.proofs.fields.finish_with.Tie as tie

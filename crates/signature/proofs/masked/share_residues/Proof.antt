@@ -1,5 +1,5 @@
 use mathlib.Core.Path.{_≡_, sym, ap, subst, _∙_}
-use Prim.Native.Nat.{_-_, _*_, _^_, _≤_}
+use Prim.Native.Nat.{_+_, _-_, _*_, _^_, _≤_}
 use native.Mathlib.Omega.{arith}
 use lib.ListN.{length}
 use borrow.Author.Needs.{needs}
@@ -22,21 +22,30 @@ abbrev μ-loop : tie.MeasureT-loop
 loop-holds : tie.Need-loop-holds Inv-loop μ-loop
 loop-holds c = (omega arith, residues-start 0 _ _ (c .before .before .pre .4))
 
+-- the share lies in s
+share-in : (c : tie.In-loop Inv-loop μ-loop) →
+    let a = c .before .before .before .before .args in
+    a .at + (c .before .loop .m * a .d + a .j) * 512 + 512 ≤ length (a .s .now)
+share-in c =
+    let s = c .before .before .before .before in
+    let a = s .args in
+    shared-in (a .at) (a .l) (a .d) (a .j) (c .before .loop .m) (length (a .s .now)) (c .loop-test .taken) (s .pre .2) (s .pre .0)
+
 mul-load : tie.Need-mul-load Inv-loop μ-loop
-mul-load c = omega (arith, shared-in (c .before .before .before .before .args .at) (c .before .before .before .before .args .l) (c .before .before .before .before .args .d) (c .before .before .before .before .args .j) (c .before .loop .m) (length (c .before .before .before .before .args .s .now)) (c .loop-test .taken) (c .before .before .before .before .pre .2) (c .before .before .before .before .pre .0))
+mul-load c = omega (arith, share-in c)
 
 add-load : tie.Need-add-load Inv-loop μ-loop
-add-load c = omega (arith, shared-in (c .before .before .before .before .args .at) (c .before .before .before .before .args .l) (c .before .before .before .before .args .d) (c .before .before .before .before .args .j) (c .before .loop .m) (length (c .before .before .before .before .args .s .now)) (c .loop-test .taken) (c .before .before .before .before .pre .2) (c .before .before .before .before .pre .0))
+add-load c = omega (arith, share-in c)
 
 mul-load-2 : tie.Need-mul-load-2 Inv-loop μ-loop
-mul-load-2 c = omega (arith, shared-in (c .before .before .before .before .args .at) (c .before .before .before .before .args .l) (c .before .before .before .before .args .d) (c .before .before .before .before .args .j) (c .before .loop .m) (length (c .before .before .before .before .args .s .now)) (c .loop-test .taken) (c .before .before .before .before .pre .2) (c .before .before .before .before .pre .0))
+mul-load-2 c = omega (arith, share-in c)
 
 add-load-2 : tie.Need-add-load-2 Inv-loop μ-loop
-add-load-2 c = omega (arith, shared-in (c .before .before .before .before .args .at) (c .before .before .before .before .args .l) (c .before .before .before .before .args .d) (c .before .before .before .before .args .j) (c .before .loop .m) (length (c .before .before .before .before .args .s .now)) (c .loop-test .taken) (c .before .before .before .before .pre .2) (c .before .before .before .before .pre .0))
+add-load-2 c = omega (arith, share-in c)
 
 load-requires : tie.Need-load-requires Inv-loop μ-loop
 load-requires c κs =
-    (shared-in (c .before .before .before .before .args .at) (c .before .before .before .before .args .l) (c .before .before .before .before .args .d) (c .before .before .before .before .args .j) (c .before .loop .m) (length (c .before .before .before .before .args .s .now)) (c .loop-test .taken) (c .before .before .before .before .pre .2) (c .before .before .before .before .pre .0), c .before .before .before .before .pre .1)
+    (share-in c, c .before .before .before .before .pre .1)
 
 part-copy-into-end : tie.Need-part-copy-into-end Inv-loop μ-loop
 part-copy-into-end c = omega (arith, inside (c .before .before .before .loop .m) (c .before .before .before .before .before .before .args .l) 512 (c .before .before .loop-test .taken), c .before .before .before .before .before .before .pre .3, c .before .before .before .loop .inv .1 .long)
