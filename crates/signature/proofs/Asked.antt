@@ -18,7 +18,7 @@ use Rattle.sharing.specs.Masks.{masks, maskStart}
 use Rattle.signature.specs.Matrix.{filled}
 use Rattle.signature.specs.Keys.{packed, expanded, fullShare, expandOf, expandedOf, refreshOf, refreshedOf}
 use Rattle.signature.specs.Checks.{firstNo, both, signingKeySized, expandedKeySized, publicKeyGood, fullShareGood, shareWordsGood, maskSeedSized, keyChecks}
-use Rattle.signature.specs.ExpandedKey.{ExpandedKey}
+use Rattle.signature.specs.ExpandedKey.{ExpandedKey, expandedBytes, vkIn}
 use Rattle.signature.specs.KeyCalls.{keyLeaves, expandCall, refreshCall}
 use Rattle.signature.specs.Outcome.{Outcome, outcome}
 
@@ -33,22 +33,22 @@ refreshBehind p K mask bytes words =
     keyChecks p (expanded K) ++ ((7, maskSeedSized mask) ∷ (8, expandedKeySized p bytes words) ∷ [])
 
 pub record Refreshable (p : Params) (K : ExpandedKey) (bytes words : List ℕ) : Type 0 where
-  pub key-long : length (K .vk) ≡ p .«vk_bytes»
+  pub key-long : length (K .bytes) ≡ expandedBytes p
   pub shares-long : length (K .words) ≡ p .l * (p .shares * 512)
   pub shares-low : Below q (K .words)
-  pub bytes-long : length bytes ≡ p .«vk_bytes»
+  pub bytes-long : length bytes ≡ expandedBytes p
   pub words-long : length words ≡ p .l * (p .shares * 512)
 
 pub refreshable : (p : Params) (K : ExpandedKey) (mask bytes words : List ℕ) → firstNo (refreshBehind p K mask bytes words) ≡ 0
     → Refreshable p K bytes words
 refreshable p K mask bytes words e =
-    let a3 = asked 2 (expandedKeySized p (K .vk) (K .words)) _ e in
-    let a4 = asked 3 (publicKeyGood p (K .vk)) _ (a3 .1) in
+    let a3 = asked 2 (expandedKeySized p (K .bytes) (K .words)) _ e in
+    let a4 = asked 3 (publicKeyGood p (vkIn p (K .bytes))) _ (a3 .1) in
     let a5 = asked 4 (shareWordsGood (K .words)) _ (a4 .1) in
     let a7 = asked 6 (maskSeedSized mask) _ (a5 .1) in
     let a8 = asked 7 (expandedKeySized p bytes words) _ (a7 .1) in
-    let s3 = sizes (length (K .vk)) (p .«vk_bytes») (length (K .words)) (p .l * (p .shares * 512)) (a3 .0) in
-    let s8 = sizes (length bytes) (p .«vk_bytes») (length words) (p .l * (p .shares * 512)) (a8 .0) in
+    let s3 = sizes (length (K .bytes)) (expandedBytes p) (length (K .words)) (p .l * (p .shares * 512)) (a3 .0) in
+    let s8 = sizes (length bytes) (expandedBytes p) (length words) (p .l * (p .shares * 512)) (a8 .0) in
     record { key-long = s3 .0; shares-long = s3 .1; shares-low = all-below q (K .words) (a5 .0); bytes-long = s8 .0; words-long = s8 .1 }
 
 module _ (set d : ℕ) (K : ExpandedKey) (mask bytes words : List ℕ) where
@@ -70,7 +70,7 @@ module _ (set d : ℕ) (K : ExpandedKey) (mask bytes words : List ℕ) where
     refresh-refused zero n h = absurd (h refl)
     refresh-refused (suc k) n h = ap (λ (m : ℕ). keyLeaves m (refreshedOf p K mask) bytes words) n ∙ refresh-is
 
-    pub refresh-done : (k : ℕ) → k ≡ firstNo (refreshBehind p K mask bytes words) → k ≡ 0 → (b w : List ℕ) → b ≡ K .vk
+    pub refresh-done : (k : ℕ) → k ≡ firstNo (refreshBehind p K mask bytes words) → k ≡ 0 → (b w : List ℕ) → b ≡ K .bytes
         → w ≡ refreshed masks (p .shares) (maskStart mask) (p .l) (K .words) → outcome k b w ≡ refreshCall set d K mask bytes words
     unfolding refreshOf
     refresh-done k n z b w eb ew =
@@ -85,16 +85,16 @@ expandBehind p key bytes words = keyChecks p (packed key) ++ ((8, expandedKeySiz
 pub record Expandable (p : Params) (key bytes words : List ℕ) : Type 0 where
   pub key-long : length key ≡ p .«sk_bytes»
   pub share-low : Below q (fullShare p (drop (p .«vk_bytes») key))
-  pub bytes-long : length bytes ≡ p .«vk_bytes»
+  pub bytes-long : length bytes ≡ expandedBytes p
   pub words-long : length words ≡ p .l * (p .shares * 512)
 
 pub expandable : (p : Params) (key bytes words : List ℕ) → firstNo (expandBehind p key bytes words) ≡ 0 → Expandable p key bytes words
 expandable p key bytes words e =
     let a3 = asked 2 (signingKeySized p key) _ e in
-    let a4 = asked 3 (publicKeyGood p key) _ (a3 .1) in
+    let a4 = asked 3 (publicKeyGood p (vkIn p key)) _ (a3 .1) in
     let a5 = asked 4 (fullShareGood p key) _ (a4 .1) in
     let a8 = asked 7 (expandedKeySized p bytes words) _ (a5 .1) in
-    let s8 = sizes (length bytes) (p .«vk_bytes») (length words) (p .l * (p .shares * 512)) (a8 .0) in
+    let s8 = sizes (length bytes) (expandedBytes p) (length words) (p .l * (p .shares * 512)) (a8 .0) in
     record {
       key-long = eqb-true (length key) (p .«sk_bytes») (a3 .0);
       share-low = all-below q (fullShare p (drop (p .«vk_bytes») key)) (a5 .0);

@@ -23,7 +23,7 @@ use Rattle.signature.specs.Challenge.{chalHash}
 use Rattle.signature.specs.Layout.{atT, atX}
 use Rattle.signature.specs.Masked.{Noise}
 use Rattle.signature.specs.Matrix.{filled}
-use Rattle.signature.specs.Recover.{muOf}
+use Rattle.signature.specs.Digest.{muFrom}
 use Rattle.signature.specs.Outcome.{Outcome, answer}
 use Rattle.signature.specs.Sign.{publicBy, Public, Attempted, made, over, stuck, Coins, signedFields, finished, attempted, signFrom}
 use Rattle.signature.specs.SignSteps.{signMade, Spent, EndedAs, EndedAt, answerIn}
@@ -116,14 +116,14 @@ told-as {x} {y} {a} {b} ys e f h = ap (λ (n : ℕ). answer n a ys) e ∙ ap (λ
 
 -- ---- check 10 of the matrix m, and the attempts with it
 
-module _ (p : Params) (vk msg : List ℕ) (T : Coins) (n : ℕ) (s out : List ℕ) (m : Option (List ℕ)) where
-  pub matrix-none : filled m ≡ false → answer 10 0 out ≡ answerIn (signMade p vk msg T n m (some s)) out
-  matrix-none e = ap (λ (o : Option (List ℕ)). answerIn (signMade p vk msg T n o (some s)) out) (sym (not-filled m e))
+module _ (p : Params) (vk digest msg : List ℕ) (T : Coins) (n : ℕ) (s out : List ℕ) (m : Option (List ℕ)) where
+  pub matrix-none : filled m ≡ false → answer 10 0 out ≡ answerIn (signMade p vk digest msg T n m (some s)) out
+  matrix-none e = ap (λ (o : Option (List ℕ)). answerIn (signMade p vk digest msg T n o (some s)) out) (sym (not-filled m e))
 
-  pub matrix-made : (B mu : List ℕ) (X : Outcome) → filled m ≡ true → ((A : List ℕ) → m ≡ some A → B ≡ A) → mu ≡ muOf p vk msg
-      → X ≡ answerIn (signFrom p (publicBy p vk mu B) T n 0 s) out → X ≡ answerIn (signMade p vk msg T n m (some s)) out
+  pub matrix-made : (B mu : List ℕ) (X : Outcome) → filled m ≡ true → ((A : List ℕ) → m ≡ some A → B ≡ A) → mu ≡ muFrom p digest msg
+      → X ≡ answerIn (signFrom p (publicBy p vk mu B) T n 0 s) out → X ≡ answerIn (signMade p vk digest msg T n m (some s)) out
   matrix-made B mu X f is e h =
       let t = filled-some m f in
       h ∙ ap (λ (A : List ℕ). answerIn (signFrom p (publicBy p vk mu A) T n 0 s) out) (is (heldOf m .poly) t)
       ∙ ap (λ (y : List ℕ). answerIn (signFrom p (publicBy p vk y (heldOf m .poly)) T n 0 s) out) e
-      ∙ ap (λ (o : Option (List ℕ)). answerIn (signMade p vk msg T n o (some s)) out) (sym t)
+      ∙ ap (λ (o : Option (List ℕ)). answerIn (signMade p vk digest msg T n o (some s)) out) (sym t)

@@ -25,7 +25,7 @@ use Rattle.signature.specs.Bits.{repack}
 use Rattle.signature.proofs.Entries.{All, all-some}
 use Rattle.signature.proofs.Packing.{length-repack}
 use Rattle.signature.proofs.Sizes.{part-all}
-use Rattle.signature.specs.Keys.{seedBytes, fullShare, seededShare, shareAt, decompressed, expandOf, expandedOf}
+use Rattle.signature.specs.Keys.{seedBytes, fullShare, seededShare, shareAt, decompressed, packed, withDigest, expandOf, expandedOf}
 use Rattle.signature.specs.ExpandSteps.{partBytes, expandedAt, expandedShares}
 use Rattle.signature.specs.KeyCalls.{keyLeaves}
 use Rattle.signature.specs.Outcome.{outcome, firstNo, heldOr}
@@ -146,14 +146,12 @@ module _ (p : Params) (key bytes words : List ℕ) (r : Bool)
   pub key-unfilled : r ≡ false → outcome 10 bytes words ≡ keyLeaves (firstNo ((10, filled (expandOf p key)) ∷ [])) (expandedOf p key) bytes words
   key-unfilled z = ap (λ (b : Bool). keyLeaves (firstNo ((10, b) ∷ [])) (expandedOf p key) bytes words) (sym z ∙ fills)
 
-  pub key-expanded : r ≡ true → (b w : List ℕ) → b ≡ take (p .«vk_bytes» - 0) key
+  pub key-expanded : r ≡ true → (b w : List ℕ) → b ≡ withDigest p (packed key)
       → w ≡ expandedShares p (take (length key - p .«vk_bytes») (drop (p .«vk_bytes») key))
       → outcome 0 b w ≡ keyLeaves (firstNo ((10, filled (expandOf p key)) ∷ [])) (expandedOf p key) bytes words
   unfolding expandOf
   key-expanded z b w eb ew =
-      let k : p .«vk_bytes» - 0 ≡ p .«vk_bytes» = omega arith in
-      let fb : b ≡ take (p .«vk_bytes») key = eb ∙ ap (λ (m : ℕ). take m key) k in
       let there : expandOf p key ≡ some (expandedShares p (drop (p .«vk_bytes») key)) = expanded-all p (drop (p .«vk_bytes») key) (sym fills ∙ z) in
       let fw : w ≡ heldOr (expandOf p key) [] =
       ew ∙ ap (expandedShares p) (part-all (p .«vk_bytes») key) ∙ ap (λ (o : Option (List ℕ)). heldOr o []) (sym there) in
-      (λ i. outcome 0 (fb i) (fw i)) ∙ ap (λ (t : Bool). keyLeaves (firstNo ((10, t) ∷ [])) (expandedOf p key) bytes words) (sym z ∙ fills)
+      (λ i. outcome 0 (eb i) (fw i)) ∙ ap (λ (t : Bool). keyLeaves (firstNo ((10, t) ∷ [])) (expandedOf p key) bytes words) (sym z ∙ fills)

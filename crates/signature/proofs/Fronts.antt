@@ -16,7 +16,7 @@ use Rattle.sharing.specs.Region.{span}
 use Rattle.sharing.proofs.Regions.{length-span}
 use Rattle.signature.specs.Bits.{repack}
 use Rattle.signature.specs.Keys.{vkVector}
-use Rattle.signature.specs.Recover.{keyHash, boundTo}
+use Rattle.signature.specs.Digest.{keyHash, boundTo}
 use Rattle.signature.proofs.Packing.{length-repack}
 
 -- a part of an array that was just made
@@ -97,9 +97,9 @@ module _ (n : ℕ) (xs ys m : List ℕ) (h : n ≤ length xs) (e : ys ≡ shake2
   digest-is = front-is n xs ys h digest-long ∙ digest
 
 -- .. by mu
-module _ (n : ℕ) (xs ys vk msg : List ℕ) (h : n ≤ length xs) (e : ys ≡ boundTo (length (midOf 0 (n - 0) xs)) vk msg) where
-  bound : ys ≡ boundTo n vk msg
-  bound = let z : n - 0 ≡ n = omega arith in e ∙ ap (λ (k : ℕ). boundTo k vk msg) (mid-len 0 n xs h ∙ z)
+module _ (n : ℕ) (xs ys vk msg : List ℕ) (h : n ≤ length xs) (e : ys ≡ boundTo (length (midOf 0 (n - 0) xs)) (keyHash (length (midOf 0 (n - 0) xs)) vk) msg) where
+  bound : ys ≡ boundTo n (keyHash n vk) msg
+  bound = let z : n - 0 ≡ n = omega arith in e ∙ ap (λ (k : ℕ). boundTo k (keyHash k vk) msg) (mid-len 0 n xs h ∙ z)
 
   bound-long : length ys ≡ n
   unfolding boundTo
@@ -108,7 +108,7 @@ module _ (n : ℕ) (xs ys vk msg : List ℕ) (h : n ≤ length xs) (e : ys ≡ b
   pub bound-in : n ≤ length (putMid 0 (n - 0) xs ys)
   bound-in = front-in n xs ys h bound-long
 
-  pub bound-is : take (n - 0) (putMid 0 (n - 0) xs ys) ≡ boundTo n vk msg
+  pub bound-is : take (n - 0) (putMid 0 (n - 0) xs ys) ≡ boundTo n (keyHash n vk) msg
   bound-is = front-is n xs ys h bound-long ∙ bound
 
 -- the front of the array that holds z, transformed, as it was written: ys

@@ -5,7 +5,7 @@ use mathlib.Core.List.{List, _++_}
 use mathlib.Core.Option.{Option, some}
 use native.Mathlib.Decide.{decLt}
 use native.Mathlib.Omega.{arith}
-use lib.ListN.{length, take}
+use lib.ListN.{length}
 use Rattle.hash.specs.declared.params.Params.{Params}
 use Rattle.hash.proofs.Rows.{Rule}
 use Rattle.ring.specs.Words.{addW, subW, Words}
@@ -24,7 +24,7 @@ use Rattle.signature.specs.Bits.{repack}
 use Rattle.signature.specs.Matrix.{buildAll}
 use Rattle.signature.specs.Compress.{shareHeader, seededShareOf, compressedOf}
 use Rattle.signature.specs.ExpandedKey.{secretAt, Holds}
-use Rattle.signature.specs.Keys.{seedBytes, fullShare, seededShare, shareAt, decompressed, compressed, keygenBytes, noisePart, sharePart, keyShares, keygenOf, expandOf, generatedOf}
+use Rattle.signature.specs.Keys.{seedBytes, fullShare, seededShare, shareAt, decompressed, compressed, keygenBytes, noisePart, sharePart, keyShares, keygenOf, expandOf, packed, withDigest, generatedOf}
 use Rattle.signature.specs.KeygenSteps.{collected}
 use Rattle.signature.proofs.Entries.{All, all-some}
 use Rattle.signature.proofs.Secrets.{holds-as}
@@ -189,11 +189,11 @@ module _ (p : Params) (Z X s x : List ℕ) (h : 1 ≤ p .shares) (w : Words (p .
       ∙ build-ext (p .l) (λ (j : ℕ). total (p .shares) (build (p .shares) (sharing j))) (λ (j : ℕ). total (p .shares) (given j)) total-same
       ∙ sym (totals-are (p .l) (p .shares) s)
 
--- of a key that key generation made: it gives shares, and with them the public key and the secret that the key was made of
+-- of a key that key generation made: it gives shares, and with them the bytes and the secret that the key was made of
 pub record Expansion (p : Params) (seeds mask key : List ℕ) : Type 0 where
   pub shares-of : List ℕ
   pub is : expandOf p key ≡ some shares-of
-  pub holds : Holds p (take (p .«vk_bytes») key) (secretAt (p .shares) (generatedOf p seeds mask key)) (record { vk = take (p .«vk_bytes») key; words = shares-of })
+  pub holds : Holds p (withDigest p (packed key)) (secretAt (p .shares) (generatedOf p seeds mask key)) (record { bytes = withDigest p (packed key); words = shares-of })
 
 pub expansion : (p : Params) (seeds mask key : List ℕ) → Rule p → 1 ≤ p .shares → length seeds ≡ keygenBytes p
     → keygenOf p seeds mask ≡ some key → Expansion p seeds mask key
@@ -211,6 +211,6 @@ expansion p seeds mask key r h l e =
       shares-of = expanded p Z X s (m .x) h w z (m .share-is) f;
       is = ap (decompressed p) (k .part) ∙ expand-there p Z X s (m .x) h w z (m .share-is) f;
       holds =
-          holds-as p (generatedOf p seeds mask key) (record { vk = take (p .«vk_bytes») key; words = expanded p Z X s (m .x) h w z (m .share-is) f }) w
+          holds-as p (generatedOf p seeds mask key) (record { bytes = withDigest p (packed key); words = expanded p Z X s (m .x) h w z (m .share-is) f }) w
           (expansion-words p Z X s (m .x) h w z (m .share-is) f) refl (secrets-same p Z X s (m .x) h w z (m .share-is) f);
     }

@@ -16,6 +16,7 @@ pub mod Collected
 pub mod Commits
 pub mod Counts
 pub mod Decision
+pub mod Digests
 pub mod Entries
 pub mod Filled
 pub mod Finished

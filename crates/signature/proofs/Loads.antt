@@ -17,6 +17,7 @@ use Rattle.sharing.specs.Blocks.{block, build}
 use Rattle.sharing.specs.Region.{put, Wrote}
 use Rattle.sharing.proofs.Lists.{block-words, words-build}
 use Rattle.sharing.proofs.Regions.{put-back, wrote-put}
+use Rattle.signature.specs.ExpandedKey.{expandedBytes}
 use Rattle.signature.specs.AttemptSteps.{keyFrom}
 use Rattle.signature.specs.Checks.{keySized, sharesGood}
 use Rattle.signature.specs.Keys.{fullShare, seededShare, shareAt, decompressed, expandOf, sharesOf}
@@ -65,8 +66,12 @@ module _ (p : Params) (key words : List ℕ) where
   packed-low false e h = absurd-bool (sym e)
 
   pub expanded-long : (x : Bool) → x ≡ false → keySized p (keyFrom x key words) ≡ true → length words ≡ p .l * (p .shares * 512)
-  expanded-long false e h = sizes (length key) (p .«vk_bytes») (length words) (p .l * (p .shares * 512)) h .1
+  expanded-long false e h = sizes (length key) (expandedBytes p) (length words) (p .l * (p .shares * 512)) h .1
   expanded-long true e h = absurd-bool e
+
+  pub key-bytes-long : (x : Bool) → x ≡ false → keySized p (keyFrom x key words) ≡ true → length key ≡ expandedBytes p
+  key-bytes-long false e h = sizes (length key) (expandedBytes p) (length words) (p .l * (p .shares * 512)) h .0
+  key-bytes-long true e h = absurd-bool e
 
   pub expanded-low : (x : Bool) → x ≡ false → sharesGood p (keyFrom x key words) ≡ true → Below q words
   expanded-low false e h = all-below q words h

@@ -44,7 +44,7 @@ module _ (d e n : ℕ) (K J : ExpandedKey) (w : Words (n * (d * 512)) (K .words)
   totals-secrets h i x l lx =
       sym (secret-at d n K w i x l lx) ∙ ap (λ (xs : List ℕ). getD (block 512 i xs) x 0) h ∙ secret-at e n J v i x l lx
 
--- a key J of the public key of K, whose shares have the same sums
-pub holds-as : (p : Params) (K J : ExpandedKey) → Words (p .l * (p .shares * 512)) (K .words) → Words (p .l * (p .shares * 512)) (J .words) → J .vk ≡ K .vk
-    → totals (p .l) (p .shares) (J .words) ≡ totals (p .l) (p .shares) (K .words) → Holds p (K .vk) (secretAt (p .shares) K) J
-holds-as p K J w v e t = record { public = e; share-words = v; secrets = totals-secrets (p .shares) (p .shares) (p .l) J K v w t }
+-- a key J with the bytes of K, whose shares have the same sums
+pub holds-as : (p : Params) (K J : ExpandedKey) → Words (p .l * (p .shares * 512)) (K .words) → Words (p .l * (p .shares * 512)) (J .words) → J .bytes ≡ K .bytes
+    → totals (p .l) (p .shares) (J .words) ≡ totals (p .l) (p .shares) (K .words) → Holds p (K .bytes) (secretAt (p .shares) K) J
+holds-as p K J w v e t = record { bytes-are = e; share-words = v; secrets = totals-secrets (p .shares) (p .shares) (p .l) J K v w t }

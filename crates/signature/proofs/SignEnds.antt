@@ -1,76 +1,43 @@
--- The ends of a signing call: the public key of either form of key, what is left behind the checks, and the call.
-use mathlib.Core.Path.{_≡_, refl, sym, ap, subst, _∙_}
+-- The ends of a signing call: the bytes of either form of key, what is left behind the checks, and the call.
+use mathlib.Core.Path.{_≡_, refl, sym, ap, _∙_}
 use mathlib.Core.Bool.{Bool, true, false}
 use mathlib.Core.List.{List, [], _∷_, _++_}
 use mathlib.Core.Option.{Option, some, none}
-use Prim.Native.Nat.{ℕ, zero, suc, _+_, _-_, _*_, _/_, _≤_, _<_}
-use native.Mathlib.Nat.{le-refl}
+use Prim.Native.Nat.{ℕ, zero, suc, _-_, _/_, _≤_, _<_}
 use native.Mathlib.Omega.{arith}
 use borrow.Author.Tests.{le-leb, lt-leb}
 use lib.Dec.{leb}
-use lib.ListN.{length, take, drop}
-use lib.Seq.{length-take-le, take-all, take-take, take-add, drop-at}
+use lib.ListN.{length, take}
+use lib.Seq.{length-take-le}
 use Rattle.hash.specs.Lists.{zeros, pick}
 use Rattle.hash.specs.Params.{lookupOf}
 use Rattle.hash.specs.declared.params.Edition.{Edition}
 use Rattle.hash.specs.declared.params.Params.{Params}
 use Rattle.hash.specs.declared.params.Selected.{Selected}
-use Rattle.ring.specs.Words.{Below}
-use Rattle.ring.proofs.Sums.{all-below}
 use Rattle.signature.specs.AttemptSteps.{keyFrom}
-use Rattle.signature.specs.Bits.{repack}
-use Rattle.signature.specs.Checks.{both, keySized, keyGood, keyChecks}
-use Rattle.signature.specs.Keys.{seedBytes, vkSeed, vkVector, publicOf, sharesOf}
+use Rattle.signature.specs.Checks.{both, keySized, keyChecks}
+use Rattle.signature.specs.Keys.{vkSeed, publicOf, digestOf, sharesOf}
 use Rattle.signature.specs.Matrix.{matrix, filled}
 use Rattle.signature.specs.Sign.{Public, Attempted, made, over, stuck, Coins, ended, refreshedKey, attempted, noiseAt, maskAt, signFrom}
 use Rattle.signature.specs.Outcome.{Outcome, signing, answer, refusedOr, wiped, firstNo, heldOr}
 use Rattle.signature.specs.SignCalls.{Key, callChecks, publicFor, attemptsOf, signBy, leftBy, signCall, signOf}
 use Rattle.signature.specs.SignSteps.{signNo, signMade, answerIn}
 use Rattle.signature.specs.Table.{Tabled}
-use Rattle.signature.proofs.Asked.{sizes}
+use Rattle.signature.proofs.Digests.{public-is}
 use Rattle.ring.proofs.Checks.{both-yes, right-no, no-before, yes-before}
 use Rattle.ring.proofs.Filled.{not-filled}
-use Rattle.signature.proofs.Loads.{packed-long}
+use Rattle.signature.proofs.Loads.{packed-long, key-bytes-long}
 use Rattle.signature.proofs.Expanded.{vk-in}
 
--- ---- the public key is the front of either form
-
--- b words behind a, of the first a + b
-part-front : (a b : ℕ) (xs : List ℕ) → a ≤ length xs → take b (drop a (take (a + b) xs)) ≡ take b (drop a xs)
-part-front a b xs h =
-    ap (λ (l : List ℕ). take b (drop a l)) (take-add a b xs)
-    ∙ ap (take b) (drop-at (take a xs) (take b (drop a xs)) a (length-take-le a xs h))
-    ∙ take-take b b (drop a xs) (le-refl b)
+-- ---- what a key of either form that passed check 3 holds
 
 module _ (p : Params) (h : Tabled p) (key words : List ℕ) where
-  pub public-front : (x : Bool) → keySized p (keyFrom x key words) ≡ true → take (p .«vk_bytes» - 0) key ≡ publicOf p (keyFrom x key words)
-  public-front x s = (let e : p .«vk_bytes» - 0 ≡ p .«vk_bytes» = omega arith in ap (λ (n : ℕ). take n key) e) ∙ go x s
-    where
-      go : (x : Bool) → keySized p (keyFrom x key words) ≡ true → take (p .«vk_bytes») key ≡ publicOf p (keyFrom x key words)
-      go true s = refl
-      go false s =
-          let n = sizes (length key) (p .«vk_bytes») (length words) (p .l * (p .shares * 512)) s .0 in
-          take-all (p .«vk_bytes») key (omega (arith, n))
-
   pub public-in : (x : Bool) → keySized p (keyFrom x key words) ≡ true → p .«vk_bytes» ≤ length key
   public-in true s = vk-in p h key (packed-long p key words true refl s)
-  public-in false s = let n = sizes (length key) (p .«vk_bytes») (length words) (p .l * (p .shares * 512)) s .0 in omega (arith, n)
+  public-in false s = omega (arith, key-bytes-long p key words false refl s)
 
   pub public-long : (x : Bool) → keySized p (keyFrom x key words) ≡ true → length (publicOf p (keyFrom x key words)) ≡ p .«vk_bytes»
-  public-long true s = length-take-le (p .«vk_bytes») key (public-in true s)
-  public-long false s = sizes (length key) (p .«vk_bytes») (length words) (p .l * (p .shares * 512)) s .0
-
-  front-vector : p .«vk_bytes» ≤ length key → vkVector p (take (p .«vk_bytes») key) ≡ vkVector p key
-  unfolding vkVector
-  front-vector n =
-      let m : seedBytes p ≤ length key = omega (arith, n, h .vk) in
-      ap (λ (k : ℕ). repack 8 7 (p .k * 512) (take (p .k * 448) (drop (seedBytes p) (take k key)))) (h .vk)
-      ∙ ap (repack 8 7 (p .k * 512)) (part-front (seedBytes p) (p .k * 448) key m)
-
-  pub public-good : (x : Bool) → keySized p (keyFrom x key words) ≡ true → keyGood p (keyFrom x key words) ≡ true
-      → Below 125 (vkVector p (publicOf p (keyFrom x key words)))
-  public-good true s g = subst (Below 125) (sym (front-vector (public-in true s))) (all-below 125 (vkVector p key) g)
-  public-good false s g = all-below 125 (vkVector p key) g
+  public-long x s = ap (λ (l : List ℕ). length l) (public-is p key words x) ∙ length-take-le (p .«vk_bytes») key (public-in x s)
 
 -- the matrix seed is the front of the public key
 pub seed-front : (p : Params) (vk : List ℕ) → take (p .kappa / 8 - 0) vk ≡ vkSeed p vk
@@ -95,13 +62,13 @@ from-late p P T (suc n) a s =
     ended-late a (attempted p P (noiseAt p T a) (maskAt T a) s) (signFrom p P T n (suc a) (refreshedKey p (noiseAt p T a) (maskAt T a) (P .matrix) s .shares))
     (from-late p P T n (suc a) (refreshedKey p (noiseAt p T a) (maskAt T a) (P .matrix) s .shares))
 
-module _ (p : Params) (vk msg : List ℕ) (T : Coins) (n : ℕ) where
-  made-late : (m s : Option (List ℕ)) → early (signMade p vk msg T n m s) ≡ false
+module _ (p : Params) (vk digest msg : List ℕ) (T : Coins) (n : ℕ) where
+  made-late : (m s : Option (List ℕ)) → early (signMade p vk digest msg T n m s) ≡ false
   made-late none s = refl
   made-late (some A) none = refl
-  made-late (some A) (some s) = from-late p (publicFor p vk msg A) T n 0 s
+  made-late (some A) (some s) = from-late p (publicFor p vk digest msg A) T n 0 s
 
-  no-shares : (m : Option (List ℕ)) → signMade p vk msg T n m none ≡ answer 10 0 []
+  no-shares : (m : Option (List ℕ)) → signMade p vk digest msg T n m none ≡ answer 10 0 []
   no-shares none = refl
   no-shares (some A) = refl
 
@@ -111,11 +78,16 @@ module _ (p : Params) (key : Key) (msg : List ℕ) (T : Coins) (n : ℕ) (out wo
   abbrev front : List ℕ
   front = publicOf p key
 
+  -- what is signed with it, with the matrix and the shares that are there
+  abbrev ends : Outcome
+  ends = signMade p front (digestOf p key) msg T n (matrix p (vkSeed p front)) (sharesOf p key)
+
   -- check 10, the share seeds: x and a are what `reported` gives
   pub end-unfilled : filled (sharesOf p key) ≡ false → (x a : ℕ) → x ≡ 10 → a ≡ 0
-      → signing x a out (zeros (length w)) ≡ leftBy (signMade p front msg T n (matrix p (vkSeed p front)) (sharesOf p key)) out work
+      → signing x a out (zeros (length w)) ≡ leftBy ends out work
   end-unfilled f x a ex ea =
-      let e = ap (signMade p front msg T n (matrix p (vkSeed p front))) (not-filled (sharesOf p key) f) ∙ no-shares p front msg T n (matrix p (vkSeed p front)) in
+      let M = matrix p (vkSeed p front) in
+      let e = ap (signMade p front (digestOf p key) msg T n M) (not-filled (sharesOf p key) f) ∙ no-shares p front (digestOf p key) msg T n M in
       ap (λ (k : ℕ). signing k a out (zeros (length w))) ex ∙ ap (λ (k : ℕ). signing 10 k out (zeros (length w))) ea
       ∙ ap (λ (k : ℕ). signing 10 0 out (zeros k)) long ∙ ap (λ (A : Outcome). leftBy A out work) (sym e)
 
@@ -127,25 +99,27 @@ module _ (p : Params) (key : Key) (msg : List ℕ) (T : Coins) (n : ℕ) (out wo
       ap (λ (B : Outcome). signing (B .status) (B .reported) (B .bytes) (zeros (length w))) h
       ∙ ap (signing (answerIn A out .status) (answerIn A out .reported) (answerIn A out .bytes)) (cleared-late A e)
 
-  -- the shares X were loaded, and the attempts made with the public key vk
-  pub end-made : (vk X : List ℕ) → vk ≡ front → sharesOf p key ≡ some X → (st at : ℕ) (ys : List ℕ)
-      → answer st at ys ≡ answerIn (signMade p vk msg T n (matrix p (vkSeed p vk)) (some X)) out
-      → signing st at ys (zeros (length w)) ≡ leftBy (signMade p front msg T n (matrix p (vkSeed p front)) (sharesOf p key)) out work
-  end-made vk X ev es st at ys h =
-      let e = ap (λ (v : List ℕ). signMade p v msg T n (matrix p (vkSeed p v)) (some X)) ev ∙ ap (signMade p front msg T n (matrix p (vkSeed p front))) (sym es) in
-      kept-left (signMade p front msg T n (matrix p (vkSeed p front)) (sharesOf p key)) (made-late p front msg T n (matrix p (vkSeed p front)) (sharesOf p key)) st at ys
+  -- the shares X were loaded, and the attempts made with the public key vk and the digest dg
+  pub end-made : (vk dg X : List ℕ) → vk ≡ front → dg ≡ digestOf p key → sharesOf p key ≡ some X → (st at : ℕ) (ys : List ℕ)
+      → answer st at ys ≡ answerIn (signMade p vk dg msg T n (matrix p (vkSeed p vk)) (some X)) out → signing st at ys (zeros (length w)) ≡ leftBy ends out work
+  end-made vk dg X ev ed es st at ys h =
+      let e : signMade p vk dg msg T n (matrix p (vkSeed p vk)) (some X) ≡ ends =
+      ap (λ (v : List ℕ). signMade p v dg msg T n (matrix p (vkSeed p v)) (some X)) ev
+      ∙ ap (λ (x : List ℕ). signMade p front x msg T n (matrix p (vkSeed p front)) (some X)) ed
+      ∙ ap (signMade p front (digestOf p key) msg T n (matrix p (vkSeed p front))) (sym es) in
+      kept-left ends (made-late p front (digestOf p key) msg T n (matrix p (vkSeed p front)) (sharesOf p key)) st at ys
       (h ∙ ap (λ (A : Outcome). answerIn A out) e)
 
 -- ---- the call
 
 -- check 10 and the attempts are the call's end behind its other checks
-pub made-is : (p : Params) (vk msg : List ℕ) (T : Coins) (n : ℕ) (m s : Option (List ℕ))
-    → signMade p vk msg T n m s
-    ≡ refusedOr (firstNo ((10, both (filled m) (filled s)) ∷ [])) (signFrom p (publicFor p vk msg (heldOr m [])) T n 0 (heldOr s []))
+pub made-is : (p : Params) (vk digest msg : List ℕ) (T : Coins) (n : ℕ) (m s : Option (List ℕ))
+    → signMade p vk digest msg T n m s
+    ≡ refusedOr (firstNo ((10, both (filled m) (filled s)) ∷ [])) (signFrom p (publicFor p vk digest msg (heldOr m [])) T n 0 (heldOr s []))
 unfolding filled
-made-is p vk msg T n none s = refl
-made-is p vk msg T n (some A) none = refl
-made-is p vk msg T n (some A) (some s) = refl
+made-is p vk digest msg T n none s = refl
+made-is p vk digest msg T n (some A) none = refl
+made-is p vk digest msg T n (some A) (some s) = refl
 
 module _ (p : Params) (key : Key) (n : ℕ) (msg : List ℕ) (T : Coins) (out work : List ℕ) (k : ℕ) (f : k ≡ signNo p key n msg T out work) where
   abbrev found : Outcome
@@ -154,11 +128,11 @@ module _ (p : Params) (key : Key) (n : ℕ) (msg : List ℕ) (T : Coins) (out wo
   abbrev last : List (ℕ × Bool)
   last = (10, both (filled (matrix p (vkSeed p (publicOf p key)))) (filled (sharesOf p key))) ∷ []
 
-  pub found-on : k ≡ 0 → leftBy (signMade p (publicOf p key) msg T n (matrix p (vkSeed p (publicOf p key))) (sharesOf p key)) out work ≡ found
+  pub found-on : k ≡ 0 → leftBy (signMade p (publicOf p key) (digestOf p key) msg T n (matrix p (vkSeed p (publicOf p key))) (sharesOf p key)) out work ≡ found
   unfolding signNo
   found-on z =
       ap (λ (A : Outcome). leftBy A out work)
-      (made-is p (publicOf p key) msg T n (matrix p (vkSeed p (publicOf p key))) (sharesOf p key)
+      (made-is p (publicOf p key) (digestOf p key) msg T n (matrix p (vkSeed p (publicOf p key))) (sharesOf p key)
       ∙ ap (λ (m : ℕ). refusedOr m (attemptsOf p key n msg T))
       (sym (yes-before (keyChecks p key ++ callChecks p n msg T out work) last refl (sym f ∙ z))))
 

@@ -17,7 +17,7 @@ use Rattle.signature.specs.Form.{Fields}
 use Rattle.signature.specs.Keys.{vkSeed, vkVector}
 use Rattle.signature.specs.Matrix.{matrix, filled}
 use Rattle.signature.specs.Outcome.{firstNo, heldOr}
-use Rattle.signature.specs.Recover.{muOf}
+use Rattle.signature.specs.Digest.{muOf}
 use Rattle.signature.proofs.ChalResult.{challenge-there, challenge-missing}
 use Rattle.signature.specs.Verify.{recomputed, hashChecks}
 

@@ -29,7 +29,7 @@ use Rattle.signature.specs.Form.{Fields}
 use Rattle.signature.specs.Sign.{Public, signedFields, Coins, noiseSize, maskedResponse, refreshedKey, refreshedResponse}
 use Rattle.signature.specs.SignCalls.{Key, packed, expanded}
 
--- the key that a call is lent: a signing key's bytes, or the public key's bytes and the words of all shares
+-- the key that a call is lent: a signing key's bytes, or the bytes and the words of an expanded key
 abbrev pub keyFrom : Bool → List ℕ → List ℕ → Key
 keyFrom true bytes words = packed bytes
 keyFrom false bytes words = expanded (expandedIn bytes words)

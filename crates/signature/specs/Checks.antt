@@ -9,8 +9,9 @@ use Rattle.hash.specs.declared.params.Params.{Params}
 pub use Rattle.ring.specs.Checks.{firstNo, both}
 use Rattle.ring.specs.Words.{q, allBelow}
 use Rattle.sharing.specs.Noise.{noiseBytes}
+use Rattle.signature.specs.ExpandedKey.{expandedBytes}
 use Rattle.signature.specs.Form.{Fields, write, read}
-use Rattle.signature.specs.Keys.{Key, packed, expanded, vkVector, fullShare, keygenBytes}
+use Rattle.signature.specs.Keys.{Key, packed, expanded, publicOf, vkVector, fullShare, keygenBytes}
 
 -- 1. Is the set 128, 192 or 256?   2. Is d one of the six?
 -- The look-up in the parameter table puts these two (lookupOf); its answer says yes or no to each (setKnown, sharesKnown).
@@ -22,8 +23,11 @@ signingKeySized p key = eqb (length key) (p .«sk_bytes»)
 abbrev pub publicKeySized : Params → List ℕ → Bool
 publicKeySized p vk = eqb (length vk) (p .«vk_bytes»)
 
+abbrev pub expandedBytesSized : Params → List ℕ → Bool
+expandedBytesSized p bytes = eqb (length bytes) (expandedBytes p)
+
 abbrev pub expandedKeySized : Params → List ℕ → List ℕ → Bool
-expandedKeySized p bytes words = both (publicKeySized p bytes) (eqb (length words) (p .l * (p .shares * 512)))
+expandedKeySized p bytes words = both (expandedBytesSized p bytes) (eqb (length words) (p .l * (p .shares * 512)))
 
 -- 4. Are all public key coefficients below 125?
 abbrev pub publicKeyGood : Params → List ℕ → Bool
@@ -39,11 +43,10 @@ shareWordsGood words = allBelow q words
 -- 3 to 5, of a key of either form
 abbrev pub keySized : Params → Key → Bool
 keySized p (packed key) = signingKeySized p key
-keySized p (expanded K) = expandedKeySized p (K .vk) (K .words)
+keySized p (expanded K) = expandedKeySized p (K .bytes) (K .words)
 
 abbrev pub keyGood : Params → Key → Bool
-keyGood p (packed key) = publicKeyGood p key
-keyGood p (expanded K) = publicKeyGood p (K .vk)
+keyGood p key = publicKeyGood p (publicOf p key)
 
 abbrev pub sharesGood : Params → Key → Bool
 sharesGood p (packed key) = fullShareGood p key

@@ -38,7 +38,7 @@ keygenCall e set d seeds mask out work =
 
 -- with status n; K is the key
 abbrev pub keyLeaves : ℕ → ExpandedKey → List ℕ → List ℕ → Outcome
-keyLeaves n K bytes words = outcome n (written n (K .vk) bytes) (written n (K .words) words)
+keyLeaves n K bytes words = outcome n (written n (K .bytes) bytes) (written n (K .words) words)
 
 abbrev pub expandChecks : Selected → Params → List ℕ → List ℕ → List ℕ → List (ℕ × Bool)
 expandChecks s p key bytes words =

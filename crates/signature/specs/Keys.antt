@@ -1,4 +1,5 @@
 -- Keys: byte forms (000, 2.5.2 and 2.5.3), MaskCompress and MaskDecompress (Algorithms 14 and 15), KeyGen (Algorithm 1).
+use mathlib.Core.Path.{_≡_}
 use mathlib.Core.List.{List, [], _++_}
 use mathlib.Core.Option.{Option, some, none}
 use Prim.Native.Nat.{ℕ, zero, suc, _+_, _-_, _*_, _/_}
@@ -13,7 +14,8 @@ use Rattle.sharing.specs.Masks.{masks, maskStart}
 use Rattle.sharing.specs.Noise.{noiseBytes}
 use Rattle.sharing.specs.declared.masks.MaskGen.{MaskGen}
 use Rattle.signature.specs.Bits.{repack}
-use Rattle.signature.specs.ExpandedKey.{ExpandedKey}
+use Rattle.signature.specs.Digest.{digestFor}
+use Rattle.signature.specs.ExpandedKey.{ExpandedKey, vkIn, digestIn}
 use Rattle.signature.specs.Compress.{seededShareOf, compressedOf}
 use Rattle.signature.specs.Matrix.{buildAll, matrix}
 use Rattle.signature.specs.Masked.{seeded, maskedNoise, maskedImage}
@@ -83,25 +85,6 @@ unfoldable pub keygenOf : Params → List ℕ → List ℕ → Option (List ℕ)
 keygenOf p seeds mask =
     madeKey p seeds (maskStart mask) (matrix p (vkSeed p seeds)) (compressed p (sharePart p seeds) (keyShares p (noisePart p seeds) (maskStart mask)))
 
--- ---- expanding and refreshing (01: opening, refreshing)
-
-unfoldable pub expandOf : Params → List ℕ → Option (List ℕ)
-expandOf p key = decompressed p (drop (p .«vk_bytes») key)
-
--- the key that this gives, if all shares fill
-abbrev pub expandedOf : Params → List ℕ → ExpandedKey
-expandedOf p key = record { vk = take (p .«vk_bytes») key; words = heldOr (expandOf p key) [] }
-
-unfoldable pub refreshOf : Params → List ℕ → List ℕ → List ℕ
-refreshOf p words mask = refreshed masks (p .shares) (maskStart mask) (p .l) words
-
-abbrev pub refreshedOf : Params → ExpandedKey → List ℕ → ExpandedKey
-refreshedOf p K mask = record { vk = K .vk; words = refreshOf p (K .words) mask }
-
--- what key generation made the signing key of: its public key, and the shares of s
-abbrev pub generatedOf : Params → List ℕ → List ℕ → List ℕ → ExpandedKey
-generatedOf p seeds mask key = record { vk = take (p .«vk_bytes») key; words = keyShares p (noisePart p seeds) (maskStart mask) }
-
 -- ---- a key that a call is lent
 
 -- a signing key's bytes, or an expanded key
@@ -109,11 +92,43 @@ pub data Key : Type 0 where
   packed : List ℕ → Key
   expanded : ExpandedKey → Key
 
--- its public key, and its shares, if the share seeds fill (check 10)
+-- its public key; the digest of that (02, #102), of a signing key computed, of an expanded key as it is lent; both, as an expanded key has them
 abbrev pub publicOf : Params → Key → List ℕ
-publicOf p (packed key) = take (p .«vk_bytes») key
-publicOf p (expanded K) = K .vk
+publicOf p (packed key) = vkIn p key
+publicOf p (expanded K) = vkIn p (K .bytes)
+
+abbrev pub digestOf : Params → Key → List ℕ
+digestOf p (packed key) = digestFor p (vkIn p key)
+digestOf p (expanded K) = digestIn p (K .bytes)
+
+abbrev pub withDigest : Params → Key → List ℕ
+withDigest p key = publicOf p key ++ digestOf p key
+
+-- is the digest the hash of the public key?
+abbrev pub DigestTrue : Params → Key → Type 0
+DigestTrue p key = digestOf p key ≡ digestFor p (publicOf p key)
+
+-- its shares, if the share seeds fill (check 10)
+unfoldable pub expandOf : Params → List ℕ → Option (List ℕ)
+expandOf p key = decompressed p (drop (p .«vk_bytes») key)
 
 abbrev pub sharesOf : Params → Key → Option (List ℕ)
 sharesOf p (packed key) = expandOf p key
 sharesOf p (expanded K) = some (K .words)
+
+-- ---- expanding and refreshing (01: opening, refreshing)
+
+-- the key that expanding gives, if all shares fill
+abbrev pub expandedOf : Params → List ℕ → ExpandedKey
+expandedOf p key = record { bytes = withDigest p (packed key); words = heldOr (expandOf p key) [] }
+
+-- refreshing carries on the bytes, whatever digest is in them
+unfoldable pub refreshOf : Params → List ℕ → List ℕ → List ℕ
+refreshOf p words mask = refreshed masks (p .shares) (maskStart mask) (p .l) words
+
+abbrev pub refreshedOf : Params → ExpandedKey → List ℕ → ExpandedKey
+refreshedOf p K mask = record { bytes = K .bytes; words = refreshOf p (K .words) mask }
+
+-- what key generation made the signing key of: its public key, the digest of it, and the shares of s
+abbrev pub generatedOf : Params → List ℕ → List ℕ → List ℕ → ExpandedKey
+generatedOf p seeds mask key = record { bytes = withDigest p (packed key); words = keyShares p (noisePart p seeds) (maskStart mask) }

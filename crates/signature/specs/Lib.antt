@@ -8,6 +8,7 @@ pub mod Checks
 pub mod Code
 pub mod Compress
 pub mod Decision
+pub mod Digest
 pub mod ExpandSteps
 pub mod ExpandedKey
 pub mod Form

@@ -1,14 +1,12 @@
--- The commitment recovered from a response (000, Algorithm 2 lines 17 and 18, Algorithm 3 lines 6 and 7), the hint, and mu.
-use mathlib.Core.List.{List, [], _∷_, _++_}
+-- The commitment recovered from a response (000, Algorithm 2 lines 17 and 18, Algorithm 3 lines 6 and 7), and the hint.
+use mathlib.Core.List.{List, [], _∷_}
 use Prim.Native.Nat.{ℕ, _+_, _-_, _*_, _%_}
 use lib.IntN.{ℤ}
-use Rattle.hash.specs.Shake.{shake256}
 use Rattle.hash.specs.declared.params.Params.{Params}
 use Rattle.ring.specs.Words.{subW, zipTo}
 use Rattle.ring.specs.Transform.{mul}
 use Rattle.ring.specs.Round.{roundW, scaledT, centred, residues}
 use Rattle.sharing.specs.Blocks.{block, build, sumOf}
-use Rattle.signature.specs.Form.{hashBytes}
 
 -- row i of A z; row i of y = A z - 2^42 c t; all k rows
 unfoldable pub productRow : ℕ → List ℕ → List ℕ → ℕ → List ℕ
@@ -38,13 +36,3 @@ hintOf w y = centredAll 31 (zipTo sub31 w (roundW y))
 
 unfoldable pub adjusted : List ℕ → List ℤ → List ℕ
 adjusted y h = zipTo add31 (roundW y) (residues 31 h)
-
--- H(vk), and mu = H(H(vk) || msg), each of n bytes
-unfoldable pub keyHash : ℕ → List ℕ → List ℕ
-keyHash n vk = shake256 vk n
-
-unfoldable pub boundTo : ℕ → List ℕ → List ℕ → List ℕ
-boundTo n vk msg = shake256 (keyHash n vk ++ msg) n
-
-abbrev pub muOf : Params → List ℕ → List ℕ → List ℕ
-muOf p vk msg = boundTo (hashBytes p) vk msg

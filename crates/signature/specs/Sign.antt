@@ -21,7 +21,7 @@ use Rattle.signature.specs.Masked.{Noise, Step, onward, refresh, seeded,
 use Rattle.signature.specs.Outcome.{Outcome, answer}
 use Rattle.signature.specs.Recover.{recovered, hintOf, centredAll}
 
--- what all attempts have from the public key and the message: the matrix, t and mu (lines 1 to 3)
+-- what all attempts have from the key and the message: the matrix, t and mu (lines 1 to 3)
 pub record Public : Type 0 where
   pub matrix : List ℕ
   pub vector : List ℕ

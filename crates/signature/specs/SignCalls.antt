@@ -9,11 +9,11 @@ use Rattle.hash.specs.declared.params.Edition.{Edition}
 use Rattle.hash.specs.declared.params.Params.{Params}
 use Rattle.hash.specs.declared.params.Selected.{Selected}
 use Rattle.signature.specs.Checks.{attemptsAllowed, signSeedsSized, signNoiseGood, signBuffersSized, messageSized, keyChecks}
+use Rattle.signature.specs.Digest.{muFrom}
 pub use Rattle.signature.specs.Keys.{Key, packed, expanded}
-use Rattle.signature.specs.Keys.{vkSeed, publicOf, sharesOf}
+use Rattle.signature.specs.Keys.{vkSeed, publicOf, digestOf, sharesOf}
 use Rattle.signature.specs.Matrix.{matrix, filled}
 use Rattle.signature.specs.Outcome.{Outcome, signing, refusedOr, firstNo, both, heldOr, written, wiped, setKnown, sharesKnown, foundIn}
-use Rattle.signature.specs.Recover.{muOf}
 use Rattle.signature.specs.Sign.{Public, publicBy, Coins, signFrom}
 
 -- check 7
@@ -34,13 +34,14 @@ signChecks s p key n msg T out work =
     ++ callChecks p n msg T out work
     ++ ((10, both (filled (matrix p (vkSeed p (publicOf p key)))) (filled (sharesOf p key))) ∷ [])
 
-abbrev pub publicFor : Params → List ℕ → List ℕ → List ℕ → Public
-publicFor p vk msg A = publicBy p vk (muOf p vk msg) A
+-- mu is of the key's digest: of a signing key its public key is hashed, of an expanded key what is lent stands for that hash (02, #102)
+abbrev pub publicFor : Params → List ℕ → List ℕ → List ℕ → List ℕ → Public
+publicFor p vk digest msg A = publicBy p vk (muFrom p digest msg) A
 
 -- behind them the attempts: 11 within each, 12 where none passes
 abbrev pub attemptsOf : Params → Key → ℕ → List ℕ → Coins → Outcome
 attemptsOf p key n msg T =
-    signFrom p (publicFor p (publicOf p key) msg (heldOr (matrix p (vkSeed p (publicOf p key))) [])) T n 0 (heldOr (sharesOf p key) [])
+    signFrom p (publicFor p (publicOf p key) (digestOf p key) msg (heldOr (matrix p (vkSeed p (publicOf p key))) [])) T n 0 (heldOr (sharesOf p key) [])
 
 -- the answer: a refusal, or what the attempts give
 abbrev pub signBy : Selected → Params → Key → ℕ → List ℕ → Coins → List ℕ → List ℕ → Outcome

@@ -14,7 +14,7 @@ use Rattle.sharing.specs.declared.masks.MaskGen.{MaskGen}
 use Rattle.signature.specs.AttemptSteps.{keyIn, Begun, LastRow, hashOf}
 use Rattle.signature.specs.Challenge.{chalPoly}
 use Rattle.signature.specs.Checks.{keyChecks}
-use Rattle.signature.specs.Keys.{vkSeed, publicOf, sharesOf}
+use Rattle.signature.specs.Keys.{vkSeed, publicOf, digestOf, sharesOf}
 use Rattle.signature.specs.Layout.{atR}
 use Rattle.signature.specs.Masked.{Noise}
 use Rattle.signature.specs.Matrix.{matrix}
@@ -28,14 +28,15 @@ unfoldable pub signNo : Params → Key → ℕ → List ℕ → Coins → List �
 signNo p key n msg T out work = firstNo (keyChecks p key ++ callChecks p n msg T out work)
 
 -- behind them, of the matrix and the shares, if they fill: check 10, then the attempts
-abbrev pub signMade : Params → List ℕ → List ℕ → Coins → ℕ → Option (List ℕ) → Option (List ℕ) → Outcome
-signMade p vk msg T n none s = answer 10 0 []
-signMade p vk msg T n (some A) none = answer 10 0 []
-signMade p vk msg T n (some A) (some s) = signFrom p (publicFor p vk msg A) T n 0 s
+abbrev pub signMade : Params → List ℕ → List ℕ → List ℕ → Coins → ℕ → Option (List ℕ) → Option (List ℕ) → Outcome
+signMade p vk digest msg T n none s = answer 10 0 []
+signMade p vk digest msg T n (some A) none = answer 10 0 []
+signMade p vk digest msg T n (some A) (some s) = signFrom p (publicFor p vk digest msg A) T n 0 s
 
 -- .. with what they leave in the buffers; and the whole, of a record that was found
 abbrev pub signedWith : Params → Key → ℕ → List ℕ → Coins → List ℕ → List ℕ → Outcome
-signedWith p key n msg T out work = leftBy (signMade p (publicOf p key) msg T n (matrix p (vkSeed p (publicOf p key))) (sharesOf p key)) out work
+signedWith p key n msg T out work =
+    leftBy (signMade p (publicOf p key) (digestOf p key) msg T n (matrix p (vkSeed p (publicOf p key))) (sharesOf p key)) out work
 
 abbrev pub signedFound : Params → Key → ℕ → List ℕ → Coins → List ℕ → List ℕ → Outcome
 signedFound p key n msg T out work = leftBy (signBy (Selected.Found p) p key n msg T out work) out work

@@ -13,11 +13,12 @@ use Rattle.ring.specs.Round.{residues}
 use Rattle.signature.specs.Bounds.{checkBounds}
 use Rattle.signature.specs.Challenge.{chalHash, chalPoly}
 use Rattle.signature.specs.Checks.{publicKeySized, publicKeyGood, messageSized, signatureSized, properForm, hashEqual}
+use Rattle.signature.specs.Digest.{muOf}
 use Rattle.signature.specs.Form.{Fields, read}
 use Rattle.signature.specs.Keys.{vkSeed, vkVector}
 use Rattle.signature.specs.Matrix.{matrix, filled}
 use Rattle.signature.specs.Outcome.{firstNo, heldOr, setKnown, foundIn}
-use Rattle.signature.specs.Recover.{recovered, adjusted, muOf}
+use Rattle.signature.specs.Recover.{recovered, adjusted}
 
 -- lines 6 to 8: the challenge hash recomputed, of the matrix, t, mu, the fields and the challenge polynomial
 unfoldable pub recomputed : Params → List ℕ → List ℕ → List ℕ → Fields → List ℤ → List ℕ

@@ -2,11 +2,10 @@
 ghost use mathlib.Core.Path.{_≡_};
 ghost use mathlib.Core.List.{[], _∷_};
 ghost use Prim.Native.Nat.{_+_, _*_, _≤_};
-ghost use lib.Dec.{eqb};
 ghost use lib.ListN.{length, take, drop};
 ghost use Rattle.ring.specs.Words.{q, allBelow};
 ghost use Rattle.signature.specs.Bits.{repack};
-ghost use Rattle.signature.specs.Checks.{firstNo, both, workWords, keygenSeedsSized, keygenBuffersSized, keyChecks};
+ghost use Rattle.signature.specs.Checks.{firstNo, expandedKeySized, workWords, keygenSeedsSized, keygenBuffersSized, keyChecks};
 ghost use Rattle.signature.specs.ExpandSteps.{partBytes};
 ghost use Rattle.signature.specs.ExpandedKey.{expandedIn};
 ghost use Rattle.signature.specs.Keys.{packed, expanded, fullShare, keygenBytes};
@@ -16,14 +15,15 @@ use hash::params::Params;
 use ring::poly::Q;
 use ring::poly::all_below;
 
-// Checks 3 and 8, of an expanded key: are there vk bytes and n words?
-pub(crate) fn sized(vk: usize, n: usize, bytes: &[u8], words: &[u64]) -> bool
-    ensures { λ r. ⌜ r ≡ both (eqb (length (now (bytes .entry))) vk) (eqb (length (now (words .entry))) n) ⌝ }
+// Checks 3 and 8, of an expanded key: is it a public key and a digest, and the words of all shares?
+pub(crate) fn sized(p: Params, bytes: &[u8], words: &[u64]) -> bool
+    requires { ⌜ Tabled p ⌝ }
+    ensures { λ r. ⌜ r ≡ expandedKeySized p (now (bytes .entry)) (now (words .entry)) ⌝ }
 {
-    if bytes.len() != vk {
+    if bytes.len() != p.vk_bytes + p.kappa / 4 {
         return false;
     }
-    words.len() == n
+    words.len() == p.l * (p.shares * 512)
 }
 
 // Check 4: are the k * 512 coefficients of t, 7 bits each behind the n bytes of the seed, below 125?
@@ -81,8 +81,7 @@ pub(crate) fn expanded_no(p: Params, key: &[u8], words: &[u64]) -> u32
     requires { ⌜ Tabled p ⌝ }
     ensures { λ r. ⌜ r ≡ firstNo (keyChecks p (expanded (expandedIn (now (key .entry)) (now (words .entry))))) ⌝ }
 {
-    let n = p.l * (p.shares * 512);
-    if !sized(p.vk_bytes, n, key, words) {
+    if !sized(p, key, words) {
         return 3;
     }
     if !public_key_good(key, p.kappa / 8, p.k) {

@@ -15,11 +15,12 @@ ghost use Rattle.signature.specs.Checks.{firstNo, maskSeedSized, expande
 ghost use Rattle.signature.specs.Matrix.{buildAll, filled};
 ghost use Rattle.signature.specs.Keys.{packed, expanded, fullShare, seededShare, shareAt, decompressed, expandOf, expandedOf};
 ghost use Rattle.signature.specs.ExpandSteps.{partBytes, expandedAt, expandedShares};
-ghost use Rattle.signature.specs.ExpandedKey.{expandedIn};
+ghost use Rattle.signature.specs.ExpandedKey.{expandedIn, expandedBytes};
 ghost use Rattle.signature.specs.KeyCalls.{keyLeaves, expandCall, refreshCall};
 ghost use Rattle.signature.specs.Outcome.{outcome};
 ghost use Rattle.signature.specs.Table.{Tabled};
 use crate::compress::seeded_share;
+use crate::digest::put_bytes;
 use crate::keycheck::expanded_no;
 use crate::keycheck::full_share;
 use crate::keycheck::packed_no;
@@ -71,7 +72,7 @@ fn refresh_no(
     if mask_seed.len() != 32 {
         return 7;
     }
-    if !sized(p.vk_bytes, p.l * (p.shares * 512), bytes_out, words_out) {
+    if !sized(p, bytes_out, words_out) {
         return 8;
     }
     0
@@ -94,7 +95,7 @@ fn refresh_words(s: &mut [u64], p: Params, g: MaskGen) -> MaskGen
     x
 }
 
-// The results of refreshing: the bytes as they are, the words refreshed.
+// The results of refreshing: public key and digest as they are, the words refreshed.
 fn renew(
     p: Params,
     bytes: &[u8],
@@ -103,12 +104,14 @@ fn renew(
     bytes_out: &mut [u8],
     words_out: &mut [u64],
 )
-    requires { ⌜ Words (p .l * (p .shares * 512)) (now words) × ShareCount (p .shares) ⌝ }
-    requires { ⌜ (length (now «bytes_out») ≡ length (now bytes)) × (length (now «words_out») ≡ length (now words)) ⌝ }
+    requires { ⌜ Tabled p × Words (p .l * (p .shares * 512)) (now words) ⌝ }
+    requires { ⌜ (length (now bytes) ≡ expandedBytes p) × (length (now «bytes_out») ≡ expandedBytes p)
+        × (length (now «words_out») ≡ length (now words)) ⌝ }
     ensures { λ _. ⌜ (now («bytes_out» .exit) ≡ now (bytes .entry))
         × (now («words_out» .exit) ≡ refreshed masks (p .shares) (maskStart (now («mask_seed» .entry))) (p .l) (now (words .entry))) ⌝ }
 {
-    copy_bytes(bytes, bytes_out);
+    let packed = false;
+    put_bytes(p, packed, bytes, bytes_out);
     copy_into(words_out, words);
     refresh_words(words_out, p, start(mask_seed));
 }
@@ -240,16 +243,16 @@ fn expand_no(p: Params, key: &[u8], bytes_out: &[u8], words_out: &[u64]) -> u32
     if k != 0 {
         return k;
     }
-    if !sized(p.vk_bytes, p.l * (p.shares * 512), bytes_out, words_out) {
+    if !sized(p, bytes_out, words_out) {
         return 8;
     }
     0
 }
 
-// Check 10, before anything is written; then the results of expanding: the public key's bytes, and the words of all shares.
+// Check 10, before anything is written; then the results of expanding: the public key and its digest, and the words of all shares.
 fn expand_found(p: Params, key: &[u8], bytes_out: &mut [u8], words_out: &mut [u64]) -> u32
     requires { ⌜ Tabled p × (length (now key) ≡ p .«sk_bytes») × Below q (fullShare p (drop (p .«vk_bytes») (now key))) ⌝ }
-    requires { ⌜ (length (now «bytes_out») ≡ p .«vk_bytes») × (length (now «words_out») ≡ p .l * (p .shares * 512)) ⌝ }
+    requires { ⌜ (length (now «bytes_out») ≡ expandedBytes p) × (length (now «words_out») ≡ p .l * (p .shares * 512)) ⌝ }
     ensures { λ r. ⌜ outcome r (now («bytes_out» .exit)) (now («words_out» .exit))
         ≡ keyLeaves (firstNo ((10, filled (expandOf p (now (key .entry)))) ∷ [])) (expandedOf p (now (key .entry)))
         (now («bytes_out» .entry)) (now («words_out» .entry)) ⌝ }
@@ -258,7 +261,7 @@ fn expand_found(p: Params, key: &[u8], bytes_out: &mut [u8], words_out: &mut [u6
     if !shares_fill(p, &key[vk..]) {
         return 10;
     }
-    copy_bytes(&key[0..vk], bytes_out);
+    put_bytes(p, true, key, bytes_out);
     decompress_shares(p, &key[vk..], words_out);
     0
 }

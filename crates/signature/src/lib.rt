@@ -7,6 +7,7 @@ pub mod challenge;
 mod code;
 mod commit;
 mod compress;
+mod digest;
 mod fields;
 mod form;
 mod int;

@@ -4,7 +4,6 @@ ghost use mathlib.Core.Bool.{true};
 ghost use mathlib.Core.Option.{some};
 ghost use Prim.Native.Nat.{_≤_};
 ghost use lib.ListN.{length};
-ghost use Rattle.hash.specs.declared.params.Selected.{Selected};
 ghost use Rattle.ring.specs.Words.{q, Below};
 ghost use Rattle.ring.specs.Rns.{wordsOf};
 ghost use Rattle.signature.specs.AttemptSteps.{keyLent, coinsLent, Within, keyIn};
@@ -19,13 +18,14 @@ ghost use Rattle.signature.specs.SignCalls.{packed, expanded, coinsGood,
 ghost use Rattle.signature.specs.SignSteps.{signNo, signMade, signedWith, signedFound, EndedAt, answerIn};
 ghost use Rattle.signature.specs.Table.{Tabled};
 use crate::attempt::answer;
+use crate::challenge::hash_two;
 use crate::commit::commit;
+use crate::digest::digest_into;
 use crate::fields::finish;
 use crate::load::load_shares;
 use crate::matrix::expand_matrix;
 use crate::signcheck::Forms;
 use crate::signcheck::sign_no;
-use crate::verify::bind;
 use hash::params::Edition;
 use hash::params::Params;
 use hash::params::Selected;
@@ -133,11 +133,13 @@ fn attempt_all(
     reported(12, i)
 }
 
-// Lines 2 to 20, the key's shares being in the work buffer: check 10 of the matrix, which is made once for all attempts, then the attempts.
+// Lines 2 to 20, the key's shares being in the work buffer: check 10 of the matrix, which is made once for all attempts, mu from the
+// digest, then the attempts.
 fn sign_loaded(
     work: &mut [u64],
     p: Params,
     vk: &[u8],
+    digest: &[u8],
     msg: &[u8],
     explicit: bool,
     seeds: &[u8],
@@ -151,8 +153,9 @@ fn sign_loaded(
     requires { ⌜ (n ≤ 16) × (coinsGood p n (coinsLent explicit seeds noise masks) ≡ true) ⌝ }
     ensures { λ r. ⌜ length (now (work .exit)) ≡ length (now (work .entry)) ⌝ }
     ensures { λ r. ⌜ answer (r .status) (r .attempts) (now (out .exit))
-        ≡ answerIn (signMade p (now (vk .entry)) (now (msg .entry)) (coinsLent explicit (seeds .entry) (noise .entry) (masks .entry)) n
-        (matrix p (vkSeed p (now (vk .entry)))) (some (keyIn p (now (work .entry)))))
+        ≡ answerIn (signMade p (now (vk .entry)) (now (digest .entry)) (now (msg .entry))
+        (coinsLent explicit (seeds .entry) (noise .entry) (masks .entry)) n (matrix p (vkSeed p (now (vk .entry))))
+        (some (keyIn p (now (work .entry)))))
         (now (out .entry)) ⌝ }
 {
     let e = p.kappa / 8;
@@ -162,7 +165,7 @@ fn sign_loaded(
     if !expand_matrix(&mut a, &vk[0..e], p.k, p.l) {
         return reported(10, 0);
     }
-    bind(vk, msg, &mut mu[0..b]);
+    hash_two(digest, msg, &mut mu[0..b]);
     let m = &mu[0..b];
     attempt_all(work, p, vk, &a, m, explicit, seeds, noise, masks, n, out)
 }
@@ -189,12 +192,17 @@ fn sign_with(
         (coinsLent (f .explicit) (seeds .entry) (noise .entry) (masks .entry)) (now (out .entry)) (now (work .entry)) ⌝ }
 {
     let e = p.vk_bytes;
+    let b = p.kappa / 4;
+    let mut digest = [0u8; 64];
     if !load_shares(work, p, f.packed, key, words) {
         clear(work);
         return reported(10, 0);
     }
     let x = f.explicit;
-    let r = sign_loaded(work, p, &key[0..e], msg, x, seeds, noise, masks, n, out);
+    let packed = f.packed;
+    digest_into(p, packed, key, &mut digest[0..b]);
+    let h = &digest[0..b];
+    let r = sign_loaded(work, p, &key[0..e], h, msg, x, seeds, noise, masks, n, out);
     clear(work);
     r
 }

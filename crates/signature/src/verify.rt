@@ -13,11 +13,12 @@ ghost use Rattle.ring.specs.Rns.{wordsOf};
 ghost use Rattle.ring.specs.Round.{residues};
 ghost use Rattle.signature.specs.AnswerSteps.{fieldsOf};
 ghost use Rattle.signature.specs.Checks.{firstNo, sameBytes};
+ghost use Rattle.signature.specs.Digest.{keyHash, boundTo};
 ghost use Rattle.signature.specs.Form.{hashBytes};
 ghost use Rattle.signature.specs.Keys.{vkSeed, vkVector};
 ghost use Rattle.signature.specs.MaskedSteps.{transformed};
 ghost use Rattle.signature.specs.Matrix.{matrix, matrixOf, filled};
-ghost use Rattle.signature.specs.Recover.{recovered, adjusted, boundTo};
+ghost use Rattle.signature.specs.Recover.{recovered, adjusted};
 ghost use Rattle.signature.specs.RecoverSteps.{adjustedRows};
 ghost use Rattle.signature.specs.Table.{Tabled};
 ghost use Rattle.signature.specs.Verify.{hashChecks, verifyChecks, verifyCall};
@@ -128,9 +129,10 @@ fn recompute(p: Params, vk: &[u8], hint: &[i64], z: &[i64], c: [i8; 512], w: &mu
 }
 
 // mu = H(H(vk) || msg) (line 3); out has the bytes of a hash.
-pub(crate) fn bind(vk: &[u8], msg: &[u8], out: &mut [u8])
+fn bind(vk: &[u8], msg: &[u8], out: &mut [u8])
     requires { ⌜ length (now out) ≤ 64 ⌝ }
-    ensures { λ _. ⌜ now (out .exit) ≡ boundTo (length (now (out .entry))) (now (vk .entry)) (now (msg .entry)) ⌝ }
+    ensures { λ _. ⌜ now (out .exit)
+        ≡ boundTo (length (now (out .entry))) (keyHash (length (now (out .entry))) (now (vk .entry))) (now (msg .entry)) ⌝ }
 {
     let n = out.len();
     let mut h = [0u8; 64];

@@ -18,7 +18,6 @@ use Rattle.hash.proofs.Sets.{setOf}
 use Rattle.ring.specs.Words.{q, subq, Words}
 use Rattle.ring.specs.Transform.{mul}
 use Rattle.ring.specs.Round.{rounded, roundW, scaledT, residues}
-use Rattle.ring.proofs.Checks.{asked}
 use Rattle.ring.proofs.Mapped.{length-map}
 use Rattle.ring.proofs.Sums.{length-zip}
 use Rattle.sharing.specs.Blocks.{block, totals}
@@ -27,7 +26,8 @@ use Rattle.sharing.proofs.Decode.{words-sum, totals-words}
 use Rattle.sharing.proofs.Lists.{length-build}
 use Rattle.signature.specs.Bounds.{checkBounds}
 use Rattle.signature.specs.Challenge.{chalHash, chalPoly}
-use Rattle.signature.specs.Checks.{firstNo, publicKeySized, publicKeyGood, attemptsAllowed, messageSized, properForm, hashEqual}
+use Rattle.signature.specs.Checks.{firstNo, publicKeySized, publicKeyGood, messageSized, properForm, hashEqual}
+use Rattle.signature.specs.Digest.{keyHash, digestFor}
 use Rattle.signature.specs.Form.{Fields, write, read}
 use Rattle.signature.specs.Keys.{vkSeed}
 use Rattle.signature.specs.Masked.{Noise, maskedImage}
@@ -42,8 +42,7 @@ use Rattle.signature.specs.VerifySteps.{fieldChecks}
 use Rattle.signature.proofs.Canonical.{Sized, write-read, write-length}
 use Rattle.signature.proofs.Centred.{length-centred}
 use Rattle.signature.proofs.SameBytes.{same-refl}
-use Rattle.theorems.specs.Plain.{plainChecks}
-use Rattle.theorems.proofs.ShareCount.{k-same, l-same, concluded-same, public-same}
+use Rattle.theorems.proofs.ShareCount.{k-same, l-same, hash-bytes-same, concluded-same, public-same}
 use Rattle.theorems.proofs.Hint.{residues-centred, length-hint, hint-back}
 
 -- k rows of 512 words
@@ -57,7 +56,7 @@ recovered-long p A z c t =
 
 module _ (p : Params) (vk msg A : List ℕ) (eA : matrix p (vkSeed p vk) ≡ some A) where
   abbrev P : Public
-  P = publicFor p vk msg A
+  P = publicFor p vk (digestFor p vk) msg A
 
   -- ---- what the verifier makes of fields that the signer made
 
@@ -135,20 +134,23 @@ module _ (p : Params) (vk msg A : List ℕ) (eA : matrix p (vkSeed p vk) ≡ som
     concluded-good r = challenged-good (chalPoly p (chalHash p (roundW w) (P .mu))) refl r
 
   -- the verifier's first checks are among those that signing passed
-  pub verify-good : (n : ℕ) (sig : List ℕ) → firstNo (plainChecks p vk n msg) ≡ 0 → Good sig → firstNo (verifyChecks (Selected.Found p) p vk msg sig) ≡ 0
-  verify-good n sig h g =
-      let a3 = asked 2 (publicKeySized p vk) _ h in
-      let a4 = asked 3 (publicKeyGood p vk) _ (a3 .1) in
-      let a6 = asked 5 (attemptsAllowed n) _ (a4 .1) in
-      let a9 = asked 8 (messageSized msg) _ (a6 .1) in
+  pub verify-good : (sig : List ℕ) → publicKeySized p vk ≡ true → publicKeyGood p vk ≡ true → messageSized msg ≡ true → Good sig
+      → firstNo (verifyChecks (Selected.Found p) p vk msg sig) ≡ 0
+  verify-good sig a3 a4 a9 g =
       let a13 : eqb (length sig) (p .«sig_bytes») ≡ true = eq-eqb (length sig) (p .«sig_bytes») (g .long) in
       let a14 : properForm p sig ≡ true = g .form in
-      rw (a3 .0, a4 .0, a9 .0, a13, a14) (g .fields)
+      rw (a3, a4, a9, a13, a14) (g .fields)
 
 -- ---- all attempts, of a record p; the verifier has a record r of the same set
 
 module _ (p r : Params) (h : setOf p ≡ setOf r) (vk msg A : List ℕ) (eA : matrix r (vkSeed r vk) ≡ some A) where
-  attempt-good : (N : Noise) (g : MaskGen) (s b : List ℕ) → attempted p (publicFor p vk msg A) N g s ≡ made b → Good r vk msg A eA b
+  abbrev signer : Public
+  signer = publicFor p vk (digestFor p vk) msg A
+
+  verifier-same : signer ≡ publicFor r vk (digestFor r vk) msg A
+  verifier-same = public-same p r h vk (digestFor p vk) msg A ∙ ap (λ (n : ℕ). publicFor r vk (keyHash n vk) msg A) (hash-bytes-same p r h)
+
+  attempt-good : (N : Noise) (g : MaskGen) (s b : List ℕ) → attempted p signer N g s ≡ made b → Good r vk msg A eA b
   unfolding attempted
   attempt-good N g s b e =
       let w : List ℕ = totals (p .k) (p .shares) (maskedImage p N g A .shares) in
@@ -158,7 +160,7 @@ module _ (p r : Params) (h : setOf p ≡ setOf r) (vk msg A : List ℕ) (eA : ma
       (λ (c : List ℕ). subst (λ (n : ℕ). Words (n * 512) (totals (p .l) (p .shares) (refreshedResponse p N g A s c .shares))) (l-same p r h)
       (totals-words (p .l) (p .shares) (refreshedResponse p N g A s c .shares)))
       b
-      (ap (λ (X : Public). concluded r X w z) (sym (public-same p r h vk msg A)) ∙ sym (concluded-same p r h (publicFor p vk msg A) w z) ∙ e)
+      (ap (λ (X : Public). concluded r X w z) (sym verifier-same) ∙ sym (concluded-same p r h signer w z) ∙ e)
 
   ended-good : (a : ℕ) (t : Attempted) (later : Outcome) → ((b : List ℕ) → t ≡ made b → Good r vk msg A eA b)
       → (later .status ≡ 0 → Good r vk msg A eA (later .bytes)) → ended a t later .status ≡ 0 → Good r vk msg A eA (ended a t later .bytes)
@@ -166,12 +168,12 @@ module _ (p r : Params) (h : setOf p ≡ setOf r) (vk msg A : List ℕ) (eA : ma
   ended-good a over later f g e = g e
   ended-good a stuck later f g e = absurd (omega arith)
 
-  pub from-good : (T : Coins) (left a : ℕ) (s : List ℕ) → signFrom p (publicFor p vk msg A) T left a s .status ≡ 0
-      → Good r vk msg A eA (signFrom p (publicFor p vk msg A) T left a s .bytes)
+  pub from-good : (T : Coins) (left a : ℕ) (s : List ℕ) → signFrom p signer T left a s .status ≡ 0
+      → Good r vk msg A eA (signFrom p signer T left a s .bytes)
   unfolding signFrom
   from-good T zero a s e = absurd (omega arith)
   from-good T (suc left) a s e =
-      ended-good a (attempted p (publicFor p vk msg A) (noiseAt p T a) (maskAt T a) s)
-      (signFrom p (publicFor p vk msg A) T left (suc a) (refreshedKey p (noiseAt p T a) (maskAt T a) A s .shares))
+      ended-good a (attempted p signer (noiseAt p T a) (maskAt T a) s)
+      (signFrom p signer T left (suc a) (refreshedKey p (noiseAt p T a) (maskAt T a) A s .shares))
       (attempt-good (noiseAt p T a) (maskAt T a) s)
       (from-good T left (suc a) (refreshedKey p (noiseAt p T a) (maskAt T a) A s .shares)) e

@@ -1,11 +1,11 @@
 -- Agreement: two units with equal sums at every coefficient have the same secret and the same noise totals, so that they answer alike.
 use mathlib.Core.Path.{_≡_, refl, sym, ap, subst, _∙_}
 use mathlib.Core.Bool.{Bool, true, false}
-use mathlib.Core.List.{List, []}
+use mathlib.Core.List.{List, _++_}
 use Prim.Native.Nat.{ℕ, zero, suc, _+_, _*_, _<_}
 use native.Mathlib.Omega.{arith}
 use lib.Dec.{eqb}
-use lib.ListN.{getD}
+use lib.ListN.{getD, take-append-drop}
 use Rattle.hash.specs.Lists.{pick}
 use Rattle.hash.specs.Params.{setIndex, orderIndex, rowAt, paramsOf}
 use Rattle.hash.specs.declared.params.Params.{Params}
@@ -16,16 +16,14 @@ use Rattle.ring.proofs.Sums.{same-residues}
 use Rattle.sharing.specs.Blocks.{build, total, totals}
 use Rattle.sharing.proofs.Decode.{words-sum}
 use Rattle.sharing.proofs.Lists.{build-ext}
-use Rattle.signature.specs.ExpandedKey.{secretAt}
-use Rattle.signature.specs.Keys.{vkSeed}
-use Rattle.signature.specs.Matrix.{matrix}
-use Rattle.signature.specs.Outcome.{refusedOr, firstNo, heldOr}
+use Rattle.signature.specs.ExpandedKey.{vkIn, secretAt}
+use Rattle.signature.specs.Digest.{keyHash, digestFor}
+use Rattle.signature.specs.Outcome.{refusedOr, firstNo, foundIn}
 use Rattle.signature.specs.Sign.{Public}
-use Rattle.signature.specs.SignCalls.{publicFor}
-use Rattle.theorems.specs.Plain.{Totals, noiseTotal, totalsOf, plainFrom, plainChecks, signPlain}
-use Rattle.theorems.specs.Unit.{UnitCall, signUnit, recordOf, noiseTotalAt, Fits, Sound, Alike, SameSecret, EqualTotals}
+use Rattle.theorems.specs.Plain.{Totals, noiseTotal, totalsOf, plainFrom, plainChecks, plainPublic, signPlain}
+use Rattle.theorems.specs.Unit.{UnitCall, signUnit, recordOf, vkOf, TrueDigest, noiseTotalAt, Fits, Sound, Alike, AlikeTrue, SameSecret, EqualTotals}
 use Rattle.signature.proofs.Secrets.{secrets-totals}
-use Rattle.theorems.proofs.ShareCount.{k-same, l-same, plain-same}
+use Rattle.theorems.proofs.ShareCount.{k-same, l-same, hash-bytes-same, plain-same}
 use Rattle.theorems.proofs.Collapse.{unitSecret, noiseOf, noiseTotals, shares-are, sign-plain, sign-unknown}
 use Rattle.theorems.proofs.NoiseTotals.{first-at, second-at}
 
@@ -38,12 +36,12 @@ plain-ext p P e f zero a s h = refl
 plain-ext p P e f (suc left) a s h =
     cc (h a (omega arith), plain-ext p P e f left (suc a) s (λ (b : ℕ) (l : b < suc a + left). h b (omega arith)))
 
-sign-ext : (p : Params) (vk : List ℕ) (n : ℕ) (msg s : List ℕ) (e f : ℕ → Totals) → ((b : ℕ) → b < n → e b ≡ f b)
-    → signPlain p vk n msg s e ≡ signPlain p vk n msg s f
+sign-ext : (p : Params) (bytes : List ℕ) (n : ℕ) (msg s : List ℕ) (e f : ℕ → Totals) → ((b : ℕ) → b < n → e b ≡ f b)
+    → signPlain p bytes n msg s e ≡ signPlain p bytes n msg s f
 unfolding signPlain
-sign-ext p vk n msg s e f h =
-    ap (refusedOr (firstNo (plainChecks p vk n msg)))
-    (plain-ext p (publicFor p vk msg (heldOr (matrix p (vkSeed p vk)) [])) e f n 0 s (λ (b : ℕ) (l : b < 0 + n). h b (omega arith)))
+sign-ext p bytes n msg s e f h =
+    ap (refusedOr (firstNo (plainChecks p bytes n msg)))
+    (plain-ext p (plainPublic p bytes msg) e f n 0 s (λ (b : ℕ) (l : b < 0 + n). h b (omega arith)))
 
 -- ---- two units
 
@@ -55,16 +53,17 @@ build-same n m f g e wf wg h =
     ∙ ap (λ (k : ℕ). build k g) e
 
 -- their records are of one set
-pub of-one-set : (u v : UnitCall) (p r : Params) → recordOf u ≡ Selected.Found p → recordOf v ≡ Selected.Found r → Alike u v → setOf p ≡ setOf r
-of-one-set u v p r iu iv al =
+pub of-one-set : (u v : UnitCall) (p r : Params) → recordOf u ≡ Selected.Found p → recordOf v ≡ Selected.Found r
+    → u .set ≡ v .set → u .edition ≡ v .edition → setOf p ≡ setOf r
+of-one-set u v p r iu iv sets editions =
     found-set (u .set) (u .shares) (u .edition) p iu .first-row
-    ∙ cc (al .sets, al .editions)
+    ∙ cc (sets, editions)
     ∙ sym (found-set (v .set) (v .shares) (v .edition) r iv .first-row)
 
 module _ (u v : UnitCall) (p r : Params) (iu : recordOf u ≡ Selected.Found p) (iv : recordOf v ≡ Selected.Found r)
     (hu : Fits p u) (hv : Fits r v) (al : Alike u v) where
   one-set : setOf p ≡ setOf r
-  one-set = of-one-set u v p r iu iv al
+  one-set = of-one-set u v p r iu iv (al .sets) (al .editions)
 
   secret-same : SameSecret u v → unitSecret p u ≡ unitSecret r v
   secret-same s =
@@ -101,32 +100,66 @@ module _ (u v : UnitCall) (p r : Params) (iu : recordOf u ≡ Selected.Found p) 
   -- of a known set
   known-agree : SameSecret u v → EqualTotals u v → signUnit u ≡ signUnit v
   known-agree s t =
-      let e1 : signUnit u ≡ signPlain p (u .key .vk) (u .attempts) (u .message) (unitSecret p u) (noiseTotals p u) = sign-plain u p iu hu in
-      let e2 : signUnit v ≡ signPlain r (v .key .vk) (v .attempts) (v .message) (unitSecret r v) (noiseTotals r v) = sign-plain v r iv hv in
-      let e3 : signPlain p (u .key .vk) (u .attempts) (u .message) (unitSecret p u) (noiseTotals p u) ≡ signPlain p (u .key .vk) (u .attempts) (u .message) (unitSecret p u) (noiseTotals r v) =
-      sign-ext p (u .key .vk) (u .attempts) (u .message) (unitSecret p u) (noiseTotals p u) (noiseTotals r v) (noise-same t) in
-      let e4 : signPlain p (u .key .vk) (u .attempts) (u .message) (unitSecret p u) (noiseTotals r v) ≡ signPlain r (u .key .vk) (u .attempts) (u .message) (unitSecret p u) (noiseTotals r v) =
-      plain-same p r one-set (u .key .vk) (u .attempts) (u .message) (unitSecret p u) (noiseTotals r v) in
-      let e5 : signPlain r (u .key .vk) (u .attempts) (u .message) (unitSecret p u) (noiseTotals r v) ≡ signPlain r (v .key .vk) (v .attempts) (v .message) (unitSecret r v) (noiseTotals r v) =
+      let e1 : signUnit u ≡ signPlain p (u .key .bytes) (u .attempts) (u .message) (unitSecret p u) (noiseTotals p u) = sign-plain u p iu hu in
+      let e2 : signUnit v ≡ signPlain r (v .key .bytes) (v .attempts) (v .message) (unitSecret r v) (noiseTotals r v) = sign-plain v r iv hv in
+      let e3 : signPlain p (u .key .bytes) (u .attempts) (u .message) (unitSecret p u) (noiseTotals p u) ≡ signPlain p (u .key .bytes) (u .attempts) (u .message) (unitSecret p u) (noiseTotals r v) =
+      sign-ext p (u .key .bytes) (u .attempts) (u .message) (unitSecret p u) (noiseTotals p u) (noiseTotals r v) (noise-same t) in
+      let e4 : signPlain p (u .key .bytes) (u .attempts) (u .message) (unitSecret p u) (noiseTotals r v) ≡ signPlain r (u .key .bytes) (u .attempts) (u .message) (unitSecret p u) (noiseTotals r v) =
+      plain-same p r one-set (u .key .bytes) (u .attempts) (u .message) (unitSecret p u) (noiseTotals r v) in
+      let e5 : signPlain r (u .key .bytes) (u .attempts) (u .message) (unitSecret p u) (noiseTotals r v) ≡ signPlain r (v .key .bytes) (v .attempts) (v .message) (unitSecret r v) (noiseTotals r v) =
       cc (secret-same s, al .keys, al .messages, al .attempts) in
       e1 ∙ e3 ∙ e4 ∙ e5 ∙ sym e2
+
+-- the record of a unit with one of the six share counts: none for an unknown set
+abbrev rowFor : UnitCall → Params
+rowFor w = paramsOf (rowAt (6 * setIndex (w .set) + orderIndex (w .shares))) (w .edition)
+
+row-look : (w : UnitCall) → Sound w → (set : ℕ) → set ≡ w .set → (b : Bool) → eqb (setIndex set) 3 ≡ b → recordOf w ≡ pick b Selected.NoSet (Selected.Found (rowFor w))
+row-look w h set e b i =
+    look-up (w .set) (w .shares) (w .edition) (h .count)
+    ∙ ap (λ (c : Bool). pick c Selected.NoSet (Selected.Found (rowFor w))) (ap (λ (x : ℕ). eqb (setIndex x) 3) (sym e) ∙ i)
+
+unknown-agree : (u v : UnitCall) → Sound u → Sound v → u .set ≡ v .set → eqb (setIndex (u .set)) 3 ≡ true → signUnit u ≡ signUnit v
+unknown-agree u v hu hv e i = sign-unknown u (row-look u hu (u .set) refl true i) ∙ sym (sign-unknown v (row-look v hv (u .set) e true i))
 
 -- AGREEMENT, the answers
 pub answers-agree : (u v : UnitCall) → Sound u → Sound v → Alike u v → SameSecret u v → EqualTotals u v → signUnit u ≡ signUnit v
 answers-agree u v hu hv al s t = go (eqb (setIndex (u .set)) 3) refl
   where
-    look : (w : UnitCall) → Sound w → u .set ≡ w .set → (b : Bool) → eqb (setIndex (u .set)) 3 ≡ b
-        → recordOf w ≡ pick b Selected.NoSet (Selected.Found (paramsOf (rowAt (6 * setIndex (w .set) + orderIndex (w .shares))) (w .edition)))
-    look w h e b i =
-        look-up (w .set) (w .shares) (w .edition) (h .count)
-        ∙ ap (λ (c : Bool). pick c Selected.NoSet (Selected.Found (paramsOf (rowAt (6 * setIndex (w .set) + orderIndex (w .shares))) (w .edition))))
-        (ap (λ (x : ℕ). eqb (setIndex x) 3) (sym e) ∙ i)
-
     go : (b : Bool) → eqb (setIndex (u .set)) 3 ≡ b → signUnit u ≡ signUnit v
-    go true i = sign-unknown u (look u hu refl true i) ∙ sym (sign-unknown v (look v hv (al .sets) true i))
+    go true i = unknown-agree u v hu hv (al .sets) i
     go false i =
-        let p : Params = paramsOf (rowAt (6 * setIndex (u .set) + orderIndex (u .shares))) (u .edition) in
-        let r : Params = paramsOf (rowAt (6 * setIndex (v .set) + orderIndex (v .shares))) (v .edition) in
-        let iu : recordOf u ≡ Selected.Found p = look u hu refl false i in
-        let iv : recordOf v ≡ Selected.Found r = look v hv (al .sets) false i in
-        known-agree u v p r iu iv (hu .fits p iu) (hv .fits r iv) al s t
+        let iu = row-look u hu (u .set) refl false i in
+        let iv = row-look v hv (u .set) (al .sets) false i in
+        known-agree u v (rowFor u) (rowFor v) iu iv (hu .fits (rowFor u) iu) (hv .fits (rowFor v) iv) al s t
+
+-- ---- with true digests equal public keys are enough
+
+module _ (u v : UnitCall) (p r : Params) (iu : recordOf u ≡ Selected.Found p) (iv : recordOf v ≡ Selected.Found r) (al : AlikeTrue u v) where
+  -- the bytes of a key with a true digest
+  true-bytes : (w : UnitCall) (x : Params) → recordOf w ≡ Selected.Found x → TrueDigest w → w .key .bytes ≡ vkOf w ++ digestFor x (vkOf w)
+  true-bytes w x i t =
+      sym (take-append-drop (x .«vk_bytes») (w .key .bytes)) ∙ ap (λ (d : List ℕ). vkIn x (w .key .bytes) ++ d) (t x i)
+      ∙ ap (λ (s : Selected). vkIn (foundIn s) (w .key .bytes) ++ digestFor x (vkIn (foundIn s) (w .key .bytes))) (sym i)
+
+  known-alike : Alike u v
+  known-alike =
+      record {
+        editions = al .editions;
+        sets = al .sets;
+        keys = true-bytes u p iu (al .digests .0)
+            ∙ ap (λ (n : ℕ). vkOf u ++ keyHash n (vkOf u)) (hash-bytes-same p r (of-one-set u v p r iu iv (al .sets) (al .editions)))
+            ∙ ap (λ (x : List ℕ). x ++ digestFor r x) (al .keys) ∙ sym (true-bytes v r iv (al .digests .1));
+        messages = al .messages;
+        attempts = al .attempts;
+      }
+
+pub true-agree : (u v : UnitCall) → Sound u → Sound v → AlikeTrue u v → SameSecret u v → EqualTotals u v → signUnit u ≡ signUnit v
+true-agree u v hu hv al s t = go (eqb (setIndex (u .set)) 3) refl
+  where
+    go : (b : Bool) → eqb (setIndex (u .set)) 3 ≡ b → signUnit u ≡ signUnit v
+    go true i = unknown-agree u v hu hv (al .sets) i
+    go false i =
+        let iu = row-look u hu (u .set) refl false i in
+        let iv = row-look v hv (u .set) (al .sets) false i in
+        answers-agree u v hu hv (known-alike u v (rowFor u) (rowFor v) iu iv al) s t

@@ -19,14 +19,15 @@ use Rattle.ring.proofs.Sums.{all-below, residues-drop}
 use Rattle.sharing.specs.Blocks.{block, totals}
 use Rattle.sharing.proofs.Lists.{block-words}
 use Rattle.sharing.proofs.Samples.{seedNoise-words, explicitNoise-words}
-use Rattle.signature.specs.Checks.{both, publicKeySized, signSeedsSized, signNoiseGood, signBuffersSized}
+use Rattle.signature.specs.Checks.{both, expandedBytesSized, signSeedsSized, signNoiseGood, signBuffersSized}
+use Rattle.signature.specs.ExpandedKey.{vkIn}
 use Rattle.signature.specs.Keys.{vkSeed}
 use Rattle.signature.specs.Masked.{Noise, seeded, explicit}
 use Rattle.signature.specs.Matrix.{matrix, filled}
-use Rattle.signature.specs.Outcome.{answer, refusedOr, firstNo, heldOr, foundIn}
+use Rattle.signature.specs.Outcome.{answer, refusedOr, firstNo, foundIn}
 use Rattle.signature.specs.Sign.{noiseSize, noiseFrom, noiseAt}
-use Rattle.signature.specs.SignCalls.{Key, coinsGood, signChecks, publicFor, attemptsOf, signBy, signOf}
-use Rattle.theorems.specs.Plain.{Totals, totalsOf, plainChecks, signPlain}
+use Rattle.signature.specs.SignCalls.{Key, coinsGood, signChecks, attemptsOf, signBy, signOf}
+use Rattle.theorems.specs.Plain.{Totals, totalsOf, plainChecks, plainPublic, signPlain}
 use Rattle.theorems.specs.Unit.{UnitCall, signUnit, recordOf, Fits}
 use Rattle.theorems.proofs.Steps.{GoodNoise, collapse}
 
@@ -95,24 +96,24 @@ module _ (u : UnitCall) (p : Params) (is : recordOf u ≡ Selected.Found p) (h :
 
   -- the checks that it passes fall away
   checks-plain : firstNo (signChecks (Selected.Found p) p (Key.expanded (u .key)) (u .attempts) (u .message) (u .coins) (u .result) (u .work))
-      ≡ firstNo (plainChecks p (u .key .vk) (u .attempts) (u .message))
+      ≡ firstNo (plainChecks p (u .key .bytes) (u .attempts) (u .message))
   unfolding filled
   checks-plain =
       let e3 : eqb (length (u .key .words)) (p .l * (p .shares * 512)) ≡ true = eq-eqb _ _ (h .share-words .long) in
       let e5 : allBelow q (u .key .words) ≡ true = below-yes q (u .key .words) (h .share-words .low) in
       let e7 : coinsGood p (u .attempts) (u .coins) ≡ true = h .coins in
       let e8 : signBuffersSized p (u .result) (u .work) ≡ true = h .buffers in
-      rw (e3, e5, e7, e8, both-last (publicKeySized p (u .key .vk)), both-last (filled (matrix p (vkSeed p (u .key .vk))))) refl
+      rw (e3, e5, e7, e8, both-last (expandedBytesSized p (u .key .bytes)), both-last (filled (matrix p (vkSeed p (vkIn p (u .key .bytes)))))) refl
 
   -- COLLAPSE
-  pub sign-plain : signUnit u ≡ signPlain p (u .key .vk) (u .attempts) (u .message) (unitSecret p u) (noiseTotals p u)
+  pub sign-plain : signUnit u ≡ signPlain p (u .key .bytes) (u .attempts) (u .message) (unitSecret p u) (noiseTotals p u)
   unfolding signUnit signOf signPlain
   sign-plain =
       ap (λ (s : Selected). signBy s (foundIn s) (Key.expanded (u .key)) (u .attempts) (u .message) (u .coins) (u .result) (u .work)) is
       ∙ ap (λ (m : ℕ). refusedOr m (attemptsOf p (Key.expanded (u .key)) (u .attempts) (u .message) (u .coins))) checks-plain
-      ∙ ap (refusedOr (firstNo (plainChecks p (u .key .vk) (u .attempts) (u .message))))
+      ∙ ap (refusedOr (firstNo (plainChecks p (u .key .bytes) (u .attempts) (u .message))))
       (collapse p (subst (λ (x : ℕ). x ≡ 2 ^ orderIndex x) (sym shares-are) (row .power))
-      (publicFor p (u .key .vk) (u .message) (heldOr (matrix p (vkSeed p (u .key .vk))) [])) (u .coins) (u .attempts) 0
+      (plainPublic p (u .key .bytes) (u .message)) (u .coins) (u .attempts) 0
       (λ (b : ℕ) (l : b < 0 + u .attempts). good b (omega arith)) (u .key .words) (h .share-words))
 
 -- of an unknown set there is one answer

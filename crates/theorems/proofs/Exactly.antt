@@ -21,7 +21,7 @@ use Rattle.signature.specs.Form.{Fields, write, read}
 use Rattle.signature.specs.Keys.{vkSeed, vkVector}
 use Rattle.signature.specs.Matrix.{matrix, filled}
 use Rattle.signature.specs.Outcome.{firstNo, heldOr, foundIn}
-use Rattle.signature.specs.Recover.{muOf}
+use Rattle.signature.specs.Digest.{muOf}
 use Rattle.signature.specs.Verify.{recomputed, recomputedFor, fieldsIn, verifyChecks, verifyCall}
 use Rattle.signature.specs.VerifySteps.{fieldChecks}
 use Rattle.signature.proofs.Listing.{tabled}

@@ -3,6 +3,7 @@ pub mod AcceptCall
 pub mod Agree
 pub mod Collapse
 pub mod Demand3
+pub mod Digest
 pub mod Exactly
 pub mod Hint
 pub mod Instances
@@ -10,5 +11,6 @@ pub mod NoiseTotals
 pub mod ShareCount
 pub mod Sound
 pub mod Steps
+pub mod Undigested
 pub mod Witness
 pub mod Coins

@@ -10,7 +10,7 @@ use Rattle.hash.proofs.Sets.{found-set}
 use Rattle.ring.specs.Words.{q}
 use Rattle.ring.proofs.Checks.{both-true}
 use Rattle.ring.proofs.Sums.{all-below}
-use Rattle.signature.specs.Checks.{publicKeySized}
+use Rattle.signature.specs.Checks.{expandedBytesSized}
 use Rattle.signature.specs.Outcome.{firstNo, foundIn}
 use Rattle.signature.specs.SignCalls.{Key, signChecks, attemptsOf, signBy, signOf}
 use Rattle.signature.proofs.SignChecks.{AllPassed, all-yes}
@@ -29,7 +29,7 @@ module _ (u : UnitCall) (h : signUnit u .status ≡ 0) where
   fitting : (p : Params) → recordOf u ≡ Selected.Found p → Fits p u
   fitting p is =
       let a = all-passed-by p is in
-      let s = both-true (publicKeySized p (u .key .vk)) (eqb (length (u .key .words)) (p .l * (p .shares * 512))) (a .sized) in
+      let s = both-true (expandedBytesSized p (u .key .bytes)) (eqb (length (u .key .words)) (p .l * (p .shares * 512))) (a .sized) in
       record {
         share-words = record { long = eqb-true (length (u .key .words)) (p .l * (p .shares * 512)) (s .1); low = all-below q (u .key .words) (a .shares) };
         coins = a .coins;

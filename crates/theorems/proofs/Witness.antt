@@ -1,7 +1,7 @@
 -- The hypotheses of demand 3 can be met: the unit that is laid out for what is wanted is sound, and has that secret and those noise totals.
 use mathlib.Core.Path.{_≡_, refl, sym, ap, _∙_, subst}
 use mathlib.Core.Bool.{Bool, true, false}
-use mathlib.Core.List.{List}
+use mathlib.Core.List.{List, _++_}
 use Prim.Native.Nat.{ℕ, zero, suc, _+_, _*_, _%_, _≤_, _<_}
 use native.Mathlib.Nat.{mod-lt}
 use native.Mathlib.Omega.{arith}
@@ -22,13 +22,15 @@ use Rattle.sharing.proofs.Decode.{sumN-ext}
 use Rattle.ring.proofs.Sums.{words-zeros}
 use Rattle.sharing.proofs.Lists.{block-at, inside, words-build, block-build}
 use Rattle.signature.specs.Checks.{workWords}
-use Rattle.signature.specs.ExpandedKey.{ExpandedKey, shareWordAt, secretAt}
+use Rattle.signature.specs.Digest.{digestFor}
+use Rattle.signature.specs.ExpandedKey.{ExpandedKey, vkIn, digestIn, shareWordAt, secretAt}
 use Rattle.signature.specs.Outcome.{foundIn}
-use Rattle.theorems.specs.Unit.{UnitCall, recordOf, lentAt, noiseTotalAt, Fits, Sound, Alike, SameSecret, EqualTotals}
+use Rattle.theorems.specs.Unit.{UnitCall, recordOf, TrueDigest, lentAt, noiseTotalAt, Fits, Sound, Alike, AlikeTrue, SameSecret, EqualTotals}
 use Rattle.theorems.specs.Witness.{Wanted, Has, allOrZero, inFirst, laidFor, laid, hadBy}
 use Rattle.ring.proofs.Checks.{below-yes}
 use Rattle.hash.proofs.Sets.{setOf, Beside, beside}
-use Rattle.theorems.proofs.ShareCount.{k-same, l-same}
+use Rattle.signature.proofs.Digests.{behind-true}
+use Rattle.theorems.proofs.ShareCount.{k-same, l-same, vk-same, true-same}
 use Rattle.theorems.proofs.Agree.{of-one-set}
 
 -- ---- a polynomial in share 0
@@ -167,7 +169,7 @@ laid-has w d c =
     record {
       edition = refl;
       set = refl;
-      vk = refl;
+      bytes = refl;
       message = refl;
       attempts = refl;
       secret = λ (p : Params) (is : recordOf (laid d w) ≡ Selected.Found p) (i x : ℕ) (hi : i < p .l) (hx : x < 512).
@@ -197,7 +199,7 @@ had u =
     record {
       edition = refl;
       set = refl;
-      vk = refl;
+      bytes = refl;
       message = refl;
       attempts = refl;
       secret = λ (p : Params) is (i x : ℕ) hi hx. sym (secret-mod (u .shares) (u .key) i x);
@@ -211,7 +213,7 @@ module _ (w : Wanted) (u v : UnitCall) (hu : Has w u) (hv : Has w v) where
       record {
         editions = hu .edition ∙ sym (hv .edition);
         sets = hu .set ∙ sym (hv .set);
-        keys = hu .vk ∙ sym (hv .vk);
+        keys = hu .bytes ∙ sym (hv .bytes);
         messages = hu .message ∙ sym (hv .message);
         attempts = hu .attempts ∙ sym (hv .attempts);
       }
@@ -221,6 +223,26 @@ module _ (w : Wanted) (u v : UnitCall) (hu : Has w u) (hv : Has w v) where
   other c p is =
       let e : lookupOf (u .set) (u .shares) (u .edition) ≡ lookupOf (v .set) (u .shares) (v .edition) = cc (has-alike .sets, has-alike .editions) in
       beside (v .set) (u .shares) (v .shares) (v .edition) p (sym e ∙ is) c
+
+  -- the bytes being a public key and its hash: both digests are true
+  module _ (p : Params) (is : recordOf u ≡ Selected.Found p) (vk : List ℕ) (l : length vk ≡ p .«vk_bytes») (b : w .bytes ≡ vk ++ digestFor p vk) where
+    has-digest : (x : UnitCall) → Has w x → TrueDigest x
+    has-digest x hx r i =
+        true-same p r (of-one-set u x p r is i (hu .set ∙ sym (hx .set)) (hu .edition ∙ sym (hx .edition))) (x .key)
+        (subst (λ (ys : List ℕ). digestIn p ys ≡ digestFor p (vkIn p ys)) (sym (hx .bytes ∙ b)) (behind-true p vk l))
+
+    pub has-alike-true : ShareCount (v .shares) → AlikeTrue u v
+    has-alike-true c =
+        let o = other c p is in
+        record {
+          editions = has-alike .editions;
+          sets = has-alike .sets;
+          keys = ap (λ (s : Selected). vkIn (foundIn s) (u .key .bytes)) is ∙ cc (vk-same p (o .other) (o .same), has-alike .keys)
+              ∙ sym (ap (λ (s : Selected). vkIn (foundIn s) (v .key .bytes)) (o .is));
+          digests = (has-digest u hu, has-digest v hv);
+          messages = has-alike .messages;
+          attempts = has-alike .attempts;
+        }
 
   pub has-secret : ShareCount (v .shares) → SameSecret u v
   has-secret c =
@@ -236,7 +258,7 @@ module _ (w : Wanted) (u v : UnitCall) (hu : Has w u) (hv : Has w v) where
       record {
         equal = λ (p r : Params) (iu : recordOf u ≡ Selected.Found p) (iv : recordOf v ≡ Selected.Found r) (a i x : ℕ)
             (ha : a < u .attempts) (hi : i < p .l + p .k) (hx : x < 512).
-            let s : setOf p ≡ setOf r = of-one-set u v p r iu iv has-alike in
+            let s : setOf p ≡ setOf r = of-one-set u v p r iu iv (has-alike .sets) (has-alike .editions) in
             let la : a < w .attempts = omega (arith, hu .attempts) in
             let li : i < r .l + r .k = omega (arith, l-same p r s, k-same p r s) in
             hu .totals p iu a i x la hi hx ∙ sym (hv .totals r iv a i x la li hx);

@@ -1,4 +1,5 @@
 pub mod Instances
 pub mod Plain
+pub mod Undigested
 pub mod Unit
 pub mod Witness

@@ -8,7 +8,8 @@ use Rattle.hash.specs.declared.params.Params.{Params}
 use Rattle.ring.specs.Words.{addW}
 use Rattle.ring.specs.Transform.{intt, mul}
 use Rattle.sharing.specs.Blocks.{block, build, sumOf, total}
-use Rattle.signature.specs.Checks.{publicKeySized, publicKeyGood, attemptsAllowed, messageSized}
+use Rattle.signature.specs.Checks.{expandedBytesSized, publicKeyGood, attemptsAllowed, messageSized}
+use Rattle.signature.specs.ExpandedKey.{vkIn, digestIn}
 use Rattle.signature.specs.Keys.{vkSeed}
 use Rattle.signature.specs.Masked.{Noise}
 use Rattle.signature.specs.Matrix.{matrix, filled}
@@ -49,17 +50,21 @@ unfoldable pub plainFrom : Params → Public → (ℕ → Totals) → ℕ → �
 plainFrom p P e zero a s = answer 12 a []
 plainFrom p P e (suc left) a s = ended a (plainAttempt p P s (e a)) (plainFrom p P e left (suc a) s)
 
--- ---- the call, of a record that was looked up (check 1): checks 3 and 4 of the public key, 6, 9, 10. No check looks at a share
+-- ---- the call, of a record that was looked up (check 1) and of the bytes of an expanded key: checks 3 and 4 of them, 6, 9, 10. No check looks at
+-- a share
 
 abbrev pub plainChecks : Params → List ℕ → ℕ → List ℕ → List (ℕ × Bool)
-plainChecks p vk n msg =
-    (3, publicKeySized p vk)
-    ∷ (4, publicKeyGood p vk)
+plainChecks p bytes n msg =
+    (3, expandedBytesSized p bytes)
+    ∷ (4, publicKeyGood p (vkIn p bytes))
     ∷ (6, attemptsAllowed n)
     ∷ (9, messageSized msg)
-    ∷ (10, filled (matrix p (vkSeed p vk)))
+    ∷ (10, filled (matrix p (vkSeed p (vkIn p bytes))))
     ∷ []
 
+-- what all attempts have from the bytes and the message
+abbrev pub plainPublic : Params → List ℕ → List ℕ → Public
+plainPublic p bytes msg = publicFor p (vkIn p bytes) (digestIn p bytes) msg (heldOr (matrix p (vkSeed p (vkIn p bytes))) [])
+
 unfoldable pub signPlain : Params → List ℕ → ℕ → List ℕ → List ℕ → (ℕ → Totals) → Outcome
-signPlain p vk n msg s e =
-    refusedOr (firstNo (plainChecks p vk n msg)) (plainFrom p (publicFor p vk msg (heldOr (matrix p (vkSeed p vk)) [])) e n 0 s)
+signPlain p bytes n msg s e = refusedOr (firstNo (plainChecks p bytes n msg)) (plainFrom p (plainPublic p bytes msg) e n 0 s)

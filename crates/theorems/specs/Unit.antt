@@ -14,8 +14,9 @@ use Rattle.ring.specs.Words.{q, Words}
 use Rattle.sharing.specs.Blocks.{block, sumN}
 use Rattle.sharing.specs.Noise.{sampleU, noiseHeader}
 use Rattle.signature.specs.Checks.{signBuffersSized}
-use Rattle.signature.specs.ExpandedKey.{ExpandedKey, secretAt}
-use Rattle.signature.specs.Outcome.{Outcome}
+use Rattle.signature.specs.ExpandedKey.{ExpandedKey, vkIn, secretAt}
+use Rattle.signature.specs.Keys.{DigestTrue}
+use Rattle.signature.specs.Outcome.{Outcome, foundIn}
 use Rattle.signature.specs.Sign.{Coins}
 use Rattle.signature.specs.SignCalls.{Key, coinsGood, signOf, signCall}
 
@@ -43,6 +44,13 @@ callUnit u = signCall (u .edition) (u .set) (u .shares) (Key.expanded (u .key)) 
 -- the record of the unit's set and share count, if the set is one of the three
 abbrev pub recordOf : UnitCall → Selected
 recordOf u = lookupOf (u .set) (u .shares) (u .edition)
+
+-- its public key; is the digest behind it the hash of it (02, #102)? Of an unknown set nothing is asked
+abbrev pub vkOf : UnitCall → List ℕ
+vkOf u = vkIn (foundIn (recordOf u)) (u .key .bytes)
+
+abbrev pub TrueDigest : UnitCall → Type 0
+TrueDigest u = (p : Params) → recordOf u ≡ Selected.Found p → DigestTrue p (Key.expanded (u .key))
 
 -- ---- the noise's sums, as 01 says them; the key's are `secretAt` (signature)
 
@@ -80,11 +88,20 @@ pub record Sound (u : UnitCall) : Type 0 where
   pub count : ShareCount (u .shares)
   pub fits : (p : Params) → recordOf u ≡ Selected.Found p → Fits p u
 
--- alike in set, public key, message and allowed attempts, and in the edition
+-- alike in set, public key, message and allowed attempts, and in the edition; the digest is as the public key: its bytes are equal
 pub record Alike (u v : UnitCall) : Type 0 where
   pub editions : u .edition ≡ v .edition
   pub sets : u .set ≡ v .set
-  pub keys : u .key .vk ≡ v .key .vk
+  pub keys : u .key .bytes ≡ v .key .bytes
+  pub messages : u .message ≡ v .message
+  pub attempts : u .attempts ≡ v .attempts
+
+-- alike in the words of paper 01, public keys for bytes, where both digests are true
+pub record AlikeTrue (u v : UnitCall) : Type 0 where
+  pub editions : u .edition ≡ v .edition
+  pub sets : u .set ≡ v .set
+  pub keys : vkOf u ≡ vkOf v
+  pub digests : TrueDigest u × TrueDigest v
   pub messages : u .message ≡ v .message
   pub attempts : u .attempts ≡ v .attempts
 

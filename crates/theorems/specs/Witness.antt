@@ -21,7 +21,8 @@ use Rattle.theorems.specs.Unit.{UnitCall, recordOf, noiseTotalAt}
 pub record Wanted : Type 0 where
   pub edition : Edition
   pub set : ℕ
-  pub vk : List ℕ
+  -- of the key: public key and digest
+  pub bytes : List ℕ
   pub message : List ℕ
   pub attempts : ℕ
   -- at coefficient x of polynomial i of l; in attempt a + 1 at coefficient x of polynomial i of l + k
@@ -32,7 +33,7 @@ pub record Wanted : Type 0 where
 pub record Has (w : Wanted) (u : UnitCall) : Type 0 where
   pub edition : u .edition ≡ w .edition
   pub set : u .set ≡ w .set
-  pub vk : u .key .vk ≡ w .vk
+  pub bytes : u .key .bytes ≡ w .bytes
   pub message : u .message ≡ w .message
   pub attempts : u .attempts ≡ w .attempts
   pub secret : (p : Params) → recordOf u ≡ Selected.Found p → (i x : ℕ) → i < p .l → x < 512 → secretAt (u .shares) (u .key) i x ≡ w .secret i x % q
@@ -53,7 +54,7 @@ laidFor p d w =
       edition = w .edition;
       set = w .set;
       shares = d;
-      key = record { vk = w .vk; words = build (p .l) (λ (i : ℕ). inFirst d (w .secret i)) };
+      key = record { bytes = w .bytes; words = build (p .l) (λ (i : ℕ). inFirst d (w .secret i)) };
       message = w .message;
       attempts = w .attempts;
       coins =
@@ -76,7 +77,7 @@ hadBy u =
     record {
       edition = u .edition;
       set = u .set;
-      vk = u .key .vk;
+      bytes = u .key .bytes;
       message = u .message;
       attempts = u .attempts;
       secret = secretAt (u .shares) (u .key);

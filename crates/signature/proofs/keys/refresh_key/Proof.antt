@@ -19,24 +19,24 @@ renew-requires c κs =
     let a = m .before .before .before .before .before .before .before .before .args in
     let p = m .p .given .0 .0 in
     let t = tabled (a .set) (a .shares) Edition.Printed p (sym (m .before .before .lookup .ensures) ∙ m .p .given .1) in
-    let h = refreshable p (record { vk = a .bytes .now; words = a .words .now }) (a .mask-seed .now) (a .bytes-out .now) (a .words-out .now)
+    let h = refreshable p (record { bytes = a .bytes .now; words = a .words .now }) (a .mask-seed .now) (a .bytes-out .now) (a .words-out .now)
     (sym (k .refresh-no .ensures) ∙ c .before .before .if1 .taken) in (
-      (record { long = h .shares-long; low = h .shares-low }, t .count),
-      (h .bytes-long ∙ sym (h .key-long), h .words-long ∙ sym (h .shares-long)),
+      (t, record { long = h .shares-long; low = h .shares-low }),
+      (h .key-long, h .bytes-long, h .words-long ∙ sym (h .shares-long)),
     )
 
 returns : tie.Need-returns
 returns c =
     let k = c .before .before in
     let a = k .before .before .before .before .before .before .args in
-    refresh-no-set (a .set) (a .shares) (record { vk = a .bytes .now; words = a .words .now }) (a .mask-seed .now) (a .bytes-out .now) (a .words-out .now)
+    refresh-no-set (a .set) (a .shares) (record { bytes = a .bytes .now; words = a .words .now }) (a .mask-seed .now) (a .bytes-out .now) (a .words-out .now)
     (sym (c .enum-told .given .1) ∙ k .lookup .ensures)
 
 returns-2 : tie.Need-returns-2
 returns-2 c =
     let k = c .before .before in
     let a = k .before .before .before .before .before .before .args in
-    refresh-no-shares (a .set) (a .shares) (record { vk = a .bytes .now; words = a .words .now }) (a .mask-seed .now) (a .bytes-out .now) (a .words-out .now)
+    refresh-no-shares (a .set) (a .shares) (record { bytes = a .bytes .now; words = a .words .now }) (a .mask-seed .now) (a .bytes-out .now) (a .words-out .now)
     (sym (c .enum-told2 .given .1) ∙ k .lookup .ensures)
 
 returns-3 : tie.Need-returns-3
@@ -45,7 +45,7 @@ returns-3 c =
     let k = w .before .before .before .before in
     let m = k .before .before .before .before in
     let a = m .before .before .before .before .before .before .before .before .args in
-    refresh-done (a .set) (a .shares) (record { vk = a .bytes .now; words = a .words .now }) (a .mask-seed .now) (a .bytes-out .now) (a .words-out .now)
+    refresh-done (a .set) (a .shares) (record { bytes = a .bytes .now; words = a .words .now }) (a .mask-seed .now) (a .bytes-out .now) (a .words-out .now)
     (m .p .given .0 .0) (sym (m .p .given .1) ∙ m .before .before .lookup .ensures) (k .refresh-no .result) (k .refresh-no .ensures) (w .before .before .before .if1 .taken)
     (w .renew .last .1 .1 .1 .1 .0) (w .renew .last .1 .1 .1 .1 .1 .0) (w .renew .ensures .0) (w .renew .ensures .1)
 
@@ -54,7 +54,7 @@ returns-4 c =
     let k = c .before in
     let m = k .before .before .before .before in
     let a = m .before .before .before .before .before .before .before .before .args in
-    refresh-refused (a .set) (a .shares) (record { vk = a .bytes .now; words = a .words .now }) (a .mask-seed .now) (a .bytes-out .now) (a .words-out .now)
+    refresh-refused (a .set) (a .shares) (record { bytes = a .bytes .now; words = a .words .now }) (a .mask-seed .now) (a .bytes-out .now) (a .words-out .now)
     (m .p .given .0 .0) (sym (m .p .given .1) ∙ m .before .before .lookup .ensures) (k .refresh-no .result) (k .refresh-no .ensures) (c .if1 .left)
 
 pub refresh-key-spec : {M : Type 1} → statement M

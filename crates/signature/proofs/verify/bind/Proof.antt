@@ -3,7 +3,7 @@ use mathlib.Core.List.{List, _++_}
 use Prim.Native.Nat.{ℕ}
 use lib.ListN.{length, replicate}
 use Rattle.hash.specs.Shake.{shake256}
-use Rattle.signature.specs.Recover.{keyHash, boundTo}
+use Rattle.signature.specs.Digest.{keyHash, boundTo}
 use Rattle.signature.proofs.Fronts.{digest-in, digest-is}
 use borrow.Author.Needs.{needs}
 use Rattle.signature.proofs.verify.bind.Statement.{statement}

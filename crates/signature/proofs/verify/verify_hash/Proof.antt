@@ -17,7 +17,7 @@ use Rattle.signature.specs.ChallengeSteps.{chalHeld}
 use Rattle.signature.specs.Checks.{sameBytes}
 use Rattle.signature.specs.Keys.{vkSeed, vkVector}
 use Rattle.signature.specs.Matrix.{matrix}
-use Rattle.signature.specs.Recover.{boundTo}
+use Rattle.signature.specs.Digest.{keyHash, boundTo}
 use Rattle.signature.specs.Outcome.{firstNo}
 use Rattle.signature.specs.Verify.{recomputed, hashChecks}
 use Rattle.signature.proofs.Adjusted.{adjusted-long}
@@ -150,7 +150,7 @@ verdict c =
     let d = digest-is n (replicate 64 0) (c .before .before .before .before .chal-hash .last .1 .1 .1 .1 .0) _ (a .pre .0 .0 .hash-low) (c .before .before .before .before .chal-hash .ensures) ∙ hash-parts p w u in
     let e : c .before .before .before .before .before .before .before .before .before .before .before .before .before .before .before .before .before .before .before .before .chal-poly .result ≡ chalHeld (chalPoly p (b .hash .now)) = c .before .before .before .before .before .before .before .before .before .before .before .before .before .before .before .before .before .before .before .before .chal-poly .ensures in
     verdict-hash p (b .vk .now) (b .msg .now) f A (c .same-bytes .result) (L .0) (ap (λ r. r .ok) (sym e) ∙ not-false _ (c .before .before .before .before .before .before .before .before .before .before .before .before .before .if2 .left))
-    (c .same-bytes .ensures ∙ ap (sameBytes (b .hash .now)) (d ∙ ap (λ r. recomputed p A (vkVector p (b .vk .now)) (boundTo n (b .vk .now) (b .msg .now)) f (r .poly)) e))
+    (c .same-bytes .ensures ∙ ap (sameBytes (b .hash .now)) (d ∙ ap (λ r. recomputed p A (vkVector p (b .vk .now)) (boundTo n (keyHash n (b .vk .now)) (b .msg .now)) f (r .poly)) e))
 
 returns-3 : tie.Need-returns-3
 returns-3 c = sym (verdict (c .before) ∙ ap (λ (b : Bool). pick b 0 16) (c .if3 .taken))
