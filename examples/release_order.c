@@ -19,7 +19,7 @@ enum { SET = 128, SHARES = 4, ATTEMPTS = 16 };
  */
 static uint8_t keygen_seeds[RACCOON_KEYGEN_SEED_BYTES(SET, SHARES)];
 static uint8_t key[RACCOON_SIGNING_KEY_BYTES(SET, SHARES)];
-static uint8_t expanded_bytes[RACCOON_PUBLIC_KEY_BYTES(SET)];
+static uint8_t expanded_bytes[RACCOON_EXPANDED_BYTES(SET)];
 static uint64_t expanded_words[RACCOON_SHARE_WORDS(SET, SHARES)];
 static uint8_t noise_seeds[ATTEMPTS * RACCOON_NOISE_SEED_BYTES(SET, SHARES)];
 static uint8_t mask_seeds[ATTEMPTS * RACCOON_MASK_SEED_BYTES];
@@ -78,10 +78,10 @@ static void expect_ok(const char *call, uint32_t status)
     }
 }
 
-/* Asks the verifier, who has the public key, the order and the signature, and prints the verdict. */
+/* Asks the verifier, who has the public key (the front of the bytes), the order and the signature, and prints the verdict. */
 static void verdict(const char *what, const char *order, size_t signature_length)
 {
-    uint32_t status = raccoon_verify(SET, expanded_bytes, sizeof expanded_bytes, (const uint8_t *)order, strlen(order), signature,
+    uint32_t status = raccoon_verify(SET, expanded_bytes, RACCOON_PUBLIC_KEY_BYTES(SET), (const uint8_t *)order, strlen(order), signature,
                                      signature_length);
     if (status == RACCOON_OK) {
         printf("%s: 0, accepted\n", what);
@@ -102,13 +102,13 @@ int main(void)
                                                work, WORDS(work)));
     wipe(keygen_seeds, sizeof keygen_seeds);
     wipe(mask_seed, sizeof mask_seed);
-    printf("key: %zu bytes, the first %zu are the public key\n", sizeof key, sizeof expanded_bytes);
+    printf("key: %zu bytes, the first %u are the public key\n", sizeof key, RACCOON_PUBLIC_KEY_BYTES(SET));
 
-    /* 2. Expand it, once for many signatures: the public key's bytes, and all shares in full as words. */
+    /* 2. Expand it, once for many signatures: the public key with its digest as bytes, and all shares in full as words. */
     expect_ok("raccoon_expand_key", raccoon_expand_key(SET, SHARES, key, sizeof key, expanded_bytes, sizeof expanded_bytes, expanded_words,
                                                        WORDS(expanded_words)));
     wipe(key, sizeof key); /* in earnest: keep it in safe storage first */
-    printf("expanded key: %zu words in %d shares\n", WORDS(expanded_words), SHARES);
+    printf("expanded key: %zu bytes, %zu words in %d shares\n", sizeof expanded_bytes, WORDS(expanded_words), SHARES);
 
     /* 3. Sign. An attempt may miss the bounds, so we bring seeds for several; the unit stops at the first that passes. */
     fill_random(noise_seeds, sizeof noise_seeds);

@@ -52,11 +52,11 @@ enum raccoon_status {
  *
  * Each macro is a constant expression where its arguments are. For sets and share counts outside the lists above they mean nothing.
  *
- *   set   k  l   public key   signature   a seed
- *                     bytes       bytes    bytes
- *   128   5  4         2256       11524       16
- *   192   7  5         3160       14544       24
- *   256   9  7         4064       20330       32
+ *   set   k  l   public key   expanded key   signature   a seed
+ *                     bytes          bytes       bytes    bytes
+ *   128   5  4         2256           2288       11524       16
+ *   192   7  5         3160           3208       14544       24
+ *   256   9  7         4064           4128       20330       32
  *
  *   set  shares   signing    seeds of   noise seeds   noise words     share      work
  *                     key      keygen   per attempt   per attempt     words     words
@@ -101,7 +101,10 @@ enum raccoon_status {
 
 #define RACCOON_SIGNATURE_BYTES(set) ((set) == 128 ? 11524u : (set) == 192 ? 14544u : 20330u)
 
-/* words of an expanded key: l polynomials of `shares` shares of 512 words; its bytes are the public key's */
+/* bytes of an expanded key: the public key, then its digest H(vk), the first 32, 48 or 64 bytes of SHAKE256 over the public key */
+#define RACCOON_EXPANDED_BYTES(set) (RACCOON_PUBLIC_KEY_BYTES(set) + (set) / 4u)
+
+/* words of an expanded key: l polynomials of `shares` shares of 512 words */
 #define RACCOON_SHARE_WORDS(set, shares) (RACCOON_N * RACCOON_L(set) * (shares))
 
 /* noise seeds of one attempt; signing takes `attempts` times as many */
@@ -136,10 +139,12 @@ uint32_t raccoon_keygen(uint32_t set, uint32_t shares, const uint8_t *seeds, siz
                         uint8_t *key_out, size_t key_out_len, uint64_t *work, size_t work_len);
 
 /*
- * Expands a signing key: all shares in full, as raccoon_sign_expanded takes them.  Checks 1, 2, 3, 4, 5, 8, 10.
+ * Expands a signing key: the digest of its public key, and all shares in full, as raccoon_sign_expanded takes them.
+ * Checks 1, 2, 3, 4, 5, 8, 10.
  *
  * Reads   key         RACCOON_SIGNING_KEY_BYTES(set, shares) bytes
- * Writes  bytes_out   RACCOON_PUBLIC_KEY_BYTES(set) bytes: the public key
+ * Writes  bytes_out   RACCOON_EXPANDED_BYTES(set) bytes: the public key, and behind it its digest; raccoon_verify takes their front,
+ *                     RACCOON_PUBLIC_KEY_BYTES(set) bytes
  *         words_out   RACCOON_SHARE_WORDS(set, shares) words below q: polynomial by polynomial, the shares of one behind each other
  * After   0           both hold the expanded key
  *         any other   both as they were
@@ -148,9 +153,10 @@ uint32_t raccoon_expand_key(uint32_t set, uint32_t shares, const uint8_t *key, s
                             uint64_t *words_out, size_t words_out_len);
 
 /*
- * Shares the secret of an expanded key anew: the sum of the shares modulo q is what it was.  Checks 1, 2, 3, 4, 5, 7, 8.
+ * Shares the secret of an expanded key anew: the sum of the shares modulo q is what it was. Public key and digest are carried on as they were
+ * lent; a digest that is not the public key's hash is not mended.  Checks 1, 2, 3, 4, 5, 7, 8.
  *
- * Reads   bytes       RACCOON_PUBLIC_KEY_BYTES(set) bytes
+ * Reads   bytes       RACCOON_EXPANDED_BYTES(set) bytes; check 4 is of the public key alone, the digest may be anything
  *         words       RACCOON_SHARE_WORDS(set, shares) words
  *         mask_seed   RACCOON_MASK_SEED_BYTES bytes
  * Writes  bytes_out, words_out   as raccoon_expand_key; buffers other than bytes and words
@@ -192,8 +198,12 @@ struct raccoon_signed raccoon_sign(uint32_t set, uint32_t shares, uint32_t attem
                                    size_t mask_seeds_len, uint8_t *signature_out, size_t signature_out_len, uint64_t *work, size_t work_len);
 
 /*
- * The same with an expanded key: bytes, RACCOON_PUBLIC_KEY_BYTES(set) bytes, and words, RACCOON_SHARE_WORDS(set, shares) words. Checks 3 to 5
+ * The same with an expanded key: bytes, RACCOON_EXPANDED_BYTES(set) bytes, and words, RACCOON_SHARE_WORDS(set, shares) words. Checks 3 to 5
  * are of these; share seeds are no part of check 10.
+ *
+ * The public key is not hashed again: mu is the hash of the digest lent and the message. With the digest that expanding made, the signature is
+ * byte for byte that of raccoon_sign. A key with another digest signs with that digest, and 0 from raccoon_verify is then not assured: short
+ * of a collision of the hash it returns 16.
  */
 struct raccoon_signed raccoon_sign_expanded(uint32_t set, uint32_t shares, uint32_t attempts, const uint8_t *bytes, size_t bytes_len,
                                             const uint64_t *words, size_t words_len, const uint8_t *message, size_t message_len,

@@ -1,7 +1,7 @@
 //! A case: one call with all that it is lent. It is put to the unit and to the expectation, and the two answers are compared:
 //! status, attempts, every element of every buffer, the guards around them, and that what is lent to be read was only read.
 
-use crate::layout::{share_words, words_below_q};
+use crate::layout::{digest_is_true, share_words, words_below_q};
 use crate::random::Random;
 use crate::unit::{Key, Signed, Signing};
 use crate::{expect, unit};
@@ -125,7 +125,8 @@ impl Kind {
     pub fn length(self, field: Field, p: &Params, attempts: usize) -> usize {
         match (field, self) {
             (Field::Key, ExpandKey | KatExpandKey | Sign | SignExplicit | KatSign) => p.sk_bytes(),
-            (Field::Key, _) => p.vk_bytes(),
+            (Field::Key, Verify | KatVerify) => p.vk_bytes(),
+            (Field::Key, _) => p.expanded_bytes(),
             (Field::Message, _) => 4096,
             (Field::Signature, _) => p.sig_bytes,
             (Field::Seeds, SampleUniform) => 777 * 7,
@@ -141,7 +142,7 @@ impl Kind {
                 }
             }
             (Field::ResultBytes, Keygen | KatKeygen) => p.sk_bytes(),
-            (Field::ResultBytes, ExpandKey | KatExpandKey | RefreshKey) => p.vk_bytes(),
+            (Field::ResultBytes, ExpandKey | KatExpandKey | RefreshKey) => p.expanded_bytes(),
             (Field::ResultBytes, _) => p.sig_bytes,
             (Field::ResultWords, SampleUniform) | (Field::ResultSigns, _) => N,
             (Field::Words | Field::ResultWords, _) => share_words(p),
@@ -320,8 +321,8 @@ impl Case {
         Signing { set: i.set, shares: i.shares, attempts: i.attempts, key, message: &i.message, noise, mask_seeds: &i.mask_seeds }
     }
 
-    /// Puts the case to the calls, whose answer must be the expected one; what they sign they must also verify. Gives status and
-    /// attempts.
+    /// Puts the case to the calls, whose answer must be the expected one; what they sign they must also verify, but for what is
+    /// signed with a false digest, which gets 16. Gives status and attempts.
     pub fn check(&self, calls: &Calls) -> Result<(u32, u32), String> {
         let (found, expected) = (self.put(calls)?, self.put(&EXPECTED)?);
         compare(&found, &expected)?;
@@ -330,8 +331,9 @@ impl Case {
             let p = Params::new(i.set as usize, 1, edition).ok_or("signed with a set that there is not")?;
             let signature = &found.buffers.bytes[GUARD..GUARD + p.sig_bytes];
             let verified = (calls.verify)(edition, i.set, &i.key[..p.vk_bytes()], &i.message, signature);
-            if verified != 0 {
-                return Err(format!("signed, but verified with status {verified}"));
+            let right = if self.kind.takes_expanded() && !digest_is_true(&p, &i.key) { 16 } else { 0 };
+            if verified != right {
+                return Err(format!("signed, but verified with status {verified}, expected: {right}"));
             }
         }
         Ok((found.status, found.attempts))

@@ -7,7 +7,7 @@
 
 use crate::layout::{bits, full_share, share_words};
 use crate::unit::{Key, Signed, Signing};
-use independent::raccoon::{self as independent_raccoon, Edition, Noise, Params, challenge, expand, refresh};
+use independent::raccoon::{self as independent_raccoon, Edition, Noise, Params, challenge, expand, refresh, with_digest};
 use independent::ring::{N, Q, sample_q};
 
 /// What comes of a call, or the number of the first check whose answer is no.
@@ -39,7 +39,7 @@ fn ask_key(p: &Params, key: Key) -> Asked {
             ask(5, (0..p.l * N).all(|i| bits(key, full_share(p) + 49 * i, 49) < Q))
         }
         Key::Expanded(bytes, words) => {
-            ask(3, bytes.len() == p.vk_bytes() && words.len() == share_words(p))?;
+            ask(3, bytes.len() == p.expanded_bytes() && words.len() == share_words(p))?;
             ask(4, public_good(bytes))?;
             ask(5, words.iter().all(|&word| word < Q))
         }
@@ -63,25 +63,25 @@ pub fn keygen(edition: Edition, set: u32, shares: u32, seeds: &[u8], mask_seed: 
 
 /// Expanding a signing key: checks 1, 2, 3, 4, 5, 8, 10.
 pub fn expand_key(edition: Edition, set: u32, shares: u32, key: &[u8], bytes: &mut [u8], words: &mut [u64]) -> u32 {
-    let made = || -> Asked<Vec<u64>> {
+    let made = || -> Asked<(Vec<u8>, Vec<u64>)> {
         let p = params(edition, set, shares)?;
         ask_key(&p, Key::Packed(key))?;
-        ask(8, bytes.len() == p.vk_bytes() && words.len() == share_words(&p))?;
-        expand(&p, key).ok_or(10)
+        ask(8, bytes.len() == p.expanded_bytes() && words.len() == share_words(&p))?;
+        Ok((with_digest(&p, &key[..p.vk_bytes()]), expand(&p, key).ok_or(10u32)?))
     };
     status(made(), |made| {
-        bytes.copy_from_slice(&key[..bytes.len()]);
-        words.copy_from_slice(&made);
+        bytes.copy_from_slice(&made.0);
+        words.copy_from_slice(&made.1);
     })
 }
 
-/// Refreshing an expanded key: checks 1, 2, 3, 4, 5, 7, 8.
+/// Refreshing an expanded key: checks 1, 2, 3, 4, 5, 7, 8. Public key and digest are carried on.
 pub fn refresh_key(set: u32, shares: u32, key: (&[u8], &[u64]), mask_seed: &[u8], bytes: &mut [u8], words: &mut [u64]) -> u32 {
     let made = || -> Asked<Vec<u64>> {
         let p = params(Edition::Printed, set, shares)?;
         ask_key(&p, Key::Expanded(key.0, key.1))?;
         ask(7, mask_seed.len() == 32)?;
-        ask(8, bytes.len() == p.vk_bytes() && words.len() == share_words(&p))?;
+        ask(8, bytes.len() == p.expanded_bytes() && words.len() == share_words(&p))?;
         Ok(refresh(&p, key.1, mask_seed))
     };
     status(made(), |made| {
@@ -114,12 +114,12 @@ fn signed(edition: Edition, input: &Signing, signature: usize, work: usize) -> A
     ask(7, input.mask_seeds.len() == 32 * attempts)?;
     ask(8, signature == p.sig_bytes && work == p.work_words())?;
     ask(9, input.message.len() <= 4096)?;
-    let (public_key, words) = match input.key {
-        Key::Packed(key) => (&key[..p.vk_bytes()], expand(&p, key).ok_or(10u32)?),
-        Key::Expanded(bytes, words) => (bytes, words.to_vec()),
+    let (bytes, words) = match input.key {
+        Key::Packed(key) => (with_digest(&p, &key[..p.vk_bytes()]), expand(&p, key).ok_or(10u32)?),
+        Key::Expanded(bytes, words) => (bytes.to_vec(), words.to_vec()),
     };
     let attempts: Vec<(Noise, &[u8])> = noise.into_iter().zip(input.mask_seeds.chunks_exact(32)).collect();
-    Ok(independent_raccoon::sign(&p, public_key, &words, input.message, &attempts))
+    Ok(independent_raccoon::sign(&p, &bytes, &words, input.message, &attempts))
 }
 
 /// Signing: checks 1 to 10, then 11 within each attempt, then 12.

@@ -3,7 +3,7 @@
 use crate::bounds::{fields_of_norm, hint_of_squares, zeros_behind};
 use crate::case::{Calls, Case, Field, Inputs, KINDS, Kind};
 use crate::layout::{full_share, laid_out, put_bits, small_totals, words_below_q};
-use crate::pool::{Base, Pool, SETS};
+use crate::pool::{Base, Pair, Pool, SETS};
 use crate::random::Random;
 use independent::raccoon::{Fields, Params, form_bits, read, write};
 use independent::ring::{N, Q};
@@ -94,14 +94,14 @@ fn well_formed(kind: Kind, base: &Base, random: &mut Random) -> Case {
         Kind::SampleChallenge => inputs.seeds = challenge_bytes(p.omega, random),
         _ if kind.signs() => fill_signing(kind, base, &mut inputs, random),
         _ if kind.verifies() => {
-            inputs.key = base.key.packed[..p.vk_bytes()].to_vec();
+            inputs.key = key_bytes(kind, p, &base.key);
             inputs.message = base.message.clone();
             inputs.signature = base.signature.clone();
         }
         _ => {
             let fields = kind.fields();
             let has = |field: Field| fields.contains(&field);
-            inputs.key = if has(Field::Key) { base.key.packed[..kind.length(Field::Key, p, 1)].to_vec() } else { vec![] };
+            inputs.key = if has(Field::Key) { key_bytes(kind, p, &base.key) } else { vec![] };
             inputs.words = if has(Field::Words) { base.key.words.clone() } else { vec![] };
             inputs.seeds = if has(Field::Seeds) { random.bytes(p.keygen_bytes()) } else { vec![] };
             inputs.mask_seeds = if has(Field::MaskSeeds) { random.bytes(32) } else { vec![] };
@@ -110,13 +110,19 @@ fn well_formed(kind: Kind, base: &Base, random: &mut Random) -> Case {
     Case::new(kind, p, inputs, random)
 }
 
+/// The bytes of a key as a call takes them: of an expanded key, else the signing key or its front.
+fn key_bytes(kind: Kind, p: &Params, key: &Pair) -> Vec<u8> {
+    let from = if kind.takes_expanded() { &key.bytes } else { &key.packed };
+    from[..kind.length(Field::Key, p, 1)].to_vec()
+}
+
 /// Key, message, noise and mask seeds of signing. Some keys have a large secret, some explicit noise is too large.
 fn fill_signing(kind: Kind, base: &Base, inputs: &mut Inputs, random: &mut Random) {
     let p = &base.p;
     let attempts = if p.d == 1 { one_of(random, &[1, 1, 1, 2, 2, 2, 3, 3, 4, 16]) } else { one_of(random, &[1, 1, 2, 3]) };
     let key = if random.below(3) == 0 { &base.large } else { &base.key };
     inputs.attempts = attempts as u32;
-    inputs.key = key.packed[..kind.length(Field::Key, p, attempts)].to_vec();
+    inputs.key = key_bytes(kind, p, key);
     if kind.takes_expanded() {
         inputs.words = key.words.clone();
     }
@@ -192,6 +198,8 @@ enum Mutation {
     Message,
     Contents(Field),
     Coefficient,
+    /// A bit of the digest in an expanded key.
+    Digest,
     ShareWord,
     NoiseWord,
     /// A field of the signature moved, and the signature written anew.
@@ -222,6 +230,9 @@ fn mutations(kind: Kind) -> Vec<Mutation> {
     }
     if fields.contains(&Field::Key) && !kind.verifies() {
         all.push(ShareWord);
+    }
+    if kind.takes_expanded() {
+        all.push(Digest);
     }
     if fields.contains(&Field::Message) {
         all.extend([Message, Message]);
@@ -257,6 +268,12 @@ fn mutate(case: &mut Case, base: &Base, other: &Base, random: &mut Random) {
         Mutation::Coefficient => {
             let (at, value) = (place(random, p.k * N), one_of(random, &[0, 124, 124, 125, 126, 127]));
             put_if_there(&mut case.inputs.key, 8 * p.seed_bytes() + 7 * at, 7, value);
+        }
+        Mutation::Digest => {
+            let at = p.vk_bytes() + place(random, p.hash_bytes());
+            if let Some(byte) = case.inputs.key.get_mut(at) {
+                *byte ^= 1 << random.below(8);
+            }
         }
         Mutation::ShareWord if case.kind.takes_expanded() => set_word(&mut case.inputs.words, random),
         Mutation::ShareWord => {

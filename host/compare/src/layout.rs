@@ -1,7 +1,7 @@
-//! Numbers packed in bytes, and polynomials laid out in shares.
+//! Numbers packed in bytes, the digest in an expanded key, and polynomials laid out in shares.
 
 use crate::random::Random;
-use independent::raccoon::Params;
+use independent::raccoon::{Params, with_digest};
 use independent::ring::{N, Q};
 
 /// The number of `width` bits, at most 57, at a bit of some bytes, the lowest bit first.
@@ -21,6 +21,11 @@ pub fn put_bits(bytes: &mut [u8], from: usize, width: usize, value: u64) {
 /// The bit of a signing key at which its full share begins.
 pub fn full_share(p: &Params) -> usize {
     8 * (p.vk_bytes() + (p.d - 1) * p.seed_bytes())
+}
+
+/// Is the digest in the bytes of an expanded key the hash of the public key before it?
+pub fn digest_is_true(p: &Params, bytes: &[u8]) -> bool {
+    bytes == with_digest(p, &bytes[..p.vk_bytes()])
 }
 
 /// The words of an expanded key.

@@ -39,13 +39,13 @@ impl Maker {
         let passes = if self == Maker::Unit { 2 } else { 1 };
         let (matrix, seeded) = (p.k * p.l * UNIFORM, p.l * (p.d - 1) * UNIFORM);
         let (vector, noisy) = (p.l, (p.l + p.k) * p.rep);
-        let challenge = binding(p) + challenge_hash(p) + CHALLENGE;
+        let (digest, challenge) = (absorbed(p.vk_bytes()), binding(p) + challenge_hash(p) + CHALLENGE);
         let counts = [
             self.masks(p.d, vector + noisy) + noise(p, p.ut) + matrix + seeded,
-            passes * seeded,
+            passes * seeded + digest,
             self.masks(p.d, vector),
             self.masks(p.d, vector + noisy + 3 * vector) + noise(p, p.uw) + matrix + challenge,
-            matrix + challenge,
+            matrix + digest + challenge,
         ];
         counts.map(|count| count as u64)
     }
@@ -76,9 +76,9 @@ fn noise(p: &Params, u: usize) -> usize {
     (p.l + p.k) * p.rep * p.d * squeezed(u.div_ceil(8) * N)
 }
 
-/// mu, the hash of the public key's hash and the message.
+/// mu, the hash of the public key's digest and the message.
 fn binding(p: &Params) -> usize {
-    absorbed(p.vk_bytes()) + absorbed(p.hash_bytes() + MESSAGE)
+    absorbed(p.hash_bytes() + MESSAGE)
 }
 
 /// The hash of a header, the rounded commitment, a byte for each coefficient, and mu.

@@ -4,23 +4,24 @@
 use crate::layout::{full_share, put_bits, sums};
 use crate::random::Random;
 use independent::keccak::shake256;
-use independent::raccoon::{Edition, Noise, Params, expand, keygen, sign};
+use independent::raccoon::{Edition, Noise, Params, expand, keygen, sign, with_digest};
 use independent::ring::{N, Q, sample_q};
 use std::sync::OnceLock;
 
 pub const SETS: [usize; 3] = [128, 192, 256];
 pub const SHARES: [usize; 6] = [1, 2, 4, 8, 16, 32];
 
-/// A signing key, and the words that it expands to.
+/// A signing key, and the bytes and words that it expands to.
 pub struct Pair {
     pub packed: Vec<u8>,
+    pub bytes: Vec<u8>,
     pub words: Vec<u64>,
 }
 
 impl Pair {
     fn new(p: &Params, packed: Vec<u8>) -> Pair {
-        let words = expand(p, &packed).expect("shares that fill");
-        Pair { packed, words }
+        let (bytes, words) = (with_digest(p, &packed[..p.vk_bytes()]), expand(p, &packed).expect("shares that fill"));
+        Pair { packed, bytes, words }
     }
 }
 
@@ -43,7 +44,7 @@ impl Base {
         let message = random.bytes(50);
         let (noise, mask_seeds) = (random.bytes(16 * p.noise_bytes()), random.bytes(16 * 32));
         let attempts: Vec<_> = noise.chunks_exact(p.noise_bytes()).map(Noise::Seeds).zip(mask_seeds.chunks_exact(32)).collect();
-        let signature = sign(&p, &key.packed[..p.vk_bytes()], &key.words, &message, &attempts).2.expect("a signature");
+        let signature = sign(&p, &key.bytes, &key.words, &message, &attempts).2.expect("a signature");
         Base { p, key, large, message, signature }
     }
 }

@@ -42,8 +42,8 @@ fn pairs() -> impl Iterator<Item = Params> {
     [128, 192, 256].into_iter().flat_map(move |set| shares.map(|d| Params::new(set, d, Edition::Printed).unwrap()))
 }
 
-fn of_set(p: &Params) -> [usize; 5] {
-    [p.k, p.l, p.vk_bytes(), p.sig_bytes, p.seed_bytes()]
+fn of_set(p: &Params) -> [usize; 6] {
+    [p.k, p.l, p.vk_bytes(), p.expanded_bytes(), p.sig_bytes, p.seed_bytes()]
 }
 
 fn of_pair(p: &Params) -> [usize; 6] {
@@ -56,7 +56,7 @@ fn example() {
     let lines: Vec<&str> = output.lines().collect();
     assert_eq!(lines.len(), 8, "{output}");
     assert_eq!(lines[0], "key: 14848 bytes, the first 2256 are the public key");
-    assert_eq!(lines[1], "expanded key: 8192 words in 4 shares");
+    assert_eq!(lines[1], "expanded key: 2288 bytes, 8192 words in 4 shares");
     let attempt: u32 = lines[2].strip_prefix("signature: 11524 bytes, attempt ").unwrap().parse().unwrap();
     assert!((1..=16).contains(&attempt), "{output}");
     assert_eq!(lines[3], "the order: 0, accepted");
@@ -71,7 +71,7 @@ fn example() {
 fn exports() {
     let output = printed("host/compare/tests/exports.c");
     let sizes: Vec<Vec<usize>> = pairs().map(|p| [&[p.kappa, p.d][..], &of_set(&p), &of_pair(&p)].concat()).collect();
-    assert_eq!(numbers(&output, 13), sizes);
+    assert_eq!(numbers(&output, 14), sizes);
     let rest: Vec<&str> = output.lines().skip(18).collect();
     let expected = [
         "empty 7 7 3 3 3 3 3 3 3 3 3 3 8 8",
@@ -98,8 +98,8 @@ fn printed_tables() {
     let all: Vec<Vec<usize>> = pairs().map(|p| [&[p.kappa, p.d][..], &of_pair(&p)].concat()).collect();
     let ends: Vec<Vec<usize>> = all.iter().filter(|row| row[1] == 1 || row[1] == 32).cloned().collect();
     let (header, guide) = (text("include/raccoon.h"), text("docs/GUIDE.md").replace('|', " "));
-    assert_eq!((numbers(&header, 6), numbers(&header, 8)), (sets.clone(), all));
-    assert_eq!((numbers(&guide, 6), numbers(&guide, 8)), (sets, ends));
+    assert_eq!((numbers(&header, 7), numbers(&header, 8)), (sets.clone(), all));
+    assert_eq!((numbers(&guide, 7), numbers(&guide, 8)), (sets, ends));
 }
 
 /// Every export of the unit stands in the header and is called by exports.c.

@@ -1,6 +1,6 @@
 //! The checking program `target/bin/checker`, which `rt check` writes: what it prints on its standard input.
 
-use compare::independent::raccoon::{Edition, Noise, Params, expand, keygen, sign, verify};
+use compare::independent::raccoon::{Edition, Noise, Params, expand, keygen, sign, verify, with_digest};
 use compare::known::xof;
 use std::io::Write;
 use std::path::Path;
@@ -36,7 +36,7 @@ fn signed(message: &[u8]) -> [Vec<u8>; 3] {
     let noise = xof("noise 128-1", 16 * p.noise_bytes());
     let mask = xof("mask", 32);
     let attempts: Vec<(Noise, &[u8])> = noise.chunks_exact(p.noise_bytes()).map(|n| (Noise::Seeds(n), &mask[..])).collect();
-    let signature = sign(&p, vk, &expand(&p, &key).unwrap(), message, &attempts).2.unwrap();
+    let signature = sign(&p, &with_digest(&p, vk), &expand(&p, &key).unwrap(), message, &attempts).2.unwrap();
     assert_eq!(signature.len(), SIGNATURE);
     [vk.to_vec(), signature, message.to_vec()]
 }

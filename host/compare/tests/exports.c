@@ -10,9 +10,10 @@ static void sizes(void)
     for (size_t i = 0; i < 3; i++) {
         for (size_t j = 0; j < 6; j++) {
             uint32_t s = SETS[i], d = SHARES[j];
-            printf("%u %u %u %u %u %u %u %u %u %u %u %u %u\n", s, d, RACCOON_K(s), RACCOON_L(s), RACCOON_PUBLIC_KEY_BYTES(s),
-                   RACCOON_SIGNATURE_BYTES(s), RACCOON_SEED_BYTES(s), RACCOON_SIGNING_KEY_BYTES(s, d), RACCOON_KEYGEN_SEED_BYTES(s, d),
-                   RACCOON_NOISE_SEED_BYTES(s, d), RACCOON_NOISE_WORDS(s, d), RACCOON_SHARE_WORDS(s, d), RACCOON_WORK_WORDS(s, d));
+            printf("%u %u %u %u %u %u %u %u %u %u %u %u %u %u\n", s, d, RACCOON_K(s), RACCOON_L(s), RACCOON_PUBLIC_KEY_BYTES(s),
+                   RACCOON_EXPANDED_BYTES(s), RACCOON_SIGNATURE_BYTES(s), RACCOON_SEED_BYTES(s), RACCOON_SIGNING_KEY_BYTES(s, d),
+                   RACCOON_KEYGEN_SEED_BYTES(s, d), RACCOON_NOISE_SEED_BYTES(s, d), RACCOON_NOISE_WORDS(s, d), RACCOON_SHARE_WORDS(s, d),
+                   RACCOON_WORK_WORDS(s, d));
         }
     }
 }
@@ -35,7 +36,7 @@ static void empty_calls(void)
 enum { SET = 192, COUNT = 2, TRIES = 16 };
 
 static uint8_t seeds[RACCOON_KEYGEN_SEED_BYTES(SET, COUNT)], key[RACCOON_SIGNING_KEY_BYTES(SET, COUNT)];
-static uint8_t bytes[RACCOON_PUBLIC_KEY_BYTES(SET)], new_bytes[RACCOON_PUBLIC_KEY_BYTES(SET)];
+static uint8_t bytes[RACCOON_EXPANDED_BYTES(SET)], new_bytes[RACCOON_EXPANDED_BYTES(SET)];
 static uint64_t words[RACCOON_SHARE_WORDS(SET, COUNT)], new_words[RACCOON_SHARE_WORDS(SET, COUNT)];
 static uint8_t noise[TRIES * RACCOON_NOISE_SEED_BYTES(SET, COUNT)], masks[TRIES * RACCOON_MASK_SEED_BYTES];
 static uint64_t noise_words[TRIES * RACCOON_NOISE_WORDS(SET, COUNT)], work[RACCOON_WORK_WORDS(SET, COUNT)];
@@ -44,12 +45,13 @@ static const uint8_t MESSAGE[] = "exports";
 
 #define BYTES(array) array, sizeof(array)
 #define WORDS(array) array, sizeof(array) / sizeof((array)[0])
+#define PUBLIC_KEY bytes, RACCOON_PUBLIC_KEY_BYTES(SET)
 
 /* The statuses of signing and of verifying what was signed. The signature is cleared, so that a later line does not pass by an earlier one. */
 static void signed_line(const char *name, struct raccoon_signed answer, int kat)
 {
-    uint32_t verdict = kat ? raccoon_kat_verify(SET, BYTES(bytes), BYTES(MESSAGE), BYTES(signature))
-                           : raccoon_verify(SET, BYTES(bytes), BYTES(MESSAGE), BYTES(signature));
+    uint32_t verdict = kat ? raccoon_kat_verify(SET, PUBLIC_KEY, BYTES(MESSAGE), BYTES(signature))
+                           : raccoon_verify(SET, PUBLIC_KEY, BYTES(MESSAGE), BYTES(signature));
     printf("%s %u %u\n", name, answer.status, verdict);
     for (size_t i = 0; i < sizeof signature; i++) {
         signature[i] = 0;
@@ -94,7 +96,7 @@ static void round_trips(void)
                                              WORDS(work)), 1);
     printf("no message %u", raccoon_kat_sign(SET, COUNT, TRIES, BYTES(key), NULL, 0, BYTES(noise), BYTES(masks), BYTES(signature),
                                              WORDS(work)).status);
-    printf(" %u\n", raccoon_kat_verify(SET, BYTES(bytes), NULL, 0, BYTES(signature)));
+    printf(" %u\n", raccoon_kat_verify(SET, PUBLIC_KEY, NULL, 0, BYTES(signature)));
     printf("samplers %u", raccoon_sample_uniform(BYTES(noise), WORDS(polynomial)));
     printf(" %u\n", raccoon_sample_challenge(SET, BYTES(noise), BYTES(coefficients)));
 }

@@ -3,10 +3,10 @@
 
 use compare::case::{Answer, Calls, Case, EXPECTED, Field, GUARD, Inputs, KINDS, Kind, UNIT, compare, only_read};
 use compare::fuzz::{Fuzz, Tally};
-use compare::independent::raccoon::{Edition, Params, check_bounds, read};
+use compare::independent::raccoon::{Edition, Params, check_bounds, read, with_digest};
 use compare::pool::{SETS, SHARES};
 use compare::random::Random;
-use compare::unit::{self, Signed, Signing};
+use compare::unit::{self, Key, Signed, Signing};
 use std::collections::BTreeSet;
 use std::process::Command;
 
@@ -119,7 +119,10 @@ fn lengths_around_every_limit() {
                 // a sampler takes bytes of any length
                 for &field in kind.fields().iter().filter(|&&field| !(kind.samples() && field == Field::Seeds)) {
                     let right = kind.length(field, &p, 1);
-                    for length in [right, right - 1, right + 1, 0, 2 * right] {
+                    // a public key alone in place of an expanded key's bytes
+                    let expanded = matches!(field, Field::Key | Field::ResultBytes) && right == p.expanded_bytes();
+                    let public_key = expanded.then_some(p.vk_bytes());
+                    for length in [right, right - 1, right + 1, 0, 2 * right].into_iter().chain(public_key) {
                         check_length(&well_formed, field, right, length);
                     }
                 }
@@ -234,6 +237,45 @@ fn wrong_on_keys() -> Vec<Wrong> {
     ]
 }
 
+/// The bytes of an expanded key with the digest made anew.
+fn anew(set: u32, bytes: &[u8]) -> Vec<u8> {
+    let p = Params::new(set as usize, 1, Edition::Printed).unwrap();
+    with_digest(&p, &bytes[..p.vk_bytes()])
+}
+
+fn wrong_on_digests() -> Vec<Wrong> {
+    let hashes = |edition, input: &Signing, signature: &mut [u8], work: &mut [u64]| {
+        let mut signed = unit::sign(edition, input, signature, work);
+        if let (0, Key::Expanded(bytes, words)) = (signed.status, input.key) {
+            let key = Key::Expanded(&anew(input.set, bytes), words);
+            signed = unit::sign(edition, &Signing { key, ..*input }, signature, work);
+        }
+        signed
+    };
+    let mends = |set, shares, key: (&[u8], &[u64]), mask_seed: &[u8], bytes: &mut [u8], words: &mut [u64]| {
+        let status = unit::refresh_key(set, shares, key, mask_seed, bytes, words);
+        if status == 0 {
+            bytes.copy_from_slice(&anew(set, key.0));
+        }
+        status
+    };
+    let in_front = |edition, set, shares, key: &[u8], bytes: &mut [u8], words: &mut [u64]| {
+        let status = unit::expand_key(edition, set, shares, key, bytes, words);
+        if status == 0 {
+            bytes.rotate_right(set as usize / 4);
+        }
+        status
+    };
+    let hashing = Calls { sign: hashes, ..UNIT };
+    vec![
+        ("hashes the public key in signing", Kind::SignExpanded, hashing),
+        ("hashes the public key in signing", Kind::SignExpandedExplicit, hashing),
+        ("mends the digest in refreshing", Kind::RefreshKey, Calls { refresh_key: mends, ..UNIT }),
+        ("puts the digest in front", Kind::ExpandKey, Calls { expand_key: in_front, ..UNIT }),
+        ("puts the digest in front", Kind::KatExpandKey, Calls { expand_key: in_front, ..UNIT }),
+    ]
+}
+
 /// Do the fields of a signature pass, with another bound of the sum?
 fn passes(set: u32, signature: &[u8], b22: impl Fn(u64) -> u64) -> bool {
     let p = Params::new(set as usize, 1, Edition::Printed).unwrap();
@@ -315,7 +357,8 @@ fn wrong_samplers() -> Vec<Wrong> {
 #[test]
 fn a_wrong_unit_is_noticed() {
     let fuzz = Fuzz::new(SEED);
-    for (what, kind, calls) in [wrong_on_keys(), wrong_on_bounds(), wrong_on_signatures(), wrong_samplers()].concat() {
+    let all = [wrong_on_keys(), wrong_on_digests(), wrong_on_bounds(), wrong_on_signatures(), wrong_samplers()].concat();
+    for (what, kind, calls) in all {
         let mut these = (0..CASES).filter(|&number| fuzz.case(number).kind == kind);
         let first = these.find_map(|number| Some((number, fuzz.put(number, &calls, &mut Tally::new()).err()?)));
         let (number, difference) = first.unwrap_or_else(|| panic!("a unit that {what} was not noticed"));

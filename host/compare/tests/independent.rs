@@ -1,8 +1,9 @@
 //! The independent implementation against the known answers of paper 01's calls.
 
-use compare::independent::raccoon::{Edition, Noise, Params, expand, keygen, refresh, sign, verify};
+use compare::independent::raccoon::{Edition, Noise, Params, expand, keygen, refresh, sign, verify, with_digest};
 use compare::known::{digest, known, word_bytes, xof};
 
+/// Of an expanded key as the known answers have it, without the digest of its public key.
 fn expanded_digest(vk: &[u8], words: &[u64]) -> String {
     digest(&[vk.to_vec(), word_bytes(words)].concat())
 }
@@ -25,7 +26,7 @@ fn keys_and_signatures_of_the_known_calls() {
         let mask = xof("mask", 32);
         let attempts: Vec<(Noise, &[u8])> = noise.chunks_exact(p.noise_bytes()).map(|n| (Noise::Seeds(n), &mask[..])).collect();
         for (call, shares) in [("sign", &words), ("sign refreshed", &fresh)] {
-            let (status, tries, signature) = sign(&p, vk, shares, &message, &attempts);
+            let (status, tries, signature) = sign(&p, &with_digest(&p, vk), shares, &message, &attempts);
             let signature = signature.unwrap();
             assert_eq!(format!("{status} {tries} {}", digest(&signature)), known(&format!("{name} {call}")));
             assert_eq!(verify(128, Edition::Printed, vk, &message, &signature), 0);

@@ -1,11 +1,11 @@
 //! Signing of the proved code: known answers, all 18 pairs of set and share count in every form of key and noise, equal totals at different
-//! share counts, attempts that fail, and each refusal. Status, attempts and signature are compared with the independent implementation, with
-//! guards around the result and the work buffer; what was signed is verified.
+//! share counts, keys with another digest, attempts that fail, and each refusal. Status, attempts and signature are compared with the
+//! independent implementation, with guards around the result and the work buffer; what was signed is verified.
 
-use compare::independent::raccoon::{Edition, Noise, Params, expand, form_bits, keygen, read, refresh, sample_u};
+use compare::independent::raccoon::{Edition, Noise, Params, expand, form_bits, keygen, read, refresh, sample_u, with_digest};
 use compare::independent::ring::{N, Q};
 use compare::known::{digest, known, word_bytes, xof};
-use compare::layout::{full_share, laid_out, put_bits, small_totals, sums, words_below_q};
+use compare::layout::{digest_is_true, full_share, laid_out, put_bits, small_totals, sums, words_below_q};
 use compare::pool::{SETS, SHARES};
 use compare::random::Random;
 use compare::{expect, unit};
@@ -67,7 +67,7 @@ impl Call {
     }
 
     /// Runs the unit. The guards and the inputs must be as they were, the result too with a refusal, the work buffer with refusals 1 to 8; else
-    /// the work buffer must be zero, and the verifier must accept what was signed.
+    /// the work buffer must be zero, and the verifier must accept what was signed, or say 16 to it where the key's digest is false.
     fn run_on(&self, fill: u64) -> Answer {
         const GUARD: u64 = 0x5555_aaaa_1234_5678;
         let mut signature = vec![GUARD as u8; self.signature + 32];
@@ -92,8 +92,15 @@ impl Call {
         }
         let signature = signature[result].to_vec();
         let p = Params::new(self.set as usize, 1, self.edition).unwrap();
-        let (Key::Packed(key) | Key::Expanded(key, _)) = &self.key;
-        assert_eq!(unit::verify(self.edition, self.set, &key[..p.vk_bytes()], &self.message, &signature), 0, "the verifier");
+        let (key, verdict) = match &self.key {
+            Key::Expanded(bytes, _) if !digest_is_true(&p, bytes) => (bytes, 16),
+            Key::Packed(key) | Key::Expanded(key, _) => (key, 0),
+        };
+        assert_eq!(
+            unit::verify(self.edition, self.set, &key[..p.vk_bytes()], &self.message, &signature),
+            verdict,
+            "the verifier"
+        );
         (0, attempts, Some(signature))
     }
 
@@ -147,7 +154,7 @@ fn signing_key(p: &Params) -> Vec<u8> {
 }
 
 fn expanded(p: &Params, key: &[u8]) -> Key {
-    Key::Expanded(key[..p.vk_bytes()].to_vec(), expand(p, key).unwrap())
+    Key::Expanded(with_digest(p, &key[..p.vk_bytes()]), expand(p, key).unwrap())
 }
 
 /// The call of the known answers for 128-d: two attempts from seeds.
@@ -174,7 +181,7 @@ fn known_signatures() {
         assert_eq!(short(&call.run()), known(&format!("128-{d} sign")));
         let Key::Packed(key) = &call.key else { panic!() };
         let fresh = refresh(&p, &expand(&p, key).unwrap(), &xof("mask", 32));
-        let refreshed = Call { key: Key::Expanded(key[..2256].to_vec(), fresh), ..call.clone() };
+        let refreshed = Call { key: Key::Expanded(with_digest(&p, &key[..2256]), fresh), ..call.clone() };
         assert_eq!(short(&refreshed.run()), known(&format!("128-{d} sign refreshed")));
     }
 }
@@ -189,7 +196,7 @@ fn known_explicit_noise() {
     for d in [1, 2] {
         let p = params(128, d);
         let words = |label: &str, n: usize| stream_words(&format!("{label} 128-{d}"), n * (d - 1) * N);
-        let key = Key::Expanded(key[..2256].to_vec(), laid_out(&secret, d, &words("split", 4)));
+        let key = Key::Expanded(with_digest(&p, &key[..2256]), laid_out(&secret, d, &words("split", 4)));
         let (large, small) = (laid_out(&large, d, &words("large", 9)), laid_out(&totals, d, &words("small", 9)));
         for (name, second) in [("large, small", &small), ("large, large", &large)] {
             let noise = OwnedNoise::Words([&large[..], second].concat());
@@ -341,10 +348,10 @@ fn all_sets_and_share_counts_in_every_form() {
     }
 }
 
-/// Secret and totals laid out for so many shares.
-fn laid_out_call(p: &Params, vk: &[u8], secret: &[u64], totals: &[&Vec<u64>], message: &[u8], random: &mut Random) -> Call {
+/// Secret and totals laid out for so many shares; the bytes are a public key and a digest.
+fn laid_out_call(p: &Params, bytes: &[u8], secret: &[u64], totals: &[&Vec<u64>], message: &[u8], random: &mut Random) -> Call {
     let mut lay = |x: &[u64]| laid_out(x, p.d, &words_below_q(x.len() * (p.d - 1), random));
-    let key = Key::Expanded(vk.to_vec(), lay(secret));
+    let key = Key::Expanded(bytes.to_vec(), lay(secret));
     let noise = totals.iter().flat_map(|x| lay(x)).collect();
     let mut call = Call::new(p, key, message.to_vec(), OwnedNoise::Words(noise));
     call.masks = random.bytes(32 * totals.len());
@@ -357,7 +364,7 @@ fn equal_totals_at_different_share_counts() {
     for set in SETS {
         let seeded = params(set, 4);
         let key = signing_key(&seeded);
-        let (vk, secret) = (&key[..seeded.vk_bytes()], sums(&expand(&seeded, &key).unwrap(), 4));
+        let (bytes, secret) = (&with_digest(&seeded, &key[..seeded.vk_bytes()]), sums(&expand(&seeded, &key).unwrap(), 4));
         let seeds = random.bytes(2 * seeded.noise_bytes());
         let totals: Vec<Vec<u64>> = seeds.chunks_exact(seeded.noise_bytes()).map(|x| seed_totals(&seeded, x)).collect();
         let message = random.bytes(64);
@@ -365,20 +372,83 @@ fn equal_totals_at_different_share_counts() {
         let first = Call::new(&seeded, Key::Packed(key.clone()), message.clone(), OwnedNoise::Seeds(seeds)).run();
         assert_eq!(first.0, 0);
         let large: Vec<u64> = totals[0].iter().map(|x| (x + (1 << 47)) % Q).collect();
-        let later = laid_out_call(&params(set, 1), vk, &secret, &[&large, &totals[0]], &message, &mut random).run();
+        let later = laid_out_call(&params(set, 1), bytes, &secret, &[&large, &totals[0]], &message, &mut random).run();
         assert!((later.0, later.1) == (0, 2) && later.2 == first.2);
         for d in SHARES {
             let p = params(set, d);
-            assert!(laid_out_call(&p, vk, &secret, &[&totals[0], &totals[1]], &message, &mut random).run() == first, "{set}-{d}");
             assert!(
-                laid_out_call(&p, vk, &secret, &[&large, &totals[0]], &message, &mut random).run() == later,
+                laid_out_call(&p, bytes, &secret, &[&totals[0], &totals[1]], &message, &mut random).run() == first,
+                "{set}-{d}"
+            );
+            assert!(
+                laid_out_call(&p, bytes, &secret, &[&large, &totals[0]], &message, &mut random).run() == later,
                 "{set}-{d}, second attempt"
             );
             // a total moved by one gives another signature
             let mut moved = totals[0].clone();
             moved[3] = (moved[3] + 1) % Q;
-            let other = laid_out_call(&p, vk, &secret, &[&moved], &message, &mut random).run();
+            let other = laid_out_call(&p, bytes, &secret, &[&moved], &message, &mut random).run();
             assert!(other.0 == 0 && other.2 != first.2, "{set}-{d}, a total moved");
+        }
+    }
+}
+
+/// A key with one bit of its digest turned signs with that digest: as the independent implementation does, not as with the true one, and
+/// the verifiers say 16. Units of all share counts that are lent the same public key and digest still agree.
+#[test]
+fn a_turned_digest() {
+    let mut random = Random(66);
+    for set in SETS {
+        let p = params(set, 2);
+        let key = signing_key(&p);
+        let (vk, words) = (&key[..p.vk_bytes()], expand(&p, &key).unwrap());
+        let (bytes, secret) = (with_digest(&p, vk), sums(&words, 2));
+        let (message, totals) = (random.bytes(40), small_totals(&p, &mut random));
+        let seeds = OwnedNoise::Seeds(random.bytes(2 * p.noise_bytes()));
+        let signed = |key: Key| Call::new(&p, key, message.clone(), seeds.clone()).checked();
+        let packed = signed(Key::Packed(key.clone()));
+        assert!(packed.0 == 0 && signed(Key::Expanded(bytes.clone(), words.clone())) == packed, "{set}: the true digest");
+        for (at, bit) in [(vk.len(), 1), (vk.len() + p.hash_bytes() / 2, 8), (bytes.len() - 1, 0x80)] {
+            let mut turned = bytes.clone();
+            turned[at] ^= bit;
+            let (status, _, signature) = signed(Key::Expanded(turned.clone(), words.clone()));
+            assert!(status == 0 && signature != packed.2, "{set}, byte {at}");
+            let verdicts = [unit::verify, expect::verify]
+                .map(|verify| verify(p.edition, set as u32, vk, &message, signature.as_ref().unwrap()));
+            assert_eq!(verdicts, [16; 2], "{set}, byte {at}");
+            let mut explicit = |d: usize, bytes: &[u8]| {
+                laid_out_call(&params(set, d), bytes, &secret, &[&totals], &message, &mut random).checked()
+            };
+            let one = explicit(1, &turned);
+            assert!(one.0 == 0 && one.2 != explicit(1, &bytes).2, "{set}, byte {at}, explicit noise");
+            for d in SHARES {
+                assert!(explicit(d, &turned) == one, "{set}-{d}, byte {at}: the same digest in other shares");
+            }
+        }
+    }
+}
+
+/// A digest of any kind signs; public key and digest one byte short or long, or the public key alone, get 3.
+#[test]
+fn digests_and_lengths_of_expanded_keys() {
+    for set in SETS {
+        let p = params(set, 2);
+        let key = signing_key(&p);
+        let Key::Expanded(bytes, words) = expanded(&p, &key) else { panic!() };
+        let totals = laid_out(&small_totals(&p, &mut Random(67)), 2, &stream_words("others", (p.l + p.k) * N));
+        for noise in [OwnedNoise::Seeds(xof("noise", p.noise_bytes())), OwnedNoise::Words(totals)] {
+            let call = |bytes: &[u8]| Call::new(&p, Key::Expanded(bytes.to_vec(), words.clone()), vec![7], noise.clone());
+            let long = [&bytes[..], &[0]].concat();
+            for n in [p.vk_bytes(), bytes.len() - 1, bytes.len() + 1] {
+                assert_eq!(call(&long[..n]).numbers(), (3, 0), "{set}: {n} for {}", bytes.len());
+            }
+            for value in [0, 0xff] {
+                let mut any = bytes.clone();
+                any[p.vk_bytes()..].fill(value);
+                assert_eq!(call(&any).numbers(), (0, 1), "{set}: a digest of {value}");
+                put_bits(&mut any, 8 * p.vk_bytes() - 7, 7, 125);
+                assert_eq!(call(&any).numbers(), (4, 0), "{set}: a coefficient of 125");
+            }
         }
     }
 }
@@ -413,11 +483,11 @@ fn attempts_that_fail() {
     for (set, d) in [(128, 1), (128, 2), (192, 4), (256, 1)] {
         let p = params(set, d);
         let key = signing_key(&p);
-        let (vk, secret) = (&key[..p.vk_bytes()], sums(&expand(&p, &key).unwrap(), d));
+        let (bytes, secret) = (&with_digest(&p, &key[..p.vk_bytes()]), sums(&expand(&p, &key).unwrap(), d));
         let good: [Vec<u64>; 3] = std::array::from_fn(|_| small_totals(&p, &mut random));
         let [a, b, c] = &good;
         let bad = failing_totals(&p, &mut random);
-        let mut numbers = |totals: &[&Vec<u64>]| laid_out_call(&p, vk, &secret, totals, b"attempts", &mut random).numbers();
+        let mut numbers = |totals: &[&Vec<u64>]| laid_out_call(&p, bytes, &secret, totals, b"attempts", &mut random).numbers();
         for (name, x) in &bad {
             let y = &bad[3].1;
             assert_eq!(numbers(&[x, a, b]), (0, 2), "{set}-{d}: {name}, first");
@@ -452,14 +522,15 @@ fn length_to_the_bit() {
     for (set, ones, full, over) in [(128, 1000, 88, 32), (192, 1310, 345, 152), (256, 1770, 245, 561)] {
         let p = params(set, 1);
         let key = signing_key(&p);
-        let (vk, secret) = (&key[..p.vk_bytes()], expand(&p, &key).unwrap());
+        let (bytes, secret) = (&with_digest(&p, &key[..p.vk_bytes()]), expand(&p, &key).unwrap());
         let totals = |number: u64| {
             let mut totals = small_totals(&p, &mut Random(number));
             // one more bit in so many codes of the response
             totals.iter_mut().take(ones).for_each(|x| *x = if *x < Q / 2 { *x + (1 << 40) } else { *x - (1 << 40) });
             totals
         };
-        let call = |d: usize, totals: &[&Vec<u64>]| laid_out_call(&params(set, d), vk, &secret, totals, b"near", &mut Random(64));
+        let call =
+            |d: usize, totals: &[&Vec<u64>]| laid_out_call(&params(set, d), bytes, &secret, totals, b"near", &mut Random(64));
         let (full, over) = (totals(full), totals(over));
         let answer = call(1, &[&full]).checked();
         let fields = read(&p, &answer.2.expect("a signature")).unwrap();
@@ -476,7 +547,7 @@ fn sum_of_squares_at_its_bound() {
     for (set, hints, at, above) in [(128, 640, 20, 113), (192, 1150, 200, 262), (256, 1780, 79, 178)] {
         let p = params(set, 1);
         let key = signing_key(&p);
-        let (vk, secret) = (&key[..p.vk_bytes()], expand(&p, &key).unwrap());
+        let (bytes, secret) = (&with_digest(&p, &key[..p.vk_bytes()]), expand(&p, &key).unwrap());
         let call = |sum: u64, number: u32| {
             let mut totals = vec![0u64; (p.l + p.k) * N];
             let mut rest = sum - (hints << 24);
@@ -487,7 +558,7 @@ fn sum_of_squares_at_its_bound() {
                 *x = root << 32 | 1 << 31;
             }
             assert_eq!(rest, 0);
-            laid_out_call(&p, vk, &secret, &[&totals], &number.to_le_bytes(), &mut Random(65))
+            laid_out_call(&p, bytes, &secret, &[&totals], &number.to_le_bytes(), &mut Random(65))
         };
         let fields = read(&p, &call(p.b22, at).checked().2.expect("a signature")).unwrap();
         let squares = |v: &[i64], shift: u32| v.iter().map(|x| (x.unsigned_abs() >> shift).pow(2)).sum::<u64>();
@@ -510,6 +581,7 @@ fn faults(p: &Params) -> Vec<Fault<'static>> {
     add(3, "key of other shares", Box::new(|c| c.d = 4));
     add(3, "key long", Box::new(|c| change_key(c, |k| k.push(0), |b, _| b.push(0))));
     add(3, "key short", Box::new(|c| change_key(c, |k| k.truncate(k.len() - 1), |b, _| b.truncate(b.len() - 1))));
+    add(3, "public key alone", Box::new(|c| change_key(c, |k| k.truncate(2256), |b, _| b.truncate(2256))));
     add(3, "words long", Box::new(|c| change_key(c, |k| k.extend([0; 8]), |_, w| w.push(0))));
     add(3, "words short", Box::new(|c| change_key(c, |k| k.truncate(k.len() - 8), |_, w| w.truncate(w.len() - 1))));
     add(3, "no key", Box::new(|c| change_key(c, |k| k.clear(), |b, _| b.clear())));
@@ -657,7 +729,7 @@ fn limits_that_pass() {
         // a word q - 1 in key and noise, the sums as they were
         let (secret, totals) = (sums(&expand(&p, &key).unwrap(), 2), seed_totals(&p, &xof("limits", p.noise_bytes())));
         let words = |n: usize| vec![Q - 1; n * N];
-        let highest = Key::Expanded(key[..p.vk_bytes()].to_vec(), laid_out(&secret, 2, &words(p.l)));
+        let highest = Key::Expanded(with_digest(&p, &key[..p.vk_bytes()]), laid_out(&secret, 2, &words(p.l)));
         let call = Call::new(&p, highest, vec![], OwnedNoise::Words(laid_out(&totals, 2, &words(p.l + p.k))));
         assert!(call.checked() == one.run(), "words of q - 1");
     }

@@ -49,30 +49,30 @@ fn all_pairs() {
 }
 
 /// 128-1: no masks but the generator's first block; 72 noise streams of 4 or 23 blocks; 20 entries of the matrix, of 28 blocks;
-/// 17 and 1 blocks of mu, 20 of the challenge hash, 1 of the challenge.
+/// 17 blocks of the digest, 1 of mu, 20 of the challenge hash, 1 of the challenge.
 #[test]
 fn permutations_of_one_share() {
-    let matrix = 20 * 28;
-    let (generating, verifying) = (72 * 4 + matrix, matrix + 17 + 1 + 20 + 1);
-    let signing = 72 * 23 + verifying;
-    let counts = [(1 + generating, generating), (0, 0), (1, 0), (1 + signing, signing), (verifying, verifying)];
-    assert_eq!(counts, [(849, 848), (0, 0), (1, 0), (2256, 2255), (599, 599)]);
+    let (matrix, digest) = (20 * 28, 17);
+    let (generating, verifying) = (72 * 4 + matrix, matrix + digest + 1 + 20 + 1);
+    let signing = 72 * 23 + verifying - digest;
+    let counts = [(1 + generating, generating), (digest, digest), (1, 0), (1 + signing, signing), (verifying, verifying)];
+    assert_eq!(counts, [(849, 848), (17, 17), (1, 0), (2239, 2238), (599, 599)]);
     assert_eq!(figures("Permutations", "128-1").map(|[unit, independent, _]| (unit as u32, independent as u32)), counts);
 }
 
 /// 256-32: a zero encoding is 80 polynomials, 17 words to a block; 71 of them in generating, 7 in refreshing, 92 in signing. 2048
-/// noise streams of 4 or 19 blocks, 63 entries, 217 seeded shares; 30 and 2 blocks of mu, 35 of the challenge hash, 1 of the
-/// challenge.
+/// noise streams of 4 or 19 blocks, 63 entries, 217 seeded shares; 30 blocks of the digest, 2 of mu, 35 of the challenge hash, 1
+/// of the challenge.
 #[test]
 fn permutations_of_32_shares() {
     let masks = |encodings: u32| (encodings * 80 * 512).div_ceil(17);
     let (generating, refreshing) = (masks(71) + 2048 * 4 + (63 + 217) * 28, masks(7));
-    let verifying = 63 * 28 + 30 + 2 + 35 + 1;
-    let (expanding, signing) = (217 * 28, masks(92) + 2048 * 19 + verifying);
-    let unit = [generating, 2 * expanding, refreshing, signing, verifying];
-    let independent = [generating, expanding, refreshing, signing, verifying];
+    let (digest, verifying) = (30, 63 * 28 + 30 + 2 + 35 + 1);
+    let (seeded, signing) = (217 * 28, masks(92) + 2048 * 19 + verifying - digest);
+    let unit = [generating, 2 * seeded + digest, refreshing, signing, verifying];
+    let independent = [generating, seeded + digest, refreshing, signing, verifying];
     let counts: [(u32, u32); 5] = std::array::from_fn(|call| (unit[call], independent[call]));
-    assert_eq!(counts, [(187101, 187101), (12152, 6076), (16866, 16866), (262410, 262410), (1832, 1832)]);
+    assert_eq!(counts, [(187101, 187101), (12182, 6106), (16866, 16866), (262380, 262380), (1832, 1832)]);
     assert_eq!(figures("Permutations", "256-32").map(|[unit, independent, _]| (unit as u32, independent as u32)), counts);
 }
 

@@ -25,13 +25,13 @@ static void generating(void) {
 }
 
 static void expanding(void) {
-    status = raccoon_expand_key(set, shares, key, RACCOON_SIGNING_KEY_BYTES(set, shares), bytes, RACCOON_PUBLIC_KEY_BYTES(set), words,
+    status = raccoon_expand_key(set, shares, key, RACCOON_SIGNING_KEY_BYTES(set, shares), bytes, RACCOON_EXPANDED_BYTES(set), words,
                                 RACCOON_SHARE_WORDS(set, shares));
 }
 
 static void refreshing(void) {
-    status = raccoon_refresh_key(set, shares, bytes, RACCOON_PUBLIC_KEY_BYTES(set), words, RACCOON_SHARE_WORDS(set, shares), masks,
-                                 RACCOON_MASK_SEED_BYTES, fresh, RACCOON_PUBLIC_KEY_BYTES(set), fresh_words,
+    status = raccoon_refresh_key(set, shares, bytes, RACCOON_EXPANDED_BYTES(set), words, RACCOON_SHARE_WORDS(set, shares), masks,
+                                 RACCOON_MASK_SEED_BYTES, fresh, RACCOON_EXPANDED_BYTES(set), fresh_words,
                                  RACCOON_SHARE_WORDS(set, shares));
 }
 
@@ -43,7 +43,7 @@ static void signing(void) {
 }
 
 static void signing_expanded(void) {
-    status = raccoon_sign_expanded(set, shares, 2, bytes, RACCOON_PUBLIC_KEY_BYTES(set), words, RACCOON_SHARE_WORDS(set, shares), message,
+    status = raccoon_sign_expanded(set, shares, 2, bytes, RACCOON_EXPANDED_BYTES(set), words, RACCOON_SHARE_WORDS(set, shares), message,
                                    sizeof message, seeds, 2 * RACCOON_NOISE_SEED_BYTES(set, shares), masks, sizeof masks, signature,
                                    RACCOON_SIGNATURE_BYTES(set), work, RACCOON_WORK_WORDS(set, shares))
                  .status;
@@ -100,8 +100,8 @@ int main(void) {
         for (size_t j = 0; j < n; j++)
             seeds[j] = (uint8_t)(j * 31 + j / 251);
         key = room(RACCOON_SIGNING_KEY_BYTES(set, shares));
-        bytes = room(RACCOON_PUBLIC_KEY_BYTES(set));
-        fresh = room(RACCOON_PUBLIC_KEY_BYTES(set));
+        bytes = room(RACCOON_EXPANDED_BYTES(set));
+        fresh = room(RACCOON_EXPANDED_BYTES(set));
         signature = room(RACCOON_SIGNATURE_BYTES(set));
         words = room(8 * RACCOON_SHARE_WORDS(set, shares));
         fresh_words = room(8 * RACCOON_SHARE_WORDS(set, shares));

@@ -2,7 +2,7 @@
 //! at the edges of the bounds and of the length, damaged keys and wrong lengths. Every status is compared with the independent one.
 
 use compare::bounds::{fields_of_norm, zero_fields};
-use compare::independent::raccoon::{Edition, Fields, Noise, Params, expand, form_bits, keygen, read, sign, write};
+use compare::independent::raccoon::{Edition, Fields, Noise, Params, expand, form_bits, keygen, read, sign, with_digest, write};
 use compare::independent::ring::Q;
 use compare::known::{digest, known, response_tests, xof};
 use compare::layout::put_bits;
@@ -45,7 +45,8 @@ impl Case {
         let key = keygen(&p, &xof(&format!("tape {set}"), p.keygen_bytes()), &[1; 32]).unwrap();
         let noise = xof(&format!("noise {set}"), p.noise_bytes());
         let vk = key[..p.vk_bytes()].to_vec();
-        let signature = sign(&p, &vk, &expand(&p, &key).unwrap(), &message, &[(Noise::Seeds(&noise), &[2; 32])]).2.unwrap();
+        let (bytes, words) = (with_digest(&p, &vk), expand(&p, &key).unwrap());
+        let signature = sign(&p, &bytes, &words, &message, &[(Noise::Seeds(&noise), &[2; 32])]).2.unwrap();
         Case { p, set, vk, message, signature }
     }
     fn verdict(&self) -> u32 {
@@ -77,8 +78,8 @@ fn known_verdicts() {
         let p = Params::new(128, d, Edition::Printed).unwrap();
         let key = keygen(&p, &xof(&format!("tape 128-{d}"), p.keygen_bytes()), &xof("mask", 32)).unwrap();
         let noise = xof(&format!("noise 128-{d}"), p.noise_bytes());
-        let signature =
-            sign(&p, &key[..2256], &expand(&p, &key).unwrap(), &message, &[(Noise::Seeds(&noise), &xof("mask", 32))]).2.unwrap();
+        let (bytes, words) = (with_digest(&p, &key[..2256]), expand(&p, &key).unwrap());
+        let signature = sign(&p, &bytes, &words, &message, &[(Noise::Seeds(&noise), &xof("mask", 32))]).2.unwrap();
         assert_eq!(format!("0 1 {}", digest(&signature)), known(&format!("128-{d} sign")));
         assert_eq!(
             format!("{} -", verdict(Edition::Printed, 128, &key[..2256], &message, &signature)),
@@ -120,10 +121,9 @@ fn signatures_of_the_response_files_in_both_editions() {
             let input = &response::inputs(&p, 1)[0];
             let key = keygen(&p, &input.key_seeds, &[7; 32]).unwrap();
             let vk = &key[..p.vk_bytes()];
-            let signature =
-                sign(&p, vk, &expand(&p, &key).unwrap(), &input.message, &[(Noise::Seeds(&input.noise_seeds), &[9; 32])])
-                    .2
-                    .unwrap();
+            let (bytes, words) = (with_digest(&p, vk), expand(&p, &key).unwrap());
+            let noise = Noise::Seeds(&input.noise_seeds);
+            let signature = sign(&p, &bytes, &words, &input.message, &[(noise, &[9; 32])]).2.unwrap();
             assert_eq!(digest(&[&signature[..], &input.message].concat()), answers["sm"], "sm of {set}-{d}");
             assert_eq!(verdict(edition, set, vk, &input.message, &signature), 0, "{set}-{d}");
             assert_eq!(verdict(other, set, vk, &input.message, &signature), 16, "{set}-{d} in the other edition");

@@ -57,6 +57,10 @@ impl Params {
     pub fn vk_bytes(&self) -> usize {
         self.seed_bytes() + self.k * 448
     }
+    /// Bytes of an expanded key: the public key and its digest.
+    pub fn expanded_bytes(&self) -> usize {
+        self.vk_bytes() + self.hash_bytes()
+    }
     pub fn sk_bytes(&self) -> usize {
         self.vk_bytes() + (self.d - 1) * self.seed_bytes() + self.l * 3136
     }
@@ -299,11 +303,16 @@ pub fn expand(p: &Params, key: &[u8]) -> Option<Vec<u64>> {
     Some(words)
 }
 
+/// The bytes of an expanded key: the public key, and behind it its digest, H(vk) of line 2 of Algorithm 2.
+pub fn with_digest(p: &Params, vk: &[u8]) -> Vec<u8> {
+    [vk, &hash(&[vk], p.hash_bytes())].concat()
+}
+
 fn sharings(p: &Params, words: &[u64]) -> Vec<Vec<Poly>> {
     words.chunks_exact(p.d * N).map(|s| s.chunks_exact(N).map(|x| x.try_into().unwrap()).collect()).collect()
 }
 
-/// A new sharing of an expanded key.
+/// A new sharing of an expanded key. Its bytes stay what they are.
 pub fn refresh(p: &Params, words: &[u64], mask_seed: &[u8]) -> Vec<u64> {
     let mut masks = Masks::new(mask_seed);
     let mut s = sharings(p, words);
@@ -506,12 +515,15 @@ fn attempt(
     write(p, &fields).map_or(Attempt::Over, Attempt::Made)
 }
 
-/// Signing with an expanded key whose lengths and words are right: status, attempts, signature.
-pub fn sign(p: &Params, vk: &[u8], words: &[u64], message: &[u8], attempts: &[(Noise, &[u8])]) -> (u32, u32, Option<Vec<u8>>) {
+/// Signing with an expanded key whose lengths and words are right: status, attempts, signature. The digest is taken as it stands behind
+/// the public key.
+pub fn sign(p: &Params, bytes: &[u8], words: &[u64], message: &[u8], attempts: &[(Noise, &[u8])]) -> (u32, u32, Option<Vec<u8>>) {
+    assert_eq!(bytes.len(), p.expanded_bytes(), "public key and digest");
+    let (vk, digest) = bytes.split_at(p.vk_bytes());
     let tables = Tables::new();
     let Some(a) = matrix(p, &tables, &vk[..p.seed_bytes()]) else { return (10, 0, None) };
     let t = unpack(&vk[p.seed_bytes()..], 7);
-    let mu = hash(&[&hash(&[vk], p.hash_bytes()), message], p.hash_bytes());
+    let mu = hash(&[digest, message], p.hash_bytes());
     let mut s = sharings(p, words);
     for (number, (noise, mask_seed)) in attempts.iter().enumerate() {
         match attempt(p, &tables, &a, &t, &mu, &mut s, *noise, mask_seed) {

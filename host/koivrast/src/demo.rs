@@ -103,13 +103,12 @@ fn six_keys(set: Set, random: &mut Random) -> Result<(PublicKey, Vec<ExpandedKey
     let seeds = KeygenSeeds::draw(Params::new(set, Shares::One), os_random).map_err(Trouble::random)?;
     let making = |refusal| Trouble::refused(refusal, Doing::MakingKey);
     let whole = SigningKey::generate(seeds).and_then(|key| key.expand()).map_err(making)?;
-    let public = whole.public_key();
     let mut keys = vec![];
     for shares in Shares::ALL {
         let words = random.cut(whole.words(), shares).map_err(Trouble::random)?;
-        keys.push(ExpandedKey::from_parts(Params::new(set, shares), public.as_bytes(), &words).map_err(making)?);
+        keys.push(ExpandedKey::from_parts(Params::new(set, shares), whole.bytes(), &words).map_err(making)?);
     }
-    Ok((public, keys))
+    Ok((whole.public_key(), keys))
 }
 
 /// What each key answered.

@@ -52,8 +52,9 @@ Example:
 pub const OPEN: &str = "\
 koivrast open KEY --out FILE [--force]
 
-Expands a signing key: all shares in full, as signing needs them. Who signs
-often opens the key once.
+Expands a signing key: all shares in full, and the digest of its public key, as
+signing needs them. Who signs often opens the key once. An expanded key written
+before the digest was kept in it has another length: open the signing key again.
 
   KEY         a signing key
   --out FILE  where the expanded key goes; a secret, readable by its owner only
@@ -67,7 +68,8 @@ pub const REFRESH: &str = "\
 koivrast refresh KEY --out FILE [--force]
 
 Shares the secret of an expanded key anew: other random shares, the same secret.
-The public key stays, and signatures stay good.
+Public key and digest stay, and signatures stay good. A digest that is false stays
+so, with a warning.
 
   KEY         an expanded key
   --out FILE  where the new sharing goes; a secret, readable by its owner only.
@@ -84,7 +86,8 @@ koivrast sign --key FILE --message FILE --out FILE [--attempts COUNT] [--force]
 
 Signs a message of at most 4096 bytes. Of a longer one, sign the hash.
 
-  --key FILE        a signing key, or an expanded key
+  --key FILE        a signing key, or an expanded key; one whose digest is false
+                    signs with a warning, and verify refuses the signature with 16
   --message FILE    what is signed, byte for byte; '-' is standard input
   --out FILE        where the signature goes; '-' is standard output
   --attempts COUNT  how many attempts are allowed, 1 to 16; 16 if not given
@@ -115,12 +118,13 @@ Examples:
 pub const INSPECT: &str = "\
 koivrast inspect FILE...
 
-Tells what is in keys and signatures: set, share count, sizes; of a signature
-also the bits used of its field, its norms beside their bounds, and its hint as a
-chart; of one over the bounds the coefficient that decided, its polynomial and its
-place counted from 0, and why; of several keys whether their public key is the
-same. Nothing secret is printed. Exit status 1: a file is no key and no signature,
-or not in order. Whether a signature is good, only verify says.
+Tells what is in keys and signatures: set, share count, sizes; of an expanded key
+also the digest and whether it is that of the public key; of a signature the bits
+used of its field, its norms beside their bounds, and its hint as a chart; of one
+over the bounds the coefficient that decided, its polynomial and its place counted
+from 0, and why; of several keys whether their public key is the same. Nothing
+secret is printed. Exit status 1: a file is no key and no signature, or not in
+order. Whether a signature is good, only verify says.
 
   FILE  a signing key, expanded key, public key or signature; one may be '-',
         standard input

@@ -2,6 +2,7 @@
 
 use crate::args::Args;
 use crate::files::{Contents, print};
+use crate::keys::{FALSE_DIGEST, unknown};
 use crate::kind::{Kind, LONGEST, kind_of_length};
 use crate::trouble::Trouble;
 use independent::keccak::shake256;
@@ -47,12 +48,7 @@ pub fn run(args: &Args) -> Result<(), Trouble> {
 
 fn inspect(path: &Path) -> Result<Findings, Trouble> {
     let file = Contents::read(path, LONGEST)?;
-    let Some(kind) = kind_of_length(file.len()) else {
-        return Err(Trouble::Refused {
-            answer: Refusal::BadKeyLength.to_string(),
-            advice: format!("{}: no key and no signature is that long.", file.length_said()),
-        });
-    };
+    let Some(kind) = kind_of_length(file.len()) else { return Err(unknown(&file)) };
     let mut findings = match kind {
         Kind::Signature(set) => signature(set, &file),
         Kind::PublicKey(set) => public_key(set, &file),
@@ -65,6 +61,11 @@ fn inspect(path: &Path) -> Result<Findings, Trouble> {
 
 fn hex(bytes: &[u8]) -> String {
     bytes.iter().map(|byte| format!("{byte:02x}")).collect()
+}
+
+/// The first 16 bytes of a hash, and how many there are.
+fn shortened(hash: &[u8]) -> String {
+    format!("{}... ({} bytes)", hex(&hash[..16]), hash.len())
 }
 
 /// A name for public bytes: 16 bytes of SHAKE256.
@@ -137,20 +138,25 @@ fn signing_key(params: Params, file: &[u8], path: &Path) -> Findings {
 
 fn expanded_key(params: Params, file: &[u8], path: &Path) -> Findings {
     let (mut text, set, shares) = (String::new(), params.set, params.shares.count());
-    let public = &file[..set.public_key_bytes()];
+    let (public, digest) = file[..set.expanded_bytes()].split_at(set.public_key_bytes());
     line(&mut text, "fingerprint", format!("{} (of the public key)", fingerprint(public)));
     line(&mut text, "public key", format!("{} bytes", public.len()));
+    line(&mut text, "digest", shortened(digest));
     let shape = format!("{} polynomials x {shares} shares x {N}", set.l());
     line(&mut text, "words", format!("{} = {shape}, 8 bytes each, secret", params.share_words()));
-    let sound = contents(&mut text, ExpandedKey::from_bytes(params, file).map(drop));
+    let is_true = ExpandedKey::from_bytes(params, file).map(|key| key.digest_is_true());
+    contents(&mut text, is_true.map(drop));
+    if let Ok(is_true) = is_true {
+        line(&mut text, "digest is true", if is_true { "yes".into() } else { format!("no: {FALSE_DIGEST}") });
+    }
     readers(&mut text, path);
-    Findings { text, sound, public: Some(public.to_vec()) }
+    Findings { text, sound: is_true == Ok(true), public: Some(public.to_vec()) }
 }
 
 fn signature(set: Set, file: &[u8]) -> Findings {
     let mut text = String::new();
     let p = plain::Params::new(set.number() as usize, 1, Edition::Printed).expect("one of the sets");
-    line(&mut text, "challenge hash", format!("{}... ({} bytes)", hex(&file[..16]), p.hash_bytes()));
+    line(&mut text, "challenge hash", shortened(&file[..p.hash_bytes()]));
     let fields = plain::read(&p, file);
     let well_formed = fields.as_ref().is_some_and(|fields| plain::write(&p, fields).as_deref() == Some(file));
     line(&mut text, "form", verdict(well_formed, "in order", Refusal::BadSignatureForm));

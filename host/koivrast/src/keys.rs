@@ -1,8 +1,8 @@
 //! Keys and signatures from the contents of files. Set and share count follow from the length.
 
 use crate::files::Contents;
-use crate::kind::{Kind, kind_of_length};
-use crate::trouble::{Doing, Trouble};
+use crate::kind::{Kind, kind_of_length, without_digest};
+use crate::trouble::{Doing, Trouble, warn};
 use raccoon::{ExpandedKey, NotSigned, Params, PublicKey, Refusal, Set, Signature, Signed, SigningKey, SigningSeeds};
 
 /// A key that signs.
@@ -42,12 +42,20 @@ pub fn signing_key(file: &Contents) -> Result<SigningKey, Trouble> {
     }
 }
 
+/// A false digest is refused by no check, but warned of.
 pub fn expanded_key(file: &Contents) -> Result<ExpandedKey, Trouble> {
-    match kind_of_length(file.len()) {
-        Some(Kind::ExpandedKey(params)) => ExpandedKey::from_bytes(params, file).map_err(damaged),
-        _ => Err(wrong_key(file, &[Form::Expanded])),
+    let key = match kind_of_length(file.len()) {
+        Some(Kind::ExpandedKey(params)) => ExpandedKey::from_bytes(params, file).map_err(damaged)?,
+        _ => return Err(wrong_key(file, &[Form::Expanded])),
+    };
+    if !key.digest_is_true() {
+        warn(format!("{}: the digest is not that of the public key; {FALSE_DIGEST}", file.name));
     }
+    Ok(key)
 }
+
+/// What a false digest in an expanded key means.
+pub const FALSE_DIGEST: &str = "signatures made with this key will be refused with 16";
 
 pub fn public_key(file: &Contents) -> Result<PublicKey, Trouble> {
     match kind_of_length(file.len()) {
@@ -71,20 +79,36 @@ pub fn signature(set: Set, file: &Contents) -> Result<Signature, Trouble> {
 
 /// `gate.pub has 2256 bytes, like a public key of set 128`
 fn found(file: &Contents) -> String {
-    match kind_of_length(file.len()) {
-        Some(kind @ Kind::ExpandedKey(_)) => format!("{}, like an {kind}", file.length_said()),
-        Some(kind) => format!("{}, like a {kind}", file.length_said()),
-        None => file.length_said(),
+    let said = file.length_said();
+    match (kind_of_length(file.len()), without_digest(file.len())) {
+        (Some(kind @ Kind::ExpandedKey(_)), _) => format!("{said}, like an {kind}"),
+        (Some(kind), _) => format!("{said}, like a {kind}"),
+        (None, Some(old)) => format!("{said}, like an {old} as written before the digest was kept in it"),
+        (None, None) => said,
     }
 }
 
 /// Check 3 answered with no: what the file is and what was wanted; if it is nothing, the lengths that would do.
 fn wrong_key(file: &Contents, wanted: &[Form]) -> Trouble {
-    let said: String = match kind_of_length(file.len()) {
-        Some(_) => wanted.iter().map(|form| format!("\n{}", form.origin())).collect(),
+    let origins = || -> String { wanted.iter().map(|form| format!("\n{}", form.origin())).collect() };
+    let said = match kind_of_length(file.len()) {
+        Some(_) => origins(),
+        None if without_digest(file.len()).is_some() => format!("\n{EXPAND_AGAIN}{}", origins()),
         None => wanted.iter().map(|form| form.lengths()).collect(),
     };
     Trouble::Refused { answer: Refusal::BadKeyLength.to_string(), advice: format!("{}.{said}", found(file)) }
+}
+
+/// What to do about an expanded key without a digest.
+const EXPAND_AGAIN: &str = "Expand the signing key again with `koivrast open`.";
+
+/// A file that is no key and no signature of today.
+pub fn unknown(file: &Contents) -> Trouble {
+    let advice = match without_digest(file.len()) {
+        Some(_) => format!("{}.\n{EXPAND_AGAIN}", found(file)),
+        None => format!("{}: no key and no signature is that long.", found(file)),
+    };
+    Trouble::Refused { answer: Refusal::BadKeyLength.to_string(), advice }
 }
 
 /// A form of key that a command takes.

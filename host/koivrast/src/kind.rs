@@ -43,6 +43,11 @@ pub fn kind_of_length(bytes: usize) -> Option<Kind> {
     Kind::all().find(|kind| kind.bytes() == bytes)
 }
 
+/// The expanded key that had this length before the digest was kept in it: public key and words alone. No kind of today has it.
+pub fn without_digest(bytes: usize) -> Option<Kind> {
+    Params::all().find(|params| params.expanded_key_bytes() - params.set.digest_bytes() == bytes).map(Kind::ExpandedKey)
+}
+
 impl fmt::Display for Kind {
     fn fmt(&self, f: &mut fmt::Formatter) -> fmt::Result {
         let (name, shares) = match self {
@@ -79,6 +84,19 @@ mod tests {
         for bytes in [0, 1, 2255, 2257, 11523, 14801, LONGEST + 1] {
             assert_eq!(kind_of_length(bytes), None);
         }
+    }
+
+    #[test]
+    fn keys_without_a_digest_have_lengths_of_their_own() {
+        let mut old = HashSet::new();
+        for params in Params::all() {
+            let bytes = params.set.public_key_bytes() + 8 * params.share_words();
+            assert_eq!((without_digest(bytes), kind_of_length(bytes)), (Some(Kind::ExpandedKey(params)), None), "{params}");
+            assert!(old.insert(bytes), "{params}");
+        }
+        Kind::all().for_each(|kind| assert_eq!(without_digest(kind.bytes()), None, "{kind}"));
+        assert_eq!(without_digest(67_792), Some(Kind::ExpandedKey(Params::new(Set::Raccoon128, Shares::Four))));
+        assert_eq!([0, 2256, 67_791, 67_793].map(without_digest), [None; 4]);
     }
 
     #[test]

@@ -64,6 +64,11 @@ impl fmt::Display for Trouble {
     }
 }
 
+/// Says on standard error what does not stop a command, in one line.
+pub fn warn(message: String) {
+    let _ = writeln!(io::stderr(), "koivrast: warning: {message}");
+}
+
 /// The system's words for an error, without its number.
 fn reason(error: &io::Error) -> String {
     let text = error.to_string();
@@ -101,6 +106,6 @@ fn advice(refusal: Refusal, doing: Doing) -> &'static str {
         (BadSignatureLength, _) => "Do not accept it: it is cut, or of another set.",
         (BadSignatureForm, _) => "Do not accept it: it is damaged or forged.",
         (BadSignatureBounds, _) => "Do not accept it.",
-        (BadSignatureHash, _) => "Do not accept it: it is of another message or another key, or forged.",
+        (BadSignatureHash, _) => "Do not accept it: it is of another message or key, made with a false digest, or forged.",
     }
 }

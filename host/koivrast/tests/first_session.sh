@@ -149,6 +149,9 @@ expect 'inspect a signing key' 0 'share seeds  *3 x 16 bytes' "$tool" inspect ga
 fails 'inspect tells no secret' grep -q "$(od -An -tx1 -j 2256 -N 16 gate.key | tr -d ' ')" .said
 holds 'inspect tells who can read' grep -q 'the owner only (mode 600)' .said
 expect 'inspect an expanded key' 0 'words  *8192 = 4 polynomials x 4 shares x 512' "$tool" inspect gate.open
+digest=$(od -An -v -tx1 -j 2256 -N 16 gate.open | tr -d ' \n')
+holds 'inspect an expanded key: digest' grep -q "digest  *$digest... (32 bytes)\$" .said
+holds 'inspect an expanded key: true' grep -q 'digest is true  *yes$' .said
 expect 'inspect a public key' 0 'below 125  *all coefficients' "$tool" inspect gate.pub
 expect 'inspect standard input' 0 'standard input: public key of set 128' eval '"$tool" inspect - <gate.pub'
 expect 'inspect keys that differ' 0 'same public key in these 2 files: no' "$tool" inspect gate.pub 128-4.pub
@@ -165,10 +168,10 @@ expect 'a count beyond all numbers' 1 'refused, 2: ' keygen 128 99999999999999 x
 expect 'check 3, empty key' 1 'refused, 3: Is the key exactly as long' sign empty order.txt x.sig
 holds 'check 3: length found' grep -q 'empty has 0 bytes' .said
 holds 'check 3: lengths of signing keys' grep -q 'set 128: 14800, 14816, 14848, 14912, 15040, 15296 bytes' .said
-holds 'check 3: lengths of expanded keys' grep -q 'set 256: .*, 921568 bytes' .said
+holds 'check 3: lengths of expanded keys' grep -q 'set 256: .*, 921632 bytes' .said
 head -c 14000 gate.key >cut.key
 expect 'cut key' 1 'cut.key has 14000 bytes' "$tool" open cut.key --out x.open
-expect 'endless key' 1 'has more than 921568 bytes' sign /dev/zero order.txt x.sig
+expect 'endless key' 1 'has more than 921632 bytes' sign /dev/zero order.txt x.sig
 expect 'signature as key' 1 'order.sig has 11524 bytes, like a signature of set 128' sign order.sig order.txt x.sig
 expect 'public key as key' 1 'gate.pub has 2256 bytes, like a public key of set 128' sign gate.pub order.txt x.sig
 holds 'what a signing key is' grep -q 'A signing key is what keygen writes to --key' .said
@@ -181,7 +184,7 @@ expect 'check 4' 1 'refused, 4: Are all public key coefficients below 125' verif
 expect 'check 4 in inspect' 1 '125..127' "$tool" inspect bad.pub
 { head -c 14000 gate.key && bytes 848 377; } >bad.key
 expect 'check 5, signing key' 1 'refused, 5: Are all words of the full share' sign bad.key order.txt x.sig
-{ head -c 67784 gate.open && bytes 8 377; } >bad.open
+{ head -c 67816 gate.open && bytes 8 377; } >bad.open
 expect 'check 5, expanded key' 1 'The key is damaged: do not use it' "$tool" refresh bad.open --out x.open
 expect 'check 5 in inspect' 1 'contents  *refused, 5: ' "$tool" inspect bad.open
 expect 'check 6, no attempt' 1 'refused, 6: ' sign gate.key order.txt x.sig --attempts 0
@@ -196,7 +199,7 @@ expect 'check 9 in verifying' 1 'refused, 9: ' verify gate.pub longer long.sig
 expect 'check 9 before 13' 1 'refused, 9: ' verify gate.pub /dev/zero empty
 expect 'empty message' 0 'empty.sig' sign gate.key empty empty.sig
 expect 'empty message verified' 0 '^good: ' verify gate.pub /dev/null empty.sig
-{ cat 128-4.pub && tail -c +2257 gate.open; } >mixed.open
+{ head -c 2288 128-4.open && tail -c +2289 gate.open; } >mixed.open
 expect 'check 12' 1 'refused, 12: .* (after 3 attempts)' sign mixed.open order.txt x.sig --attempts 3
 expect 'check 13, cut pipe' 1 'refused, 13: ' eval 'head -c 5000 order.sig | verify gate.pub order.txt -'
 holds 'check 13: lengths' grep -q 'standard input has 5000 bytes. .* set 128, whose signatures have 11524' .said
@@ -219,6 +222,58 @@ for place in 0 31 40 400 3000 11000 11523; do
     expect "byte $place altered" 1 'refused, 1[456]: ' verify gate.pub order.txt altered.sig
 done
 holds 'no refused command has left a file' absent x.key x.pub x.open x.sig
+
+# ---- Expanded keys as written before the digest was kept in them
+
+{ head -c 2256 gate.open && tail -c +2289 gate.open; } >old.open
+old='old.open has 67792 bytes, like an expanded key of set 128 with 4 shares as written before the digest was kept in it'
+again='Expand the signing key again with `koivrast open`'
+for command in open refresh inspect; do
+    out=$([ $command = inspect ] || echo --out x.open)
+    expect "$command an old expanded key" 1 "$old" "$tool" $command old.open $out
+    holds "$command an old expanded key: what to do" grep -q "$again" .said
+done
+expect 'sign with an old expanded key' 1 "$old" sign old.open order.txt x.sig
+holds 'sign with an old expanded key: what to do' grep -q "$again" .said
+expect 'verify by an old expanded key' 1 "$old" verify old.open order.txt order.sig
+holds 'verify by an old expanded key: what to do' grep -q "$again" .said
+holds 'verify by an old expanded key: what was wanted' grep -q 'A public key is what keygen writes to --public' .said
+expect 'an old expanded key as signature' 1 "$old" verify gate.pub order.txt old.open
+for set in 128 192 256; do
+    front=$(stat -c %s $set-32.pub)
+    { head -c "$front" $set-32.open && tail -c +$((front + set / 4 + 1)) $set-32.open; } >old.open
+    expect "old expanded key $set-32" 1 "like an expanded key of set $set with 32 shares as written before" \
+        "$tool" inspect old.open
+done
+holds 'no old key has left a file' absent x.open x.sig
+
+# ---- Expanded keys whose digest is false
+
+meaning='signatures made with this key will be refused with 16'
+for key in 128-4 192-2 256-8; do
+    n=$(stat -c %s $key.pub)
+    cp -p $key.open false.open && flip false.open "$n"
+    expect "inspect a false digest, $key" 1 "digest is true  *no: $meaning" "$tool" inspect false.open
+    holds "inspect a false digest, $key: the rest is in order" grep -q 'contents  *in order' .said
+    expect "sign with a false digest, $key" 0 "^koivrast: warning: false.open: .*; $meaning\$" \
+        sign false.open order.txt false.sig --force
+    expect "refused, $key" 1 'refused, 16: ' verify $key.pub order.txt false.sig
+    expect "refresh a false digest, $key" 0 "^koivrast: warning: false.open: .*; $meaning\$" \
+        "$tool" refresh false.open --out still.open --force
+    expect "the digest is carried on, $key" 1 'digest is true  *no: ' "$tool" inspect still.open
+    holds "public key and digest are as they were, $key" cmp -n $((n + ${key%-*} / 4)) false.open still.open
+    fails "the shares are not, $key" cmp false.open still.open
+done
+sign false.open order.txt - 2>.warning >false.sig
+holds 'the warning is not in the signature' test "$(stat -c %s false.sig)" -eq 20330
+holds 'the warning is one line' test "$(grep -c '' .warning)" -eq 1
+{ head -c 2256 128-4.open && tail -c +2257 gate.open; } >mixed.open
+expect 'a digest of another key' 1 'digest is true  *no: ' "$tool" inspect mixed.open
+expect 'a true digest' 0 'signature of set 128' sign gate.open order.txt x.sig
+fails 'no warning of a true digest' grep -q warning .said
+expect 'a true digest refreshed' 0 'shared anew' "$tool" refresh gate.open --out x.open
+fails 'no warning of a true digest refreshed' grep -q warning .said
+rm x.sig x.open
 
 # ---- Words that are wrong
 

@@ -2,7 +2,7 @@
 
 use crate::call::{self, Edition};
 use crate::secret::Secret;
-use crate::{KeygenSeeds, MASK_SEED_BYTES, Params, Refusal, Set};
+use crate::{KeygenSeeds, MASK_SEED_BYTES, Params, Refusal, Set, Shares};
 use std::fmt;
 
 /// A public key: its length is that of its set, its coefficients are below 125.
@@ -113,13 +113,13 @@ impl SigningKey {
         PublicKey { set, bytes: self.bytes[..set.public_key_bytes()].into() }
     }
 
-    /// All shares in full (paper 01: opening). Refused with 10 (no known key is).
+    /// The digest of the public key, and all shares in full (paper 01: opening). Refused with 10 (no known key is).
     pub fn expand(&self) -> Result<ExpandedKey, Refusal> {
         let params = self.params;
-        let (mut public, mut words) = (vec![0; params.set.public_key_bytes()], Secret::zeros(params.share_words()));
+        let (mut bytes, mut words) = (vec![0; params.set.expanded_bytes()], Secret::zeros(params.share_words()));
         let (set, shares) = params.numbers();
-        Refusal::from_status(call::expand_key(Edition::Printed, set, shares, &self.bytes, &mut public, &mut words))?;
-        Ok(ExpandedKey { params, public: public.into(), words })
+        Refusal::from_status(call::expand_key(Edition::Printed, set, shares, &self.bytes, &mut bytes, &mut words))?;
+        Ok(ExpandedKey { params, bytes: bytes.into(), words })
     }
 }
 
@@ -129,21 +129,45 @@ impl fmt::Debug for SigningKey {
     }
 }
 
-/// An expanded key (paper 01: opened key): the public key, and all shares of the l polynomials as words below q.
+/// An expanded key (paper 01: opened key): the public key, its digest, and all shares of the l polynomials as words below q.
+///
+/// Signing takes the digest as it is, without hashing the public key again. [`SigningKey::expand`] makes it; from parts or from
+/// bytes it may be anything, and no check asks. A key with a false one signs, but what it signs is refused with 16 under its
+/// public key, and [`ExpandedKey::refresh`] carries the digest on. [`ExpandedKey::digest_is_true`] tells.
+///
+/// ```
+/// use raccoon::*;
+///
+/// # fn main() -> Result<(), Box<dyn std::error::Error>> {
+/// let params = Params::new(Set::Raccoon128, Shares::One);
+/// let key = SigningKey::generate(KeygenSeeds::draw(params, os_random)?)?.expand()?;
+/// assert!(key.digest_is_true());
+///
+/// let mut bytes = key.bytes().to_vec();
+/// bytes[params.set.public_key_bytes()] ^= 1;
+/// let altered = ExpandedKey::from_parts(params, &bytes, key.words())?;
+/// assert!(!altered.digest_is_true() && altered.public_key() == key.public_key());
+/// let signed = altered.sign(b"release tram 17", SigningSeeds::new(params).draw(os_random)?)?;
+/// let verdict = altered.public_key().verify(b"release tram 17", &signed.signature);
+/// assert_eq!(verdict, Err(Refusal::BadSignatureHash));
+/// # Ok(())
+/// # }
+/// ```
 #[derive(Clone, PartialEq, Eq)]
 pub struct ExpandedKey {
     params: Params,
-    public: Box<[u8]>,
+    bytes: Box<[u8]>,
     words: Secret<u64>,
 }
 
 impl ExpandedKey {
-    /// Refused with 3 for wrong lengths, with 4 or 5 for what they hold.
-    pub fn from_parts(params: Params, public: &[u8], words: &[u64]) -> Result<ExpandedKey, Refusal> {
+    /// From public key and digest, joined, and the words. Refused with 3 for wrong lengths, with 4 or 5 for what public key and
+    /// words hold.
+    pub fn from_parts(params: Params, bytes: &[u8], words: &[u64]) -> Result<ExpandedKey, Refusal> {
         let (set, shares) = params.numbers();
         // refreshing asks 3, 4 and 5 first; without a mask seed it then stops at 7
-        match Refusal::from_status(call::refresh_key(set, shares, (public, words), &[], &mut [], &mut [])) {
-            Err(Refusal::BadSeeds) => Ok(ExpandedKey { params, public: public.into(), words: words.into() }),
+        match Refusal::from_status(call::refresh_key(set, shares, (bytes, words), &[], &mut [], &mut [])) {
+            Err(Refusal::BadSeeds) => Ok(ExpandedKey { params, bytes: bytes.into(), words: words.into() }),
             Err(refusal) => Err(refusal),
             Ok(()) => unreachable!("no bytes are a mask seed"),
         }
@@ -154,19 +178,19 @@ impl ExpandedKey {
         if bytes.len() != params.expanded_key_bytes() {
             return Err(Refusal::BadKeyLength);
         }
-        let (public, rest) = bytes.split_at(params.set.public_key_bytes());
+        let (front, rest) = bytes.split_at(params.set.expanded_bytes());
         let mut words = Secret::zeros(params.share_words());
         for (word, eight) in words.iter_mut().zip(rest.chunks_exact(8)) {
             *word = u64::from_le_bytes(eight.try_into().expect("eight bytes"));
         }
-        ExpandedKey::from_parts(params, public, &words)
+        ExpandedKey::from_parts(params, front, &words)
     }
 
-    /// The public key, then the words, little-endian.
+    /// The public key, its digest, then the words, little-endian.
     pub fn to_bytes(&self) -> Secret<u8> {
         let mut bytes = Secret::zeros(self.params.expanded_key_bytes());
-        let (public, rest) = bytes.split_at_mut(self.public.len());
-        public.copy_from_slice(&self.public);
+        let (front, rest) = bytes.split_at_mut(self.bytes.len());
+        front.copy_from_slice(&self.bytes);
         for (eight, word) in rest.chunks_exact_mut(8).zip(self.words.iter()) {
             eight.copy_from_slice(&word.to_le_bytes());
         }
@@ -182,11 +206,34 @@ impl ExpandedKey {
         &self.words
     }
 
-    pub fn public_key(&self) -> PublicKey {
-        PublicKey { set: self.params.set, bytes: self.public.clone() }
+    /// Public key and digest, joined.
+    pub fn bytes(&self) -> &[u8] {
+        &self.bytes
     }
 
-    /// A new sharing of the same secret. The mask seed is for one call.
+    /// The front of the bytes.
+    pub fn public_key(&self) -> PublicKey {
+        let set = self.params.set;
+        PublicKey { set, bytes: self.bytes[..set.public_key_bytes()].into() }
+    }
+
+    /// The digest as it is held, true or not.
+    pub fn digest(&self) -> &[u8] {
+        &self.bytes[self.params.set.public_key_bytes()..]
+    }
+
+    /// Is the digest the hash of the public key? The unit hashes: it expands a signing key of one share that is this public key
+    /// and zeros.
+    pub fn digest_is_true(&self) -> bool {
+        let params = Params::new(self.params.set, Shares::One);
+        let (public, mut bytes) = (self.public_key(), Secret::zeros(params.signing_key_bytes()));
+        bytes[..public.bytes.len()].copy_from_slice(&public.bytes);
+        // the public key was checked, zeros are below q, and one share has no seeds: nothing is left to refuse
+        let zero = SigningKey { params, bytes }.expand().expect("a key without a secret");
+        zero.bytes == self.bytes
+    }
+
+    /// A new sharing of the same secret; public key and digest are carried on. The mask seed is for one call.
     ///
     /// ```
     /// use raccoon::*;
@@ -204,10 +251,10 @@ impl ExpandedKey {
     /// ```
     pub fn refresh(&self, mask_seed: &[u8; MASK_SEED_BYTES]) -> Result<ExpandedKey, Refusal> {
         let params = self.params;
-        let (mut public, mut words) = (self.public.clone(), Secret::zeros(params.share_words()));
+        let (mut bytes, mut words) = (vec![0; self.bytes.len()], Secret::zeros(params.share_words()));
         let (set, shares) = params.numbers();
-        Refusal::from_status(call::refresh_key(set, shares, (&self.public, &self.words), mask_seed, &mut public, &mut words))?;
-        Ok(ExpandedKey { params, public, words })
+        Refusal::from_status(call::refresh_key(set, shares, (&self.bytes, &self.words), mask_seed, &mut bytes, &mut words))?;
+        Ok(ExpandedKey { params, bytes: bytes.into(), words })
     }
 }
 

@@ -62,6 +62,16 @@ impl Set {
         self.seed_bytes() + 448 * self.k()
     }
 
+    /// The digest of a public key, H(vk) of paper 000: SHAKE256 over it, 2 kappa bits.
+    pub const fn digest_bytes(self) -> usize {
+        self.number() as usize / 4
+    }
+
+    /// Bytes of an expanded key: the public key and its digest.
+    pub const fn expanded_bytes(self) -> usize {
+        self.public_key_bytes() + self.digest_bytes()
+    }
+
     pub const fn signature_bytes(self) -> usize {
         match self {
             Set::Raccoon128 => 11_524,
@@ -151,9 +161,9 @@ impl Params {
         N * self.set.l() * self.shares.count()
     }
 
-    /// Bytes of an expanded key in a file: the public key, then the words, little-endian.
+    /// Bytes of an expanded key in a file: the public key, its digest, then the words, little-endian.
     pub const fn expanded_key_bytes(self) -> usize {
-        self.set.public_key_bytes() + 8 * self.share_words()
+        self.set.expanded_bytes() + 8 * self.share_words()
     }
 
     /// Noise seeds of one attempt.

@@ -56,17 +56,15 @@ impl SigningKey {
 }
 
 impl ExpandedKey {
-    /// As [`SigningKey::sign`], without expanding the key each time.
+    /// As [`SigningKey::sign`], without expanding the key each time, and with the digest that it holds.
     pub fn sign(&self, message: &[u8], seeds: SigningSeeds) -> Result<Signed, NotSigned> {
-        let public = self.public_key();
-        let key = Key::Expanded(public.as_bytes(), self.words());
+        let key = Key::Expanded(self.bytes(), self.words());
         signed(self.params(), seeds.attempts, key, message, Noise::Seeds(&seeds.noise), &seeds.masks)
     }
 
     /// With explicit noise, for comparisons.
     pub fn sign_explicit(&self, message: &[u8], noise: ExplicitNoise) -> Result<Signed, NotSigned> {
-        let public = self.public_key();
-        let key = Key::Expanded(public.as_bytes(), self.words());
+        let key = Key::Expanded(self.bytes(), self.words());
         signed(self.params(), noise.attempts, key, message, Noise::Words(&noise.noise), &noise.masks)
     }
 }

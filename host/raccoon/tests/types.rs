@@ -28,7 +28,9 @@ fn sizes_are_those_of_the_independent_implementation() {
             (other.k, other.l, other.rep, other.seed_bytes())
         );
         assert_eq!((p.set.public_key_bytes(), p.set.signature_bytes()), (other.vk_bytes(), other.sig_bytes));
+        assert_eq!((p.set.digest_bytes(), p.set.expanded_bytes()), (other.hash_bytes(), other.expanded_bytes()));
         assert_eq!((p.signing_key_bytes(), p.share_words()), (other.sk_bytes(), other.l * other.d * N));
+        assert_eq!(p.expanded_key_bytes(), other.expanded_bytes() + 8 * other.l * other.d * N);
         assert_eq!((p.keygen_seed_bytes(), p.noise_seed_bytes()), (other.keygen_bytes(), other.noise_bytes()));
         assert_eq!((p.noise_words(), p.work_words()), (other.noise_words(), other.work_words()));
     }
@@ -73,12 +75,86 @@ fn keys_of_wrong_length_or_contents_are_refused() {
         let file = expanded.to_bytes();
         assert_eq!(ExpandedKey::from_bytes(params, &file).as_ref(), Ok(&expanded));
         assert_eq!(ExpandedKey::from_bytes(params, &file[..file.len() - 1]), Err(Refusal::BadKeyLength));
-        let public = key.public_key();
         let mut words = expanded.words().to_vec();
-        assert_eq!(ExpandedKey::from_parts(params, public.as_bytes(), &words[1..]), Err(Refusal::BadKeyLength));
+        assert_eq!(ExpandedKey::from_parts(params, expanded.bytes(), &words[1..]), Err(Refusal::BadKeyLength));
+        // the public key alone
+        assert_eq!(ExpandedKey::from_parts(params, key.public_key().as_bytes(), &words), Err(Refusal::BadKeyLength));
         words[7] = Q;
-        assert_eq!(ExpandedKey::from_parts(params, public.as_bytes(), &words), Err(Refusal::BadShareWords));
+        assert_eq!(ExpandedKey::from_parts(params, expanded.bytes(), &words), Err(Refusal::BadShareWords));
     }
+}
+
+/// A file is the public key, its digest and the words; each is given back as it is.
+#[test]
+fn parts_of_an_expanded_key() {
+    for params in Params::all().filter(|p| p.shares.count() <= 4) {
+        let key = key(params);
+        let (expanded, public) = (key.expand().unwrap(), key.public_key());
+        let mut digest = vec![0; params.set.digest_bytes()];
+        independent::keccak::shake256(public.as_bytes(), &mut digest);
+        assert_eq!((expanded.public_key(), expanded.digest()), (public.clone(), &digest[..]));
+        assert_eq!(expanded.bytes(), [public.as_bytes(), &digest].concat());
+        let words: Vec<u8> = expanded.words().iter().flat_map(|word| word.to_le_bytes()).collect();
+        assert_eq!(expanded.to_bytes()[..], [public.as_bytes(), &digest, &words].concat());
+    }
+}
+
+/// A digest with a bit turned is false, is kept and carried on, and what is signed with it is refused with 16; the true one signs
+/// as the signing key does.
+#[test]
+fn true_and_false_digests() {
+    for params in Params::all().filter(|p| p.shares.count() <= 2) {
+        let key = key(params);
+        let expanded = key.expand().unwrap();
+        let seeds = || SigningSeeds::new(params).draw(source("seeds")).unwrap();
+        let signed = key.sign(b"digest", seeds()).unwrap();
+        assert!(expanded.digest_is_true() && expanded.refresh(&[1; MASK_SEED_BYTES]).unwrap().digest_is_true());
+        assert_eq!(expanded.sign(b"digest", seeds()).as_ref(), Ok(&signed));
+        for at in [params.set.public_key_bytes(), params.set.expanded_bytes() - 1] {
+            let mut file = expanded.to_bytes();
+            file[at] ^= 0x10;
+            let altered = ExpandedKey::from_bytes(params, &file).unwrap();
+            assert!(!altered.digest_is_true(), "{params}, byte {at}");
+            assert!(altered.to_bytes() == file && altered.public_key() == key.public_key(), "{params}, byte {at}");
+            let fresh = altered.refresh(&[2; MASK_SEED_BYTES]).unwrap();
+            assert_eq!((fresh.bytes(), fresh.digest_is_true()), (altered.bytes(), false), "{params}, byte {at}");
+            let other = altered.sign(b"digest", seeds()).unwrap();
+            assert_ne!(other.signature, signed.signature, "{params}, byte {at}");
+            assert_eq!(
+                key.public_key().verify(b"digest", &other.signature),
+                Err(Refusal::BadSignatureHash),
+                "{params}, byte {at}"
+            );
+        }
+        // the digest of another public key
+        let mut bytes = expanded.bytes().to_vec();
+        bytes[0] ^= 1;
+        assert!(!ExpandedKey::from_parts(params, &bytes, expanded.words()).unwrap().digest_is_true(), "{params}");
+    }
+}
+
+/// A public key whose coefficients are all the same.
+fn public_key_of(set: Set, coefficient: u64) -> Vec<u8> {
+    let eight: u64 = (0..8).map(|i| coefficient << (7 * i)).sum();
+    [vec![0xff; set.seed_bytes()], eight.to_le_bytes()[..7].repeat(set.k() * N / 8)].concat()
+}
+
+/// Whatever a public key holds that check 4 passes, its digest can be asked.
+#[test]
+fn digests_of_extreme_public_keys() {
+    for (set, coefficient) in Set::ALL.into_iter().flat_map(|set| [(set, 0), (set, 124)]) {
+        let (params, public) = (Params::new(set, Shares::Two), public_key_of(set, coefficient));
+        let mut digest = vec![0; set.digest_bytes()];
+        independent::keccak::shake256(&public, &mut digest);
+        for (digest, is_true) in [(digest, true), (vec![0xff; set.digest_bytes()], false)] {
+            let bytes = [&public[..], &digest].concat();
+            let key = ExpandedKey::from_parts(params, &bytes, &vec![Q - 1; params.share_words()]).unwrap();
+            assert_eq!((key.digest(), key.digest_is_true()), (&digest[..], is_true), "{params}, {coefficient}");
+        }
+    }
+    let bytes = [public_key_of(Set::Raccoon128, 125), vec![0; 32]].concat();
+    let refused = ExpandedKey::from_parts(Params::new(Set::Raccoon128, Shares::One), &bytes, &[0; 2048]);
+    assert_eq!(refused, Err(Refusal::BadPublicKey));
 }
 
 #[test]
@@ -139,9 +215,10 @@ fn what_signing_refuses() {
     let other = key.sign(b"", seeds(Params::new(Set::Raccoon192, Shares::One))).unwrap_err();
     assert_eq!(other, NotSigned { refusal: Refusal::BadSeeds, attempts: 0 });
     // shares that are not those of the public key
-    let mut words = key.expand().unwrap().words().to_vec();
+    let expanded = key.expand().unwrap();
+    let mut words = expanded.words().to_vec();
     words[0] = (words[0] + Q / 2) % Q;
-    let altered = ExpandedKey::from_parts(params, key.public_key().as_bytes(), &words).unwrap();
+    let altered = ExpandedKey::from_parts(params, expanded.bytes(), &words).unwrap();
     let none = altered.sign(b"", seeds(params)).unwrap_err();
     assert_eq!(none, NotSigned { refusal: Refusal::NoAttemptPassed, attempts: 3 });
     assert!(none.to_string().ends_with("No. (after 3 attempts)"));

@@ -103,6 +103,7 @@ pub struct Lent {
     p: Params,
     seeds: Vec<u8>,
     key: Vec<u8>,
+    bytes: Vec<u8>,
     words: Vec<u64>,
     message: Vec<u8>,
     noise: Vec<u8>,
@@ -113,8 +114,8 @@ impl Lent {
     fn new(p: Params) -> Lent {
         let (seeds, message, noise) = (xof("seeds", p.keygen_bytes()), xof("message", MESSAGE), xof("noise", p.noise_bytes()));
         let key = raccoon::keygen(&p, &seeds, &MASK_SEED).unwrap();
-        let words = raccoon::expand(&p, &key).unwrap();
-        let mut lent = Lent { p, seeds, key, words, message, noise, signature: vec![] };
+        let (bytes, words) = (raccoon::with_digest(&p, &key[..p.vk_bytes()]), raccoon::expand(&p, &key).unwrap());
+        let mut lent = Lent { p, seeds, key, bytes, words, message, noise, signature: vec![] };
         lent.signature = lent.signed();
         lent
     }
@@ -126,7 +127,7 @@ impl Lent {
     /// The independent implementation's signature, of one attempt.
     fn signed(&self) -> Vec<u8> {
         let attempt = (Noise::Seeds(&self.noise), &MASK_SEED[..]);
-        raccoon::sign(&self.p, black_box(self.public_key()), &self.words, &self.message, &[attempt]).2.unwrap()
+        raccoon::sign(&self.p, black_box(&self.bytes), &self.words, &self.message, &[attempt]).2.unwrap()
     }
 
     /// The numbers of set and shares for the unit's calls.
@@ -147,18 +148,18 @@ impl Lent {
 
     fn expanding(&self, turns: Turns) -> Best {
         let (p, (set, d)) = (&self.p, self.numbers());
-        let (mut bytes, mut words, mut other) = (vec![0u8; p.vk_bytes()], vec![0u64; self.words.len()], vec![]);
+        let (mut bytes, mut words, mut other) = (vec![0u8; self.bytes.len()], vec![0u64; self.words.len()], (vec![], vec![]));
         let best = turns.best(
             || assert_eq!(unit::expand_key(p.edition, set, d, black_box(&self.key), &mut bytes, &mut words), 0),
-            || other = raccoon::expand(p, black_box(&self.key)).unwrap(),
+            || other = (raccoon::with_digest(p, black_box(self.public_key())), raccoon::expand(p, black_box(&self.key)).unwrap()),
         );
-        assert_eq!((&bytes[..], words), (self.public_key(), other));
+        assert_eq!((bytes, words), other);
         best
     }
 
     fn refreshing(&self, turns: Turns) -> Best {
         let (set, d) = self.numbers();
-        let key = (self.public_key(), &self.words[..]);
+        let key = (&self.bytes[..], &self.words[..]);
         let (mut bytes, mut words, mut other) = (vec![0u8; key.0.len()], vec![0u64; key.1.len()], vec![]);
         let best = turns.best(
             || assert_eq!(unit::refresh_key(set, d, black_box(key), &MASK_SEED, &mut bytes, &mut words), 0),
@@ -171,7 +172,7 @@ impl Lent {
     fn signing(&self, turns: Turns) -> Best {
         let (p, (set, shares)) = (&self.p, self.numbers());
         let (mut signature, mut work, mut other) = (vec![0u8; p.sig_bytes], vec![0u64; p.work_words()], vec![]);
-        let (key, noise) = (unit::Key::Expanded(self.public_key(), &self.words), Noise::Seeds(&self.noise));
+        let (key, noise) = (unit::Key::Expanded(&self.bytes, &self.words), Noise::Seeds(&self.noise));
         let input = unit::Signing { set, shares, attempts: 1, key, message: &self.message, noise, mask_seeds: &MASK_SEED };
         let made = unit::Signed { status: 0, attempts: 1 };
         let best = turns.best(
