@@ -133,9 +133,8 @@ bytes-are u h =
     let l : callUnit u ≡ leftBy (signUnit u) (u .result) (u .work) = left-is u in
     ap (λ (s : Outcome). s .bytes) l ∙ left-bytes (signUnit u) (u .result) (u .work) (ap (λ (s : Outcome). s .status) (sym l) ∙ h)
 
-pub results-agree : (u v : UnitCall) → Sound u → Sound v → Alike u v → SameSecret u v → EqualTotals u v → Agreed u v
-results-agree u v hu hv al s t =
-    let p : signUnit u ≡ signUnit v = answers-agree u v hu hv al s t in
+agreed-by : (u v : UnitCall) → signUnit u ≡ signUnit v → Agreed u v
+agreed-by u v p =
     let lu : callUnit u ≡ leftBy (signUnit u) (u .result) (u .work) = left-is u in
     let lv : callUnit v ≡ leftBy (signUnit v) (v .result) (v .work) = left-is v in
     let st : callUnit u .status ≡ callUnit v .status = cc (p, lu, lv) in
@@ -148,3 +147,9 @@ results-agree u v hu hv al s t =
           ap (verifyCall (u .edition) (u .set) (vkOf u) (u .message)) (bytes-are u h)
           ∙ accepted-unit u d (ap (λ (x : Outcome). x .status) (sym lu) ∙ h);
     }
+
+pub results-agree : (u v : UnitCall) → Sound u → Sound v → Alike u v → SameSecret u v → EqualTotals u v → Agreed u v
+results-agree u v hu hv al s t = agreed-by u v (answers-agree u v hu hv al s t)
+
+pub results-agree-true : (u v : UnitCall) → Sound u → Sound v → AlikeTrue u v → SameSecret u v → EqualTotals u v → Agreed u v
+results-agree-true u v hu hv al s t = agreed-by u v (true-agree u v hu hv al s t)

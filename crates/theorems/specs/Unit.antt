@@ -88,7 +88,7 @@ pub record Sound (u : UnitCall) : Type 0 where
   pub count : ShareCount (u .shares)
   pub fits : (p : Params) → recordOf u ≡ Selected.Found p → Fits p u
 
--- alike in set, public key, message and allowed attempts, and in the edition; the digest is as the public key: its bytes are equal
+-- alike in set, public key and digest (the bytes of the key), message and allowed attempts, and in the edition
 pub record Alike (u v : UnitCall) : Type 0 where
   pub editions : u .edition ≡ v .edition
   pub sets : u .set ≡ v .set
@@ -96,7 +96,7 @@ pub record Alike (u v : UnitCall) : Type 0 where
   pub messages : u .message ≡ v .message
   pub attempts : u .attempts ≡ v .attempts
 
--- alike in the words of paper 01, public keys for bytes, where both digests are true
+-- alike in the words of paper 01, by the public key alone, where both digests are true
 pub record AlikeTrue (u v : UnitCall) : Type 0 where
   pub editions : u .edition ≡ v .edition
   pub sets : u .set ≡ v .set
