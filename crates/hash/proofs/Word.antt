@@ -4,7 +4,7 @@ use Prim.Native.Nat.{ℕ, zero, suc, _+_, _*_, _/_, _%_, _^_, _<_, _≤_}
 use native.Mathlib.Omega.{arith}
 use native.Mathlib.Nat.{mod-eq-of-lt, add-comm, mul-le-mul-right}
 use lib.Bits.{bitXor, xor-comm, xor-shifted}
-use lib.Pow.{pow-add, split, shr-shr, shr-lt}
+use lib.Pow.{pow-add, split, shr-shr, shr-lt, mod-pow-add}
 use Rattle.hash.specs.Lists.{table}
 use Rattle.hash.specs.Keccak.{State}
 use Rattle.hash.specs.Shake.{byteAt, stream, after}
@@ -49,6 +49,15 @@ le-same f g (suc n) h =
     let e : le f n ≡ le g n = le-same f g n (λ j l. h j (omega arith)) in
     let d : f n ≡ g n = h n (omega arith) in
     rw (e, d)
+
+-- the first n bytes of a word are its rest
+pub le-bytes : (w n : ℕ) → le (byteOf w) n ≡ w % 2 ^ (8 * n)
+unfolding le
+le-bytes w zero = omega arith
+le-bytes w (suc n) =
+    let e : 8 * suc n ≡ 8 + 8 * n = omega arith in
+    let m : w % 2 ^ (8 + 8 * n) ≡ w / 2 ^ (8 * n) % 256 * 2 ^ (8 * n) + w % 2 ^ (8 * n) = mod-pow-add w 8 (8 * n) in
+    rw (e, le-bytes w n, m) (add-comm _ _)
 
 -- lane i of a state is the number of the eight bytes from 8 i on, and so word i of its stream while i is in the first block
 lane-bytes : (A : State) (i : ℕ) → laneAt A i < 2 ^ 64 → le (λ j. byteAt A (8 * i + j)) 8 ≡ laneAt A i

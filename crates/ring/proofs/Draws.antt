@@ -4,7 +4,7 @@ use mathlib.Core.Path.{_≡_, refl, sym, ap, _∙_}
 use mathlib.Core.Bool.{Bool, true, false}
 use mathlib.Core.List.{List, [], _∷_, _++_, append-nil, append-assoc}
 use mathlib.Core.Option.{Option, some, none}
-use Prim.Native.Nat.{ℕ, zero, suc, min, _+_, _-_, _*_, _/_, _≤_, _<_}
+use Prim.Native.Nat.{ℕ, zero, suc, min, _+_, _-_, _*_, _/_, _%_, _^_, _≤_, _<_}
 use native.Mathlib.Nat.{add-zero, add-suc}
 use native.Mathlib.Numerals.{add-one}
 use native.Mathlib.Decide.{decLt}
@@ -26,6 +26,11 @@ use Rattle.ring.specs.Uniform.{draw, keep, kept, draws, uniform, sampleQ
 use Rattle.ring.specs.UniformSteps.{heldOf, Gathered}
 use Rattle.ring.specs.declared.uniform.Sampled.{Sampled}
 use Rattle.ring.proofs.Sums.{below-append, below-take, words-zeros}
+
+-- a draw by its seven bytes
+pub draw-by : (s : List ℕ) (n : ℕ) (f : ℕ → ℕ) → ((j : ℕ) → j < 7 → getD s (7 * n + j) 0 ≡ f j) → draw s n ≡ le f 7 % 2 ^ 49
+unfolding draw
+draw-by s n f h = ap (λ (d : ℕ). d % 2 ^ 49) (le-same (λ (j : ℕ). getD s (7 * n + j) 0) f 7 h)
 
 -- ---- stretches of a stream
 
@@ -163,6 +168,10 @@ module _ (s a₀ a : List ℕ) (n r : ℕ) (v : Gathered s n a₀ 0 a r) where
       let l : length (kept s n) < 512 = omega (arith, v .count, length-take 512 (kept s n)) in
       let m : length (kept s (draws (length s))) < 512 = rw h at l in
       rw (lt-leb _ _ m)
+
+pub uniform-few : (s : List ℕ) → length (kept s (draws (length s))) < 512 → uniform s ≡ none
+unfolding uniform
+uniform-few s h = rw (lt-leb _ _ h)
 
 -- over lent bytes: checks 8 and 10
 module _ (s out : List ℕ) where

@@ -1,100 +1,284 @@
--- The mask generator carried on: words drawn in parts are those drawn at once, and from the start those of the seed's stream.
+-- The mask generator carried on: draws one after another are those of the bytes bytesAhead, its polynomials are filled by them, and from the start
+-- they are those of the seed's stream.
 use mathlib.Core.Path.{_≡_, refl, sym, ap, _∙_}
-use mathlib.Core.List.{List, [], _++_}
-use Prim.Native.Nat.{ℕ, zero, suc, _+_, _*_, _/_, _%_, _≤_}
-use native.Mathlib.Nat.{zero-add, mod-lt}
+use mathlib.Core.Bool.{Bool, true, false}
+use mathlib.Core.List.{List, []}
+use mathlib.Core.Option.{Option, some, none}
+use Prim.Native.Nat.{ℕ, zero, suc, min, _+_, _-_, _*_, _/_, _%_, _^_, _≤_, _<_}
+use native.Mathlib.Nat.{zero-add, add-zero, add-suc}
+use native.Mathlib.Numerals.{add-one}
 use native.Mathlib.Omega.{arith}
-use lib.Dec.{lit<}
-use lib.ListN.{getD}
-use Rattle.hash.specs.Lists.{table}
-use Rattle.hash.specs.Shake.{after, absorbed}
-use Rattle.hash.specs.Endian.{word}
-use Rattle.hash.proofs.Paste.{table-more, table-same}
-use Rattle.hash.proofs.Table.{table-none}
-use Rattle.hash.proofs.Output.{after-none, after-next, after-add}
-use Rattle.hash.proofs.Word.{word-after}
+use borrow.Author.Tests.{le-leb, lt-leb}
+use lib.ListN.{length, getD, length-append}
+use Rattle.hash.specs.Lists.{table, zeros, pick}
+use Rattle.hash.specs.Params.{orderIndex}
+use Rattle.hash.specs.Keccak.{State}
+use Rattle.hash.specs.Shake.{after, absorbed, stream}
+use Rattle.hash.proofs.Paste.{table-same}
+use Rattle.hash.proofs.Table.{length-table, getD-table}
+use Rattle.hash.proofs.Output.{after-none, after-next, after-add, stream-after}
 use Rattle.hash.proofs.Flat.{unflat-flat, unflat-permuted, unflat-absorbed}
-use Rattle.ring.specs.Words.{q, Words}
-use Rattle.ring.proofs.Places.{residues-table}
+use Rattle.ring.specs.Words.{Words}
+use Rattle.ring.specs.Checks.{filled, heldOr}
+use Rattle.ring.specs.Uniform.{draw, kept, draws, uniform}
+use Rattle.ring.proofs.Draws.{draw-by, kept-stretch, Front, front-read, fills, unfilled, uniform-few, uniform-words}
+use Rattle.ring.proofs.Filled.{some-filled, none-filled}
+use Rattle.ring.proofs.Sums.{words-zeros}
 use Rattle.sharing.specs.declared.masks.MaskGen.{MaskGen}
-use Rattle.sharing.specs.Encoding.{later, polys}
-use Rattle.sharing.specs.Blocks.{build}
-use Rattle.sharing.specs.Masks.{stateOf, heldAt, maskWord, maskWords, maskMoved, maskStart, masks}
+use Rattle.sharing.specs.declared.masks.Drawn.{Drawn}
+use Rattle.sharing.specs.Encoding.{later, zeroAfter, skip}
+use Rattle.sharing.specs.Masks.{stateOf, placeIn, heldAt, bytesAhead, maskDraw, maskMoved, drawn, marked, used, maskPoly, maskNext, maskStart, masks}
 
 -- the state of a generator that was moved
-whole : (k n : ℕ) (g : MaskGen) → stateOf (heldAt (after k (stateOf g)) n) ≡ after k (stateOf g)
-whole zero n g = rw after-none (unflat-flat (λ (x : ℕ) (y : ℕ). getD (g .lanes) (5 * y + x) 0))
-whole (suc k) n g = rw after-next (unflat-permuted (after k (stateOf g)))
+whole : (k n : ℕ) (g : MaskGen) (b : Bool) → stateOf (heldAt (after k (stateOf g)) n b) ≡ after k (stateOf g)
+whole zero n g b = rw after-none (unflat-flat (λ (x : ℕ) (y : ℕ). getD (g .lanes) (5 * y + x) 0))
+whole (suc k) n g b = rw after-next (unflat-permuted (after k (stateOf g)))
 
-module _ (k : ℕ) (g : MaskGen) where
-  pub word-on : (i : ℕ) → maskWord (maskMoved k g) i ≡ maskWord g (k + i)
+-- ---- n draws on
+
+module _ (n : ℕ) (g : MaskGen) where
+  stream-on : (j : ℕ) → stream (stateOf (maskMoved n g)) (placeIn (maskMoved n g) + j) ≡ stream (stateOf g) (placeIn g + (7 * n + j))
   unfolding maskMoved
-  word-on i =
-      let a = g .at % 17 in
-      let e : 17 * ((a + k) / 17) + ((a + k) % 17 % 17 + i) ≡ a + (k + i) = omega arith in
-      rw (whole ((a + k) / 17) ((a + k) % 17) g, word-after (stateOf g) ((a + k) / 17) ((a + k) % 17 % 17 + i), e)
+  stream-on j =
+      let a = placeIn g + 7 * n in
+      let e : 136 * (a / 136) + (min (a % 136) 135 + j) ≡ placeIn g + (7 * n + j) = omega arith in
+      ap (λ (S : State). stream S (min (a % 136) 135 + j)) (whole (a / 136) (a % 136) g (g .ok))
+      ∙ stream-after (stateOf g) (a / 136) (min (a % 136) 135 + j)
+      ∙ ap (stream (stateOf g)) e
 
-  pub mask-words-add : (j : ℕ) → maskWords (k + j) g ≡ maskWords k g ++ maskWords j (maskMoved k g)
-  unfolding maskWords
-  mask-words-add j = table-more (maskWord g) (maskWord (maskMoved k g)) k j (λ i h. word-on i)
-
-  pub moved-add : (j : ℕ) → maskMoved j (maskMoved k g) ≡ maskMoved (k + j) g
+  pub moved-add : (m : ℕ) → maskMoved m (maskMoved n g) ≡ maskMoved (n + m) g
   unfolding maskMoved
-  moved-add j =
-      let a = g .at % 17 in
-      let d : ((a + k) % 17 % 17 + j) / 17 + (a + k) / 17 ≡ (a + (k + j)) / 17 = omega arith in
-      let e : ((a + k) % 17 % 17 + j) % 17 ≡ (a + (k + j)) % 17 = omega arith in
-      rw (whole ((a + k) / 17) ((a + k) % 17) g, after-add, d, e)
+  moved-add m =
+      let a = placeIn g + 7 * n in
+      let d : (min (a % 136) 135 + 7 * m) / 136 + a / 136 ≡ (placeIn g + 7 * (n + m)) / 136 = omega arith in
+      let e : (min (a % 136) 135 + 7 * m) % 136 ≡ (placeIn g + 7 * (n + m)) % 136 = omega arith in
+      rw (whole (a / 136) (a % 136) g (g .ok), after-add, d, e)
 
--- the place brought below 17
-pub words-settled : (k : ℕ) (g : MaskGen) → maskWords k (maskMoved 0 g) ≡ maskWords k g
-unfolding maskWords
-words-settled k g = table-same (maskWord (maskMoved 0 g)) (maskWord g) k (λ i h. word-on 0 g i ∙ ap (maskWord g) (zero-add i))
+  pub moved-ok : maskMoved n g .ok ≡ g .ok
+  unfolding maskMoved
+  moved-ok = refl
 
-pub moved-settled : (k : ℕ) (g : MaskGen) → maskMoved k (maskMoved 0 g) ≡ maskMoved k g
-moved-settled k g = moved-add 0 g k ∙ ap (λ n. maskMoved n g) (zero-add k)
+  -- the next draw is draw number n of the bytes bytesAhead
+  byte-on : (j : ℕ) → 7 * n + j < 5439 → getD (bytesAhead (maskMoved n g)) j 0 ≡ getD (bytesAhead g) (7 * n + j) 0
+  unfolding bytesAhead
+  byte-on j h =
+      getD-table (λ (j : ℕ). stream (stateOf (maskMoved n g)) (placeIn (maskMoved n g) + j)) 5439 j (omega arith)
+      ∙ stream-on j
+      ∙ sym (getD-table (λ (j : ℕ). stream (stateOf g) (placeIn g + j)) 5439 (7 * n + j) h)
 
--- from the start of a seed's stream (01: masking generator)
-pub mask-first : (seed : List ℕ) (k : ℕ) → maskWords k (maskStart seed) ≡ table (λ i. word (absorbed seed) i % q) k
-unfolding maskWords maskStart
-mask-first seed k =
-    let f : stateOf (heldAt (absorbed seed) 0) ≡ absorbed seed = unflat-absorbed seed in
-    table-same (maskWord (heldAt (absorbed seed) 0)) (λ i. word (absorbed seed) i % q) k (λ i h. rw (f, zero-add))
+  draw-on : n < 777 → maskDraw (maskMoved n g) ≡ draw (bytesAhead g) n
+  unfolding maskDraw
+  draw-on h =
+      let f : ℕ → ℕ = λ (j : ℕ). getD (bytesAhead g) (7 * n + j) 0 in
+      draw-by (bytesAhead (maskMoved n g)) 0 f (λ j l. ap (λ (i : ℕ). getD (bytesAhead (maskMoved n g)) i 0) (zero-add j) ∙ byte-on j (omega arith))
+      ∙ sym (draw-by (bytesAhead g) n f (λ j l. refl))
 
--- masking words are below q
-pub words-low : (k : ℕ) (g : MaskGen) → Words k (maskWords k g)
-unfolding maskWords
-words-low k g = residues-table (maskWord g) (λ i. mod-lt _ (lit< tt)) k
+-- the place brought below 136
+pub moved-none : (g h : MaskGen) → h ≡ maskMoved 0 g → h ≡ maskMoved 0 h
+moved-none g h e = e ∙ sym (ap (maskMoved 0) e ∙ moved-add 0 g 0)
 
-pub mask-low : (g : MaskGen) → Words 512 (maskWords 512 g)
-mask-low = words-low 512
+pub ahead-same : (g : MaskGen) → bytesAhead (maskMoved 0 g) ≡ bytesAhead g
+unfolding bytesAhead
+ahead-same g =
+    table-same (λ (j : ℕ). stream (stateOf (maskMoved 0 g)) (placeIn (maskMoved 0 g) + j)) (λ (j : ℕ). stream (stateOf g) (placeIn g + j)) 5439
+    (λ j h. stream-on 0 g j ∙ ap (λ (i : ℕ). stream (stateOf g) (placeIn g + i)) (zero-add j))
 
--- ---- by polynomials (000, Algorithm 12)
+all-ahead : (g : MaskGen) → draws (length (bytesAhead g)) ≡ 777
+unfolding bytesAhead
+all-ahead g = rw length-table
 
--- the state n polynomials on, n not 0: with 0 the generator stays as it is, where maskMoved brings its place below 17
-pub later-is : (n : ℕ) (g : MaskGen) → 1 ≤ n → later masks n g ≡ maskMoved (n * 512) g
+-- ---- the draws used
+
+pub used-none : (s : List ℕ) → used s 0 ≡ 0
+unfolding used
+used-none s = refl
+
+-- one more, where those before do not fill
+used-more : (s : List ℕ) (i : ℕ) → length (kept s i) < 512 → used s (i + 1) ≡ i + 1
+unfolding used
+used-more s i h = rw (add-one, used, lt-leb _ _ h)
+
+-- none behind the draw that fills
+used-stays : (s : List ℕ) (i m : ℕ) → 512 ≤ length (kept s i) → used s (i + m) ≡ used s i
+unfolding used
+used-stays s i zero h = ap (used s) (add-zero i)
+used-stays s i (suc m) h =
+    let l : 512 ≤ length (kept s (i + m)) = rw (kept-stretch s i m, length-append) (omega arith) in
+    ap (used s) (add-suc i m) ∙ rw (used, le-leb _ _ l) (used-stays s i m h)
+
+-- one draw more
+pub one-more : (h₀ h : MaskGen) (x : Drawn) (p : List ℕ) (i k : ℕ) → h ≡ maskMoved i h₀ → x ≡ drawn h → i < 777 → Front (bytesAhead h₀) [] i p k → k < 512
+    → (x .word ≡ draw (bytesAhead h₀) i) × (x .next ≡ maskMoved (i + 1) h₀) × (used (bytesAhead h₀) (i + 1) ≡ i + 1)
+one-more h₀ h x p i k e d l v n = (
+  ap (λ (x : Drawn). x .word) d ∙ ap maskDraw e ∙ draw-on i h₀ l,
+  ap (λ (x : Drawn). x .next) d ∙ ap (maskMoved 1) e ∙ moved-add i h₀ 1,
+  used-more (bytesAhead h₀) i (omega (arith, v .count)),
+)
+
+-- ---- a polynomial filled by draws
+
+-- the flag decides
+pub dry-poly : (g : MaskGen) → g .ok ≡ false → (zeros 512 ≡ maskPoly g) × (g ≡ maskNext g)
+unfolding maskPoly maskNext
+dry-poly g e = rw e (refl, refl)
+
+module _ (g : MaskGen) (o : g .ok ≡ true) (f : Option (List ℕ)) (e : uniform (bytesAhead g) ≡ f) (n : ℕ) (u : used (bytesAhead g) 777 ≡ n) where
+  ok-poly : heldOr f (zeros 512) ≡ maskPoly g
+  unfolding maskPoly
+  ok-poly =
+      sym
+      (ap (λ (b : Bool). pick b (heldOr (uniform (bytesAhead g)) (zeros 512)) (zeros 512)) o ∙ ap (λ (f : Option (List ℕ)). heldOr f (zeros 512)) e)
+
+  ok-next : marked (filled f) (maskMoved n g) ≡ maskNext g
+  unfolding maskNext
+  ok-next =
+      sym
+      (ap (λ (b : Bool). pick b (marked (filled (uniform (bytesAhead g))) (maskMoved (used (bytesAhead g) 777) g)) g) o
+      ∙ ap (λ (f : Option (List ℕ)). marked (filled f) (maskMoved (used (bytesAhead g) 777) g)) e
+      ∙ ap (λ (n : ℕ). marked (filled f) (maskMoved n g)) u)
+
+-- .. and where the next is ok too, it is some draws on
+next-moved : (g : MaskGen) → g .ok ≡ true → maskNext g .ok ≡ true → maskNext g ≡ maskMoved (used (bytesAhead g) 777) g
+next-moved g o h =
+    let n = used (bytesAhead g) 777 in
+    let f = uniform (bytesAhead g) in
+    let e : marked (filled f) (maskMoved n g) ≡ maskNext g = ok-next g o f refl n refl in
+    let b : filled f ≡ true = ap (λ (x : MaskGen). x .ok) e ∙ h in
+    sym e ∙ (λ j. record { lanes = maskMoved n g .lanes; at = maskMoved n g .at; ok = (b ∙ sym (moved-ok n g ∙ o)) j })
+
+-- g is ok, h₀ is g with its place below 136; i draws are made, and those kept stand at the front of p
+module _ (g h₀ : MaskGen) (o : g .ok ≡ true) (e : h₀ ≡ maskMoved 0 g) (p : List ℕ) (i k : ℕ) (u : used (bytesAhead h₀) i ≡ i) (v : Front (bytesAhead h₀) [] i p k) where
+  ahead-there : bytesAhead h₀ ≡ bytesAhead g
+  ahead-there = ap bytesAhead e ∙ ahead-same g
+
+  moved-there : maskMoved i h₀ ≡ maskMoved i g
+  moved-there = ap (maskMoved i) e ∙ moved-add 0 g i ∙ ap (λ (n : ℕ). maskMoved n g) (zero-add i)
+
+  pub filled-poly : i ≤ 777 → k ≡ 512 → (p ≡ maskPoly g) × (maskMoved i h₀ ≡ maskNext g)
+  filled-poly h l =
+      let f : uniform (bytesAhead g) ≡ some p = rw ahead-there at (fills (bytesAhead h₀) [] p i k (front-read (bytesAhead h₀) [] p 0 i k v) (rw (all-ahead h₀) h) l) in
+      let w : i + (777 - i) ≡ 777 = omega arith in
+      let n : used (bytesAhead g) 777 ≡ i =
+      ap (λ (s : List ℕ). used s 777) (sym ahead-there)
+      ∙ ap (used (bytesAhead h₀)) (sym w)
+      ∙ used-stays (bytesAhead h₀) i (777 - i) (omega (arith, v .count))
+      ∙ u in
+      let m : maskMoved i g ≡ marked true (maskMoved i g) = λ j. record { lanes = maskMoved i g .lanes; at = maskMoved i g .at; ok = (moved-ok i g ∙ o) j } in
+      let t : marked true (maskMoved i g) ≡ marked (filled (some p)) (maskMoved i g) = ap (λ (b : Bool). marked b (maskMoved i g)) (sym (some-filled (some p) p refl)) in
+      (ok-poly g o (some p) f i n, moved-there ∙ m ∙ t ∙ ok-next g o (some p) f i n)
+
+  pub unfilled-poly : i ≡ 777 → k < 512 → (zeros 512 ≡ maskPoly g) × (marked false (maskMoved i h₀) ≡ maskNext g)
+  unfilled-poly h l =
+      let f : uniform (bytesAhead g) ≡ none = rw ahead-there at (unfilled (bytesAhead h₀) [] p i k (front-read (bytesAhead h₀) [] p 0 i k v) (h ∙ sym (all-ahead h₀)) (omega arith)) in
+      let n : used (bytesAhead g) 777 ≡ i = ap (λ (s : List ℕ). used s 777) (sym ahead-there) ∙ ap (used (bytesAhead h₀)) (sym h) ∙ u in
+      let t : marked false (maskMoved i g) ≡ marked (filled {A = ℕ} none) (maskMoved i g) = ap (λ (b : Bool). marked b (maskMoved i g)) (sym (none-filled {A = ℕ} none refl)) in
+      (ok-poly g o none f i n, ap (marked false) moved-there ∙ t ∙ ok-next g o none f i n)
+
+-- ---- words below q
+
+low-held : (s : List ℕ) (f : Option (List ℕ)) → uniform s ≡ f → Words 512 (heldOr f (zeros 512))
+low-held s none e = words-zeros 512
+low-held s (some f) e = uniform-words s f e
+
+low-picked : (b : Bool) (x y : List ℕ) → Words 512 x → Words 512 y → Words 512 (pick b x y)
+low-picked true x y u v = u
+low-picked false x y u v = v
+
+pub mask-low : (g : MaskGen) → Words 512 (maskPoly g)
+unfolding maskPoly
+mask-low g = low-picked (g .ok) (heldOr (uniform (bytesAhead g)) (zeros 512)) (zeros 512) (low-held (bytesAhead g) (uniform (bytesAhead g)) refl) (words-zeros 512)
+
+-- ---- a dry generator stays dry: one that is ok was ok before
+
+sticky : (b : Bool) (x g : MaskGen) → g .ok ≡ b → pick b x g .ok ≡ true → b ≡ true
+sticky true x g e h = refl
+sticky false x g e h = sym e ∙ h
+
+next-ok : (g : MaskGen) → maskNext g .ok ≡ true → g .ok ≡ true
+unfolding maskNext
+next-ok g h = sticky (g .ok) (marked (filled (uniform (bytesAhead g))) (maskMoved (used (bytesAhead g) 777) g)) g refl h
+
+pub later-ok : (n : ℕ) (g : MaskGen) → later masks n g .ok ≡ true → g .ok ≡ true
 unfolding later
-later-is zero g h = absurd (omega arith)
-later-is (suc zero) g h = refl
-later-is (suc (suc n)) g h =
-    ap (maskMoved 512) (later-is (suc n) g (omega arith)) ∙ moved-add (suc n * 512) g 512 ∙ ap (λ k. maskMoved k g) (omega arith)
+later-ok zero g h = h
+later-ok (suc n) g h = later-ok n g (next-ok (later masks n g) h)
 
--- the words of n polynomials
-words-later : (n : ℕ) (g : MaskGen) → maskWords 512 (later masks n g) ≡ maskWords 512 (maskMoved (n * 512) g)
-unfolding later
-words-later zero g = sym (words-settled 512 g)
-words-later (suc n) g = ap (maskWords 512) (later-is (suc n) g (omega arith))
+pub zeroAfter-ok : (h : ℕ) (g : MaskGen) → zeroAfter masks h g .ok ≡ true → g .ok ≡ true
+unfolding zeroAfter
+zeroAfter-ok zero g e = e
+zeroAfter-ok (suc h) g e = zeroAfter-ok h g (zeroAfter-ok h (zeroAfter masks h g) (later-ok (2 ^ h) (zeroAfter masks h (zeroAfter masks h g)) e))
 
-none : (g : MaskGen) → [] ≡ maskWords 0 g
-unfolding maskWords
-none g = sym (table-none (maskWord g))
+pub skip-ok : (d n : ℕ) (g : MaskGen) → skip masks d n g .ok ≡ true → g .ok ≡ true
+unfolding skip
+skip-ok d zero g e = e
+skip-ok d (suc n) g e = skip-ok d n g (zeroAfter-ok (orderIndex d) (skip masks d n g) e)
 
-pub polys-are : (n : ℕ) (g : MaskGen) → polys masks n g ≡ maskWords (n * 512) g
-unfolding polys build
-polys-are zero g = none g
-polys-are (suc n) g =
-    let e : n * 512 + 512 ≡ suc n * 512 = omega arith in
-    ap (λ l. l ++ maskWords 512 (later masks n g)) (polys-are n g)
-    ∙ ap (λ l. maskWords (n * 512) g ++ l) (words-later n g)
-    ∙ sym (mask-words-add (n * 512) g 512)
-    ∙ ap (λ k. maskWords k g) e
+-- one share takes no masks; the generator of a seed is ok
+pub skip-one : (n : ℕ) (g : MaskGen) → skip masks 1 n g ≡ g
+unfolding skip zeroAfter
+skip-one zero g = refl
+skip-one (suc n) g = skip-one n g
+
+pub start-ok : (seed : List ℕ) → maskStart seed .ok ≡ true
+unfolding maskStart
+start-ok seed = refl
+
+-- fewer than 512 of the next 777 draws are kept: the generator runs dry
+pub few-dry : (g : MaskGen) → length (kept (bytesAhead g) 777) < 512 → maskNext g .ok ≡ false
+few-dry g h = go (g .ok) refl
+  where
+    go : (b : Bool) → g .ok ≡ b → maskNext g .ok ≡ false
+    go true o =
+        let f : uniform (bytesAhead g) ≡ none = uniform-few (bytesAhead g) (rw (all-ahead g) h) in
+        ap (λ (x : MaskGen). x .ok) (sym (ok-next g o none f (used (bytesAhead g) 777) refl)) ∙ none-filled {A = ℕ} none refl
+    go false o = ap (λ (x : MaskGen). x .ok) (sym (dry-poly g o .1)) ∙ o
+
+-- ---- from the start of a seed's stream (01: masking generator)
+
+module _ (seed : List ℕ) where
+  -- the bytes of 777 draws of the stream, from draw n on; and how many draws the first n polynomials use
+  unfoldable pub bytesFrom : ℕ → List ℕ
+  bytesFrom n = table (λ (j : ℕ). stream (absorbed seed) (7 * n + j)) 5439
+
+  unfoldable pub drawsBefore : ℕ → ℕ
+  drawsBefore zero = 0
+  drawsBefore (suc n) = drawsBefore n + used (bytesFrom (drawsBefore n)) 777
+
+  start-state : stateOf (maskStart seed) ≡ absorbed seed
+  unfolding maskStart
+  start-state = unflat-absorbed seed
+
+  start-place : maskStart seed ≡ maskMoved 0 (maskStart seed)
+  unfolding maskMoved maskStart
+  start-place = sym (ap (λ (S : State). heldAt S 0 true) (after-none (stateOf (maskStart seed)) ∙ start-state))
+
+  ahead-moved : (n : ℕ) → bytesAhead (maskMoved n (maskStart seed)) ≡ bytesFrom n
+  unfolding bytesAhead bytesFrom maskStart
+  ahead-moved n =
+      table-same (λ (j : ℕ). stream (stateOf (maskMoved n (maskStart seed))) (placeIn (maskMoved n (maskStart seed)) + j)) (λ (j : ℕ). stream (absorbed seed) (7 * n + j)) 5439
+      (λ j h. stream-on n (maskStart seed) j ∙ ap (λ (S : State). stream S (0 + (7 * n + j))) start-state ∙ ap (stream (absorbed seed)) (zero-add (7 * n + j)))
+
+  -- polynomial number n begins behind the draws that those before it use
+  moved-by : (n : ℕ) → later masks n (maskStart seed) .ok ≡ true → later masks n (maskStart seed) ≡ maskMoved (drawsBefore n) (maskStart seed)
+  unfolding later drawsBefore
+  moved-by zero h = start-place
+  moved-by (suc n) h =
+      let x = later masks n (maskStart seed) in
+      let o : x .ok ≡ true = next-ok x h in
+      let e : x ≡ maskMoved (drawsBefore n) (maskStart seed) = moved-by n o in
+      let a : bytesAhead x ≡ bytesFrom (drawsBefore n) = ap bytesAhead e ∙ ahead-moved (drawsBefore n) in
+      next-moved x o h
+      ∙ ap (λ (s : List ℕ). maskMoved (used s 777) x) a
+      ∙ ap (maskMoved (used (bytesFrom (drawsBefore n)) 777)) e
+      ∙ moved-add (drawsBefore n) (maskStart seed) (used (bytesFrom (drawsBefore n)) 777)
+
+  -- .. and is that of the 777 draws there: filled, or the generator is dry
+  pub mask-poly : (n : ℕ) → later masks n (maskStart seed) .ok ≡ true
+      → (maskPoly (later masks n (maskStart seed)) ≡ heldOr (uniform (bytesFrom (drawsBefore n))) (zeros 512))
+      × (later masks (suc n) (maskStart seed) .ok ≡ filled (uniform (bytesFrom (drawsBefore n))))
+  unfolding later
+  mask-poly n h =
+      let x = later masks n (maskStart seed) in
+      let a : bytesAhead x ≡ bytesFrom (drawsBefore n) = ap bytesAhead (moved-by n h) ∙ ahead-moved (drawsBefore n) in
+      let u = ap uniform a in
+      (sym (ok-poly x h (uniform (bytesFrom (drawsBefore n))) u (used (bytesAhead x) 777) refl), ap (λ (g : MaskGen). g .ok) (sym (ok-next x h (uniform (bytesFrom (drawsBefore n))) u (used (bytesAhead x) 777) refl)))

@@ -1,21 +1,33 @@
-// The mask generator (01: masking generator): the words of SHAKE256 of a seed, each modulo q, for zero encodings (000, Algorithm 12).
+// The mask generator (01: masking generator): polynomials of masking words from the stream of SHAKE256 of a seed, read as those of the matrix are,
+// for zero encodings (000, Algorithm 12).
 ghost use mathlib.Core.Path.{_≡_};
-ghost use Prim.Native.Nat.{_+_, _*_};
+ghost use mathlib.Core.Bool.{false};
+ghost use Prim.Native.Nat.{_+_, _*_, _/_, _%_, _^_, _<_, _≤_};
 ghost use lib.ListN.{getD, length};
 ghost use Rattle.hash.specs.Keccak.{lanes};
-ghost use Rattle.sharing.specs.Masks.{heldAt, maskWord, maskWords, maskMoved, maskStart, drawn};
+ghost use Rattle.sharing.specs.declared.masks.Neighbours.{Neighbours};
+ghost use Rattle.sharing.specs.Masks.{heldAt, maskDraw, maskMoved, maskStart, drawn, marked, maskPoly, maskNext};
+use crate::region::clear;
+use hash::num::least;
 use ring::poly::Q;
 
-// A state of SHAKE256, its lanes in the order of FIPS 202, 3.1.2, and the place of the next word in its block, taken modulo 17.
+// A state of SHAKE256, its lanes in the order of FIPS 202, 3.1.2; the place of the next draw, a byte of its block; and whether no polynomial ran dry.
 pub struct MaskGen {
     pub lanes: [u64; 25],
     pub at: usize,
+    pub ok: bool,
 }
 
-// A word, and the generator behind it.
+// A draw, and the generator behind it.
 pub struct Drawn {
     pub word: u64,
     pub next: MaskGen,
+}
+
+// Two lanes, one behind the other.
+pub struct Neighbours {
+    pub low: u64,
+    pub high: u64,
 }
 
 // Lanes as five planes.
@@ -32,8 +44,8 @@ fn planes(l: [u64; 25]) -> [[u64; 5]; 5]
 }
 
 // The generator at a place of a state's block.
-fn hold(s: [[u64; 5]; 5], at: usize) -> MaskGen
-    ensures { λ r. ⌜ r ≡ heldAt s at ⌝ }
+fn hold(s: [[u64; 5]; 5], at: usize, ok: bool) -> MaskGen
+    ensures { λ r. ⌜ r ≡ heldAt s at ok ⌝ }
 {
     let a = s[0];
     let b = s[1];
@@ -69,6 +81,7 @@ fn hold(s: [[u64; 5]; 5], at: usize) -> MaskGen
             e[4],
         ],
         at: at,
+        ok: ok,
     }
 }
 
@@ -77,47 +90,138 @@ pub fn start(seed: &[u8]) -> MaskGen
     ensures { λ r. ⌜ r ≡ maskStart (now (seed .entry)) ⌝ }
 {
     let s = hash::shake::absorb(hash::shake::start(), 0, seed);
-    hold(hash::shake::finish(s, seed.len()), 0)
+    hold(hash::shake::finish(s, seed.len()), 0, true)
 }
 
-// The same generator, its place below 17.
+// The same generator, its place below 136.
 fn settled(g: MaskGen) -> MaskGen
     ensures { λ r. ⌜ r ≡ maskMoved 0 g ⌝ }
 {
     let l = g.lanes;
-    let at = g.at;
+    let at = least(g.at, 135);
     MaskGen {
         lanes: l,
-        at: at % 17,
+        at: at,
+        ok: g.ok,
     }
 }
 
-// A draw, on values: the word at the place, and with the last word of a block the next block.
+// Lanes k and k + 1. No index here is computed, so that the compiler holds lanes and not an array, which it would copy for each draw.
+fn lanes_from(l: [u64; 25], k: usize) -> Neighbours
+    requires { ⌜ k ≤ 16 ⌝ }
+    ensures { λ r. ⌜ r ≡ record { low = getD l k 0; high = getD l (k + 1) 0 } ⌝ }
+{
+    match k {
+        0 => Neighbours {
+            low: l[0],
+            high: l[1],
+        },
+        1 => Neighbours {
+            low: l[1],
+            high: l[2],
+        },
+        2 => Neighbours {
+            low: l[2],
+            high: l[3],
+        },
+        3 => Neighbours {
+            low: l[3],
+            high: l[4],
+        },
+        4 => Neighbours {
+            low: l[4],
+            high: l[5],
+        },
+        5 => Neighbours {
+            low: l[5],
+            high: l[6],
+        },
+        6 => Neighbours {
+            low: l[6],
+            high: l[7],
+        },
+        7 => Neighbours {
+            low: l[7],
+            high: l[8],
+        },
+        8 => Neighbours {
+            low: l[8],
+            high: l[9],
+        },
+        9 => Neighbours {
+            low: l[9],
+            high: l[10],
+        },
+        10 => Neighbours {
+            low: l[10],
+            high: l[11],
+        },
+        11 => Neighbours {
+            low: l[11],
+            high: l[12],
+        },
+        12 => Neighbours {
+            low: l[12],
+            high: l[13],
+        },
+        13 => Neighbours {
+            low: l[13],
+            high: l[14],
+        },
+        14 => Neighbours {
+            low: l[14],
+            high: l[15],
+        },
+        15 => Neighbours {
+            low: l[15],
+            high: l[16],
+        },
+        _ => Neighbours {
+            low: l[16],
+            high: l[17],
+        },
+    }
+}
+
+// The 49 bits from byte r on of two lanes.
+fn draw_bits(x: u64, y: u64, r: usize) -> u64
+    requires { ⌜ r < 8 ⌝ }
+    ensures { λ d. ⌜ d ≡ (x + y * 2 ^ 64) / 2 ^ (8 * r) % 2 ^ 49 ⌝ }
+{
+    let s = 8 * r;
+    (x >> s | y << 1 << (63 - s)) % 0x2_0000_0000_0000
+}
+
+// A draw, on values: the seven bytes at the place; with the last bytes of a block the next block.
 fn step(g: MaskGen) -> Drawn
     ensures { λ r. ⌜ r ≡ drawn g ⌝ }
 {
     let l = g.lanes;
-    let place = g.at;
-    let at = place % 17;
-    let word = l[at] % Q;
-    if at == 16 {
+    let ok = g.ok;
+    let at = least(g.at, 135);
+    if at < 129 {
+        let n = lanes_from(l, at / 8);
+        let word = draw_bits(n.low, n.high, at % 8);
         return Drawn {
             word: word,
-            next: hold(hash::keccak::permute(planes(l)), 0),
+            next: MaskGen {
+                lanes: l,
+                at: at + 7,
+                ok: ok,
+            },
         };
     }
+    let s = hash::keccak::permute(planes(l));
+    let word = draw_bits(l[16], s[0][0], at % 8);
     Drawn {
         word: word,
-        next: MaskGen {
-            lanes: l,
-            at: at + 1,
-        },
+        next: hold(s, at - 129, ok),
     }
 }
 
 // A draw: the generator is lent, and moved on. It has one caller, as draw_value has, so that both are compiled into fill.
 pub fn draw(g: &mut MaskGen) -> u64
-    ensures { λ r. ⌜ (r ≡ maskWord (now (g .entry)) 0) × (now (g .exit) ≡ maskMoved 1 (now (g .entry))) ⌝ }
+    ensures { λ r. ⌜ (r ≡ maskDraw (now (g .entry))) × (now (g .exit) ≡ maskMoved 1 (now (g .entry))) ⌝ }
 {
     let x = step(*g);
     *g = x.next;
@@ -133,15 +237,43 @@ pub fn draw_value(g: MaskGen) -> Drawn
     Drawn { word: w, next: h }
 }
 
-// The whole of p by draws: a polynomial of masking words, and the generator behind it.
-pub fn fill(p: &mut [u64], g: MaskGen) -> MaskGen
-    ensures { λ r. ⌜ (now (p .exit) ≡ maskWords (length (now (p .entry))) g) × (r ≡ maskMoved (length (now (p .entry))) g) ⌝ }
+// The generator, dry.
+fn dried(g: MaskGen) -> MaskGen
+    ensures { λ r. ⌜ r ≡ marked false g ⌝ }
 {
+    let l = g.lanes;
+    MaskGen {
+        lanes: l,
+        at: g.at,
+        ok: false,
+    }
+}
+
+// The next polynomial into p, and the generator behind it: draws below q until there are 512, at most 777 draws. Else p is zero and the generator dry.
+pub fn fill(p: &mut [u64], g: MaskGen) -> MaskGen
+    requires { ⌜ length (now p) ≡ 512 ⌝ }
+    ensures { λ r. ⌜ (now (p .exit) ≡ maskPoly g) × (r ≡ maskNext g) ⌝ }
+{
+    if !g.ok {
+        clear(p);
+        return g;
+    }
     let mut h = settled(g);
-    for i in 0..p.len() {
+    let mut k: usize = 0;
+    let mut i: usize = 0;
+    while k < 512 {
+        if i == 777 {
+            clear(p);
+            return dried(h);
+        }
         let x = draw_value(h);
-        p[i] = x.word;
         h = x.next;
+        i += 1;
+        let w = x.word;
+        if w < Q {
+            p[k] = w;
+            k += 1;
+        }
     }
     h
 }

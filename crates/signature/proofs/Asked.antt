@@ -16,7 +16,7 @@ use Rattle.ring.proofs.Checks.{asked, no-before, yes-before, both-true}
 use Rattle.sharing.specs.Encoding.{refreshed}
 use Rattle.sharing.specs.Masks.{masks, maskStart}
 use Rattle.signature.specs.Matrix.{filled}
-use Rattle.signature.specs.Keys.{packed, expanded, fullShare, expandOf, expandedOf, refreshOf, refreshedOf}
+use Rattle.signature.specs.Keys.{packed, expanded, fullShare, expandOf, expandedOf, refreshOf, refreshMasksFill, refreshedOf}
 use Rattle.signature.specs.Checks.{firstNo, both, signingKeySized, expandedKeySized, publicKeyGood, fullShareGood, shareWordsGood, maskSeedSized, keyChecks}
 use Rattle.signature.specs.ExpandedKey.{ExpandedKey, expandedBytes, vkIn}
 use Rattle.signature.specs.KeyCalls.{keyLeaves, expandCall, refreshCall}
@@ -27,10 +27,12 @@ sizes x v y n e = let b = both-true (eqb x v) (eqb y n) e in (eqb-true x v (b .0
 
 -- ---- refreshing
 
--- the checks behind the look-up
+-- the checks behind those of the key, and all behind the look-up
+abbrev pub refreshLast : Params → List ℕ → List ℕ → List ℕ → List (ℕ × Bool)
+refreshLast p mask bytes words = (7, maskSeedSized mask) ∷ (8, expandedKeySized p bytes words) ∷ (20, refreshMasksFill p mask) ∷ []
+
 abbrev pub refreshBehind : Params → ExpandedKey → List ℕ → List ℕ → List ℕ → List (ℕ × Bool)
-refreshBehind p K mask bytes words =
-    keyChecks p (expanded K) ++ ((7, maskSeedSized mask) ∷ (8, expandedKeySized p bytes words) ∷ [])
+refreshBehind p K mask bytes words = keyChecks p (expanded K) ++ refreshLast p mask bytes words
 
 pub record Refreshable (p : Params) (K : ExpandedKey) (bytes words : List ℕ) : Type 0 where
   pub key-long : length (K .bytes) ≡ expandedBytes p

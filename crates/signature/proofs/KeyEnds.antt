@@ -8,7 +8,7 @@ use Rattle.hash.specs.Params.{lookupOf}
 use Rattle.hash.specs.declared.params.Edition.{Edition}
 use Rattle.hash.specs.declared.params.Params.{Params}
 use Rattle.hash.specs.declared.params.Selected.{Selected}
-use Rattle.signature.specs.Keys.{keygenBytes, keygenOf}
+use Rattle.signature.specs.Keys.{keygenBytes, keygenOf, keygenMasksFill}
 use Rattle.signature.specs.Checks.{firstNo, workWords, keygenSeedsSized, keygenBuffersSized}
 use Rattle.signature.specs.KeyCalls.{keygenLeaves, keygenCall}
 use Rattle.signature.specs.Matrix.{filled}
@@ -16,10 +16,13 @@ use Rattle.signature.specs.Outcome.{outcome}
 use Rattle.ring.proofs.Checks.{asked, no-before, yes-before}
 use Rattle.signature.proofs.Asked.{sizes}
 
--- ---- the checks behind the look-up, but the last
+-- ---- the checks behind the look-up: of the sizes, and of what is drawn
 
 abbrev pub keygenBehind : Params → List ℕ → List ℕ → List ℕ → List ℕ → List (ℕ × Bool)
 keygenBehind p seeds mask out work = (7, keygenSeedsSized p seeds mask) ∷ (8, keygenBuffersSized p out work) ∷ []
+
+abbrev pub keygenLast : Params → List ℕ → List ℕ → List (ℕ × Bool)
+keygenLast p seeds mask = (10, filled (keygenOf p seeds mask)) ∷ (20, keygenMasksFill p seeds mask) ∷ []
 
 pub record Passed (p : Params) (seeds mask out work : List ℕ) : Type 0 where
   pub seeds-long : length seeds ≡ keygenBytes p
@@ -47,10 +50,8 @@ module _ (e : Edition) (set d : ℕ) (seeds mask out work : List ℕ) where
   keygen-no-shares h = rw h refl
 
   module _ (p : Params) (h : lookupOf set d e ≡ Selected.Found p) where
-    abbrev last : List (ℕ × Bool)
-    last = (10, filled (keygenOf p seeds mask)) ∷ []
-
-    keygen-is : keygenLeaves (firstNo (keygenBehind p seeds mask out work ++ last)) p seeds mask out work ≡ keygenCall e set d seeds mask out work
+    keygen-is : keygenLeaves (firstNo (keygenBehind p seeds mask out work ++ keygenLast p seeds mask)) p seeds mask out work
+        ≡ keygenCall e set d seeds mask out work
     unfolding keygenCall
     keygen-is = rw h refl
 
@@ -64,11 +65,12 @@ module _ (e : Edition) (set d : ℕ) (seeds mask out work : List ℕ) where
         → outcome n out work ≡ keygenCall e set d seeds mask out work
     keygen-refused n k f =
         early (keygenSeedsSized p seeds mask) (keygenBuffersSized p out work) n k f
-        ∙ ap (λ (m : ℕ). keygenLeaves m p seeds mask out work) (no-before (keygenBehind p seeds mask out work) last n k f) ∙ keygen-is
+        ∙ ap (λ (m : ℕ). keygenLeaves m p seeds mask out work) (no-before (keygenBehind p seeds mask out work) (keygenLast p seeds mask) n k f)
+        ∙ keygen-is
 
     pub keygen-on : firstNo (keygenBehind p seeds mask out work) ≡ 0
-        → keygenLeaves (firstNo ((10, filled (keygenOf p seeds mask)) ∷ [])) p seeds mask out work ≡ keygenCall e set d seeds mask out work
+        → keygenLeaves (firstNo (keygenLast p seeds mask)) p seeds mask out work ≡ keygenCall e set d seeds mask out work
     keygen-on k =
         ap (λ (m : ℕ). keygenLeaves m p seeds mask out work)
-        (sym (yes-before (keygenBehind p seeds mask out work) last refl k))
+        (sym (yes-before (keygenBehind p seeds mask out work) (keygenLast p seeds mask) refl k))
         ∙ keygen-is

@@ -1,7 +1,7 @@
 -- Key generation (000, Algorithm 1): the steps on the work buffer, joined.
 use mathlib.Core.Path.{_≡_, sym, ap, subst, _∙_}
 use mathlib.Core.Bool.{Bool, true, false}
-use mathlib.Core.List.{List}
+use mathlib.Core.List.{List, [], _∷_}
 use mathlib.Core.Option.{some}
 use Prim.Native.Nat.{ℕ, suc, _+_, _-_, _*_, _/_, _^_, _≤_, _<_}
 use native.Mathlib.Omega.{arith}
@@ -13,17 +13,19 @@ use Rattle.hash.proofs.Rows.{count-power}
 use Rattle.ring.specs.Words.{q, Below, Words}
 use Rattle.ring.specs.Rns.{wordsOf}
 use Rattle.ring.specs.Round.{roundT}
+use Rattle.ring.specs.Checks.{heldOr}
+use Rattle.ring.proofs.Checks.{no-here, left-no}
 use Rattle.ring.proofs.Filled.{not-there}
 use Rattle.sharing.specs.Blocks.{block, totals}
 use Rattle.sharing.specs.Region.{span, Wrote}
-use Rattle.sharing.specs.Encoding.{addNoise}
-use Rattle.sharing.specs.Masks.{masks}
+use Rattle.sharing.specs.Encoding.{skip, addNoise}
+use Rattle.sharing.specs.Masks.{masks, maskStart}
 use Rattle.sharing.specs.Noise.{noiseBytes, seedNoise}
 use Rattle.sharing.specs.declared.masks.MaskGen.{MaskGen}
 use Rattle.sharing.proofs.Regions.{wrote-value, wrote-wide, wrote-over}
-use Rattle.signature.specs.Checks.{both, workWords}
-use Rattle.signature.specs.KeygenSteps.{Rounded, Generated}
-use Rattle.signature.specs.Keys.{keyShares, keyVector, compressed}
+use Rattle.signature.specs.Checks.{firstNo, both, workWords}
+use Rattle.signature.specs.KeygenSteps.{Rounded, Generated, fullShareOf, keygenFills}
+use Rattle.signature.specs.Keys.{keyShares, keyVector, keyMasksFill, compressed}
 use Rattle.signature.specs.Compress.{compressedOf}
 use Rattle.signature.specs.Layout.{atS, atT, atX}
 use Rattle.signature.specs.Masked.{Noise, seeded, maskedNoise, maskedImage}
@@ -49,22 +51,11 @@ rounded-made p to W s₀ s₁ s₂ h u v =
 both-right : (a b : Bool) → a ≡ true → both a b ≡ b
 both-right a b e = ap (λ (c : Bool). both c b) e
 
-both-no : (p : Params) (seed coins shares : List ℕ) (g : MaskGen) → filled (matrixOf (p .k) (p .l) seed) ≡ false
-    → false ≡ both (filled (matrix p seed)) (filled (compressed p shares (keyShares p coins g)))
-both-no p seed coins shares g e = sym (ap (λ (c : Bool). both c (filled (compressed p shares (keyShares p coins g)))) e)
-
-abbrev Said : Params → List ℕ → List ℕ → List ℕ → Bool → List ℕ → MaskGen → Type 0
-Said p seed coins shares c s g =
-    (c ≡ both (filled (matrix p seed)) (filled (compressed p shares (keyShares p coins g))))
-    × ((A X : List ℕ) → matrix p seed ≡ some A → compressed p shares (keyShares p coins g) ≡ some X
-    → Generated p coins g A X s)
-
--- what `make_parts` ensures: the same, with the work buffer s₀ before
-abbrev pub PartsLeft : Params → MaskGen → Bool → List ℕ → List ℕ → List ℕ → List ℕ → List ℕ → Type 0
-PartsLeft p g r s₀ s seed coins shares =
-    ((r ≡ both (filled (matrix p seed)) (filled (compressed p shares (keyShares p coins g)))) × (length s ≡ length s₀) × Below q s)
-    × ((A x : List ℕ) → matrix p seed ≡ some A → compressed p shares (keyShares p coins g) ≡ some x
-    → Generated p coins g A x s)
+-- what `make_parts` ensures, with the work buffer s₀ before
+abbrev pub PartsLeft : Params → List ℕ → ℕ → List ℕ → List ℕ → List ℕ → List ℕ → List ℕ → Type 0
+PartsLeft p mask r s₀ s seed coins shares =
+    ((r ≡ firstNo (keygenFills p seed coins shares mask)) × (length s ≡ length s₀) × Below q s)
+    × ((A x : List ℕ) → matrix p seed ≡ some A → fullShareOf p shares coins mask ≡ some x → Generated p coins (maskStart mask) A x s)
 
 -- the noise of key generation, and its seeds behind those of s
 abbrev noiseOf : Params → List ℕ → Noise
@@ -82,7 +73,10 @@ abbrev imageOf : Params → List ℕ → MaskGen → List ℕ → List ℕ → L
 imageOf p rest x M S =
     addNoise masks (p .shares) x (p .k) (p .rep) (seedNoise (p .shares) (p .rep) (p .ut) (p .kappa / 8) rest) (rowsOf (p .shares) (p .k) (p .l) M S)
 
-module _ (p : Params) (power : p .shares ≡ 2 ^ orderIndex (p .shares)) (coins shares : List ℕ) (g : MaskGen) where
+module _ (p : Params) (power : p .shares ≡ 2 ^ orderIndex (p .shares)) (coins shares mask : List ℕ) where
+  abbrev g : MaskGen
+  g = maskStart mask
+
   shares-is : transformed (p .l * p .shares) (maskedNoise p (noiseOf p coins) g .shares) ≡ keyShares p coins g
   unfolding keyShares
   shares-is = transformed-each (p .l) (p .shares) (maskedNoise p (noiseOf p coins) g .shares)
@@ -92,6 +86,12 @@ module _ (p : Params) (power : p .shares ≡ 2 ^ orderIndex (p .shares)) (coins 
       ≡ maskedImage p (noiseOf p coins) g (matrixIn p M) .shares
   unfolding seeded
   rows-are M x h f = image-is p (noiseOf p coins) g x power f M h
+
+  -- check 20: the generator behind line 6 tells, whatever the matrix
+  masks-are : (A : List ℕ) (x y : MaskGen) → x ≡ maskedNoise p (noiseOf p coins) g .next → y ≡ skip masks (p .shares) (p .k * p .rep) x
+      → y .ok ≡ keyMasksFill p coins g A
+  unfolding keyMasksFill maskedImage seeded
+  masks-are A x y e f = ap (λ (h : MaskGen). h .ok) (f ∙ ap (skip masks (p .shares) (p .k * p .rep)) e)
 
   vector-is : (A W : List ℕ) → W ≡ maskedImage p (noiseOf p coins) g A .shares → roundT (totals (p .k) (p .shares) W) ≡ keyVector p coins g A
   unfolding keyVector
@@ -132,8 +132,13 @@ module _ (p : Params) (power : p .shares ≡ 2 ^ orderIndex (p .shares)) (coins 
           full = z .new;
         }
 
-    made-parts : (g′ : MaskGen) → g ≡ g′ → Said p seed coins shares c s₃ g′
-    made-parts g′ e = subst (Said p seed coins shares c s₃) e (key-filled, key-made)
+    -- .. and r the status, y being the generator behind `public_vector`
+    made-parts : (y : MaskGen) (r : ℕ) → y ≡ skip masks (p .shares) (p .k * p .rep) x → r ≡ firstNo ((10, c) ∷ (20, y .ok) ∷ [])
+        → (r ≡ firstNo (keygenFills p seed coins shares mask))
+        × ((A X : List ℕ) → matrix p seed ≡ some A → fullShareOf p shares coins mask ≡ some X → Generated p coins g A X s₃)
+    made-parts y r hy e =
+        let full-mask = masks-are (heldOr (matrix p seed) []) x y hx hy in
+        (e ∙ (λ i. firstNo ((10, key-filled i) ∷ (20, full-mask i) ∷ [])), key-made)
 
 -- ---- the calls of `make_parts`, one behind the other: s₀ is the work buffer behind `clear`, the others as above; s stands at `at`, t at `to`
 
@@ -143,11 +148,11 @@ module _ (p : Params) (work s₀ : List ℕ) (clear : s₀ ≡ zeros (length wor
   start = cleared work s₀ clear
 
   -- what is left where the matrix does not fill
-  pub none-made : (seed coins shares : List ℕ) (g : MaskGen) (found : Bool) → found ≡ filled (matrixOf (p .k) (p .l) seed) → found ≡ false
-      → PartsLeft p g false work s₀ seed coins shares
-  none-made seed coins shares g found e f =
+  pub none-made : (seed coins shares mask : List ℕ) (found : Bool) → found ≡ filled (matrixOf (p .k) (p .l) seed) → found ≡ false
+      → PartsLeft p mask 10 work s₀ seed coins shares
+  none-made seed coins shares mask found e f =
       let no = sym e ∙ f in
-      ((both-no p seed coins shares g no, start .long, start .low), λ A X m k. not-there _ A m no)
+      ((no-here 10 _ (left-no _ no), start .long, start .low), λ A X m k. not-there _ A m no)
 
   module _ (h : Tabled p) (coins : List ℕ) (at to : ℕ) (long : length work ≡ workWords p) (coins-long : length coins ≡ noiseBytes p)
       (at-s : at ≡ atS (p .shares)) (at-t : to ≡ atT (p .l) (p .shares)) where
@@ -192,17 +197,19 @@ module _ (p : Params) (work s₀ : List ℕ) (clear : s₀ ≡ zeros (length wor
               omega arith,
             )
 
-        -- what is left where it does
-        pub parts-made : (seed s₃ : List ℕ) (g′ : MaskGen) (found r : Bool) → g ≡ g′ → found ≡ filled (matrixOf (p .k) (p .l) seed) → found ≡ true
+        -- what is left where it does, with status r
+        pub parts-made : (seed s₃ mask : List ℕ) (y : MaskGen) (found c : Bool) (r : ℕ) → g ≡ maskStart mask
+            → found ≡ filled (matrixOf (p .k) (p .l) seed) → found ≡ true
             → ((A : List ℕ) → matrixOf (p .k) (p .l) seed ≡ some A → matrixIn p (wordsOf M) ≡ A) → x ≡ maskedNoise p (noiseOf p coins) g .next
-            → (r ≡ filled (compressedOf (p .edition) (p .kappa / 8) shares (p .l) (p .shares) (span s₂ at (p .l * (p .shares * 512)))))
+            → y ≡ skip masks (p .shares) (p .k * p .rep) x
+            → (c ≡ filled (compressedOf (p .edition) (p .kappa / 8) shares (p .l) (p .shares) (span s₂ at (p .l * (p .shares * 512)))))
             × (length s₃ ≡ length s₂) × Below q s₃
             → ((X : List ℕ) → compressedOf (p .edition) (p .kappa / 8) shares (p .l) (p .shares) (span s₂ at (p .l * (p .shares * 512))) ≡ some X
-            → Wrote 0 from (p .l * 512) X s₂ s₃) → PartsLeft p g′ r work s₃ seed coins shares
-        parts-made seed s₃ g′ found r g-is e there is x-is full wrote =
-            let m = made-parts p (count-power (p .shares) (h .count)) coins shares g seed (wordsOf M) (lentRest p coins) s₀ s₁ s₂ s₃ x
-            (part-all (p .l * p .rep * p .shares * (p .kappa / 8)) coins) (rw at-s at u) x-is (held-in .0) (sym e ∙ there) is (rw (at-s, at-t) at v) r
-            (rw at-s at (full .0)) (rw (at-s, at-x) at wrote) g′ g-is in
+            → Wrote 0 from (p .l * 512) X s₂ s₃) → r ≡ firstNo ((10, c) ∷ (20, y .ok) ∷ []) → PartsLeft p mask r work s₃ seed coins shares
+        parts-made seed s₃ mask y found c r g-is e there is x-is y-is full wrote told =
+            let m = made-parts p (count-power (p .shares) (h .count)) coins shares mask seed (wordsOf M) (lentRest p coins) s₀ s₁ s₂ s₃ x
+            (part-all (p .l * p .rep * p .shares * (p .kappa / 8)) coins) (rw (at-s, g-is) at u) (rw g-is at x-is) (held-in .0) (sym e ∙ there) is (rw (at-s, at-t) at v) c
+            (rw at-s at (full .0)) (rw (at-s, at-x) at wrote) y r y-is told in
             ((m .0, full .1 ∙ still-long, full .2), m .1)
 
 -- what is said of the parts of the seeds, said of the seeds

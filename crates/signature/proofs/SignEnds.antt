@@ -18,7 +18,7 @@ use Rattle.signature.specs.AttemptSteps.{keyFrom}
 use Rattle.signature.specs.Checks.{both, keySized, keyChecks}
 use Rattle.signature.specs.Keys.{vkSeed, publicOf, digestOf, sharesOf}
 use Rattle.signature.specs.Matrix.{matrix, filled}
-use Rattle.signature.specs.Sign.{Public, Attempted, made, over, stuck, Coins, ended, refreshedKey, attempted, noiseAt, maskAt, signFrom}
+use Rattle.signature.specs.Sign.{Public, Attempted, made, over, stuck, dry, Coins, ended, refreshedKey, attempted, noiseAt, maskAt, signFrom}
 use Rattle.signature.specs.Outcome.{Outcome, signing, answer, refusedOr, wiped, firstNo, heldOr}
 use Rattle.signature.specs.SignCalls.{Key, callChecks, publicFor, attemptsOf, signBy, leftBy, signCall, signOf}
 use Rattle.signature.specs.SignSteps.{signNo, signMade, answerIn}
@@ -44,7 +44,7 @@ pub seed-front : (p : Params) (vk : List ℕ) → take (p .kappa / 8 - 0) vk ≡
 unfolding vkSeed
 seed-front p vk = let e : p .kappa / 8 - 0 ≡ p .kappa / 8 = omega arith in ap (λ (n : ℕ). take n vk) e
 
--- ---- the attempts end with 0, 10, 11 or 12
+-- ---- the attempts end with 0, 10, 11, 12 or 20
 
 -- from 1 to 8: the work buffer is then as it was
 abbrev early : Outcome → Bool
@@ -54,6 +54,7 @@ ended-late : (a : ℕ) (X : Attempted) (later : Outcome) → early later ≡ fal
 ended-late a (made b) later h = refl
 ended-late a over later h = h
 ended-late a stuck later h = refl
+ended-late a dry later h = refl
 
 from-late : (p : Params) (P : Public) (T : Coins) (n a : ℕ) (s : List ℕ) → early (signFrom p P T n a s) ≡ false
 unfolding signFrom

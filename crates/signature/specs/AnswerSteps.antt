@@ -8,7 +8,7 @@ use Prim.Native.Nat.{ℕ, zero, suc, _+_}
 use lib.IntN.{ℤ}
 use lib.ListN.{drop}
 use Rattle.signature.specs.Form.{Fields}
-use Rattle.signature.specs.Sign.{Attempted, made, over, stuck}
+use Rattle.signature.specs.Sign.{Attempted, made, over, stuck, dry}
 use Rattle.signature.specs.declared.code.Got.{Got}
 use Rattle.signature.specs.declared.code.Next.{Next}
 
@@ -45,3 +45,4 @@ abbrev pub FinishedAs : Attempted → Bool → List ℕ → List ℕ → Type 0
 FinishedAs (made b) r xs ys = (r ≡ true) × (ys ≡ b)
 FinishedAs over r xs ys = (r ≡ false) × (ys ≡ xs)
 FinishedAs stuck r xs ys = ⊥
+FinishedAs dry r xs ys = ⊥

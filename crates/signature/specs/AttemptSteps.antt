@@ -24,7 +24,7 @@ use Rattle.signature.specs.ExpandedKey.{expandedIn}
 use Rattle.signature.specs.Layout.{atS, atR, atT, atX}
 use Rattle.signature.specs.Masked.{Noise, maskedNoise, maskedImage}
 use Rattle.signature.specs.MaskedSteps.{transformed, untransformed}
-use Rattle.signature.specs.declared.challenge.Challenged.{Challenged}
+use Rattle.signature.specs.declared.attempt.Reply.{Reply}
 use Rattle.signature.specs.Form.{Fields}
 use Rattle.signature.specs.Sign.{Public, signedFields, Coins, noiseSize, maskedResponse, refreshedKey, refreshedResponse}
 use Rattle.signature.specs.SignCalls.{Key, packed, expanded}
@@ -129,10 +129,12 @@ abbrev pub hashOf : Params → Noise → MaskGen → List ℕ → List ℕ → L
 hashOf p N g A mu = chalHash p (roundW (commitmentOf p N g A)) mu
 
 -- what is left of lines 4 to 16: the challenge hash and polynomial, the shares of the last row of w, w rounded, and with a challenge s
--- refreshed, the shares of z, and z; without one s and r as they were
-pub record Answered (p : Params) (N : Noise) (g : MaskGen) (A mu s : List ℕ) (o : Challenged) (hash ys : List ℕ) : Type 0 where
+-- refreshed, the shares of z, z, and whether every mask up to line 15 filled; without one s and r as they were
+pub record Answered (p : Params) (N : Noise) (g : MaskGen) (A mu s : List ℕ) (o : Reply) (hash ys : List ℕ) : Type 0 where
   pub hash-is : hash ≡ hashOf p N g A mu
-  pub challenge-is : o ≡ chalHeld (chalPoly p (hashOf p N g A mu))
+  pub challenge-is : o .challenge ≡ chalHeld (chalPoly p (hashOf p N g A mu))
+  pub masks-none : chalPoly p (hashOf p N g A mu) ≡ none → o .full ≡ maskedImage p N g A .next .ok
+  pub masks-are : (c : List ℤ) → chalPoly p (hashOf p N g A mu) ≡ some c → o .full ≡ refreshedResponse p N g A s (residues q c) .next .ok
   pub row : LastRow p N g A ys
   pub commitment : commitmentIn p ys ≡ roundW (commitmentOf p N g A)
   pub idle : chalPoly p (hashOf p N g A mu) ≡ none → Begun p N g s ys

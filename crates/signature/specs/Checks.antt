@@ -120,3 +120,7 @@ properForm p b = properFields p b (read p b)
 -- 16. Is the recomputed challenge hash equal?
 abbrev pub hashEqual : Fields → List ℕ → Bool
 hashEqual f hash = sameBytes (f .hash) hash
+
+-- 20. Did every mask polynomial fill within 777 draws? (02, #105)
+-- The generator tells (ok), and is dry from the first polynomial on that does not fill (sharing, specs/Masks.antt): keygenMasksFill, refreshMasksFill,
+-- and in an attempt decoded, before the challenge and behind it (Masked.antt, Sign.antt).

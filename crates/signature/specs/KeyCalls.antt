@@ -9,7 +9,7 @@ use Rattle.hash.specs.declared.params.Params.{Params}
 use Rattle.hash.specs.declared.params.Selected.{Selected}
 use Rattle.signature.specs.Checks.{maskSeedSized, keygenSeedsSized, keygenBuffersSized, expandedKeySized, keyChecks}
 use Rattle.signature.specs.ExpandedKey.{ExpandedKey}
-use Rattle.signature.specs.Keys.{packed, expanded, keygenOf, expandOf, expandedOf, refreshedOf}
+use Rattle.signature.specs.Keys.{packed, expanded, keygenOf, keygenMasksFill, expandOf, expandedOf, refreshMasksFill, refreshedOf}
 use Rattle.signature.specs.Matrix.{filled}
 use Rattle.signature.specs.Outcome.{Outcome, outcome, firstNo, heldOr, written, wiped, setKnown, sharesKnown, foundIn}
 
@@ -22,6 +22,7 @@ keygenChecks s p seeds mask out work =
     ∷ (7, keygenSeedsSized p seeds mask)
     ∷ (8, keygenBuffersSized p out work)
     ∷ (10, filled (keygenOf p seeds mask))
+    ∷ (20, keygenMasksFill p seeds mask)
     ∷ []
 
 -- with status n
@@ -59,7 +60,7 @@ refreshChecks s p K mask bytes words =
     (1, setKnown s)
     ∷ (2, sharesKnown s)
     ∷ keyChecks p (expanded K)
-    ++ ((7, maskSeedSized mask) ∷ (8, expandedKeySized p bytes words) ∷ [])
+    ++ ((7, maskSeedSized mask) ∷ (8, expandedKeySized p bytes words) ∷ (20, refreshMasksFill p mask) ∷ [])
 
 unfoldable pub refreshCall : ℕ → ℕ → ExpandedKey → List ℕ → List ℕ → List ℕ → Outcome
 refreshCall set d K mask bytes words =

@@ -1,7 +1,8 @@
 -- Steps (what the code leaves on its way; no call's contract reaches these): key generation (000, Algorithm 1) on the work buffer, laid out as
 -- Layout.antt says.
 use mathlib.Core.Path.{_≡_}
-use mathlib.Core.List.{List, _++_}
+use mathlib.Core.Bool.{Bool}
+use mathlib.Core.List.{List, [], _∷_, _++_}
 use mathlib.Core.Option.{Option}
 use Prim.Native.Nat.{ℕ, suc, _+_, _*_}
 use Rattle.hash.specs.declared.params.Params.{Params}
@@ -11,10 +12,13 @@ use Rattle.sharing.specs.Masks.{maskStart}
 use Rattle.sharing.specs.Region.{span, Wrote}
 use Rattle.sharing.specs.declared.masks.MaskGen.{MaskGen}
 use Rattle.signature.specs.Bits.{repack}
+use Rattle.signature.specs.Checks.{both}
 use Rattle.signature.specs.Compress.{collectedOf}
-use Rattle.signature.specs.Keys.{seedBytes, vkSeed, sharePart, keyShares, keyVector, compressed}
+use Rattle.signature.specs.Keys.{seedBytes, vkSeed, sharePart, keyShares, keyVector, keyMasksFill, compressed}
 use Rattle.signature.specs.Layout.{atS, atT, atX}
 use Rattle.signature.specs.Masked.{seeded, maskedImage}
+use Rattle.signature.specs.Matrix.{matrix, filled}
+use Rattle.signature.specs.Outcome.{heldOr}
 
 -- lines 5 to 8, W being the shares of all rows of t with their noise: those of the last row, behind the zero encoding; t, rounded, at `to`
 pub record Rounded (p : Params) (to : ℕ) (W xs ys : List ℕ) : Type 0 where
@@ -37,6 +41,13 @@ collected p seeds xs j i = collectedOf (p .edition) (seedBytes p) seeds xs j i
 -- the share that the compression of s writes in full, if the share seeds fill
 abbrev pub fullShareOf : Params → List ℕ → List ℕ → List ℕ → Option (List ℕ)
 fullShareOf p shares coins mask = compressed p shares (keyShares p coins (maskStart mask))
+
+-- checks 10 and 20 of key generation, of the seeds by their parts
+abbrev pub keygenFills : Params → List ℕ → List ℕ → List ℕ → List ℕ → List (ℕ × Bool)
+keygenFills p seed coins shares mask =
+    (10, both (filled (matrix p seed)) (filled (fullShareOf p shares coins mask)))
+    ∷ (20, keyMasksFill p coins (maskStart mask) (heldOr (matrix p seed) []))
+    ∷ []
 
 -- the signing key of t and x in the work buffer
 unfoldable pub keyOf : Params → List ℕ → List ℕ → List ℕ

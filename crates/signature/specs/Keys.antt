@@ -1,5 +1,6 @@
 -- Keys: byte forms (000, 2.5.2 and 2.5.3), MaskCompress and MaskDecompress (Algorithms 14 and 15), KeyGen (Algorithm 1).
 use mathlib.Core.Path.{_≡_}
+use mathlib.Core.Bool.{Bool}
 use mathlib.Core.List.{List, [], _++_}
 use mathlib.Core.Option.{Option, some, none}
 use Prim.Native.Nat.{ℕ, zero, suc, _+_, _-_, _*_, _/_}
@@ -9,7 +10,7 @@ use Rattle.ring.specs.Checks.{heldOr}
 use Rattle.ring.specs.Transform.{ntt}
 use Rattle.ring.specs.Round.{roundT}
 use Rattle.sharing.specs.Blocks.{block, build, totals, each}
-use Rattle.sharing.specs.Encoding.{refreshed}
+use Rattle.sharing.specs.Encoding.{skip, refreshed}
 use Rattle.sharing.specs.Masks.{masks, maskStart}
 use Rattle.sharing.specs.Noise.{noiseBytes}
 use Rattle.sharing.specs.declared.masks.MaskGen.{MaskGen}
@@ -74,6 +75,10 @@ keyShares p coins g = build (p .l) (λ (i : ℕ). each (p .shares) ntt (block (p
 unfoldable pub keyVector : Params → List ℕ → MaskGen → List ℕ → List ℕ
 keyVector p coins g A = roundT (totals (p .k) (p .shares) (maskedImage p (seeded p (p .ut) coins) g A .shares))
 
+-- did every mask fill that is drawn on the way (lines 3, 4 and 6; check 20)? The generator behind line 6 tells
+unfoldable pub keyMasksFill : Params → List ℕ → MaskGen → List ℕ → Bool
+keyMasksFill p coins g A = maskedImage p (seeded p (p .ut) coins) g A .next .ok
+
 -- the signing key, if matrix and share seeds fill
 abbrev madeKey : Params → List ℕ → MaskGen → Option (List ℕ) → Option (List ℕ) → Option (List ℕ)
 madeKey p seeds g none x = none
@@ -84,6 +89,9 @@ madeKey p seeds g (some A) (some x) =
 unfoldable pub keygenOf : Params → List ℕ → List ℕ → Option (List ℕ)
 keygenOf p seeds mask =
     madeKey p seeds (maskStart mask) (matrix p (vkSeed p seeds)) (compressed p (sharePart p seeds) (keyShares p (noisePart p seeds) (maskStart mask)))
+
+unfoldable pub keygenMasksFill : Params → List ℕ → List ℕ → Bool
+keygenMasksFill p seeds mask = keyMasksFill p (noisePart p seeds) (maskStart mask) (heldOr (matrix p (vkSeed p seeds)) [])
 
 -- ---- a key that a call is lent
 
@@ -125,6 +133,10 @@ expandedOf p key = record { bytes = withDigest p (packed key); words = heldOr (e
 -- refreshing carries on the bytes, whatever digest is in them
 unfoldable pub refreshOf : Params → List ℕ → List ℕ → List ℕ
 refreshOf p words mask = refreshed masks (p .shares) (maskStart mask) (p .l) words
+
+-- did every mask of its l zero encodings fill (check 20)?
+unfoldable pub refreshMasksFill : Params → List ℕ → Bool
+refreshMasksFill p mask = skip masks (p .shares) (p .l) (maskStart mask) .ok
 
 abbrev pub refreshedOf : Params → ExpandedKey → List ℕ → ExpandedKey
 refreshedOf p K mask = record { bytes = K .bytes; words = refreshOf p (K .words) mask }

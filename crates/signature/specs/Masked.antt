@@ -1,11 +1,13 @@
 -- The masked steps that key generation and signing share (000, Algorithm 1 lines 3 to 6, Algorithm 2 lines 4 to 7), on all d shares. Each
 -- step gives its shares and the mask generator behind it; the next step draws from there on.
 use mathlib.Core.List.{List}
+use mathlib.Core.Option.{Option, some, none}
 use Prim.Native.Nat.{ℕ, _+_, _*_, _/_}
 use lib.ListN.{drop}
+use Rattle.hash.specs.Lists.{pick}
 use Rattle.hash.specs.declared.params.Params.{Params}
 use Rattle.ring.specs.Transform.{mul}
-use Rattle.sharing.specs.Blocks.{block, build, sumOf, each}
+use Rattle.sharing.specs.Blocks.{block, build, sumOf, totals, each}
 use Rattle.sharing.specs.Encoding.{skip, addNoise, zeroVector, refreshed}
 use Rattle.sharing.specs.Masks.{masks}
 use Rattle.sharing.specs.Noise.{seedNoise, explicitNoise}
@@ -54,6 +56,10 @@ addRepNoise d n r f x = record { shares = addNoise masks d (x .next) n r f (x .s
 
 abbrev pub refresh : ℕ → ℕ → Step → Step
 refresh d n x = record { shares = refreshed masks d (x .next) n (x .shares); next = skip masks d n (x .next) }
+
+-- Algorithm 13, Decode, of n polynomials: the sums of the shares, if every mask drawn up to here filled (check 20)
+abbrev pub decoded : ℕ → ℕ → Step → Option (List ℕ)
+decoded n d x = pick (x .next .ok) (some (totals n d (x .shares))) none
 
 -- the masked product A x, row i: at each of d shares the sum over the l columns
 unfoldable pub maskedRow : ℕ → ℕ → List ℕ → List ℕ → ℕ → List ℕ

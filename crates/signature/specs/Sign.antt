@@ -9,7 +9,7 @@ use Rattle.hash.specs.declared.params.Params.{Params}
 use Rattle.ring.specs.Words.{q, addW}
 use Rattle.ring.specs.Transform.{intt, mul}
 use Rattle.ring.specs.Round.{roundW, residues}
-use Rattle.sharing.specs.Blocks.{block, build, totals, each}
+use Rattle.sharing.specs.Blocks.{block, build, each}
 use Rattle.sharing.specs.Masks.{maskStart}
 use Rattle.sharing.specs.Noise.{noiseBytes}
 use Rattle.sharing.specs.declared.masks.MaskGen.{MaskGen}
@@ -17,7 +17,7 @@ use Rattle.signature.specs.Bounds.{checkBounds}
 use Rattle.signature.specs.Challenge.{chalHash, chalPoly}
 use Rattle.signature.specs.Form.{Fields, write}
 use Rattle.signature.specs.Keys.{vkVector}
-use Rattle.signature.specs.Masked.{Noise, Step, onward, refresh, seeded, explicit, maskedNoise, maskedImage}
+use Rattle.signature.specs.Masked.{Noise, Step, onward, decoded, refresh, seeded, explicit, maskedNoise, maskedImage}
 use Rattle.signature.specs.Outcome.{Outcome, answer}
 use Rattle.signature.specs.Recover.{recovered, hintOf, centredAll}
 
@@ -30,13 +30,14 @@ pub record Public : Type 0 where
 abbrev pub publicBy : Params → List ℕ → List ℕ → List ℕ → Public
 publicBy p vk mu A = record { matrix = A; vector = vkVector p vk; mu = mu }
 
--- the end of an attempt (01: try): a signature; over the bounds or too long; a challenge that did not fill
+-- the end of an attempt (01: try): a signature; over the bounds or too long; a challenge that did not fill; masks that did not (02, #105)
 pub data Attempted : Type 0 where
   made : List ℕ → Attempted
   over : Attempted
   stuck : Attempted
+  dry : Attempted
 
--- ---- lines 9 to 20, from the sums of the shares
+-- ---- lines 8 to 20, from the sums of the shares: w and z, none where a mask drawn up to there did not fill (check 20)
 
 -- lines 17 to 19: of the rounded w, the challenge hash, z and the challenge polynomial
 unfoldable pub signedFields : Params → Public → List ℕ → List ℕ → List ℕ → List ℤ → Fields
@@ -55,17 +56,24 @@ wrote (some b) = made b
 unfoldable pub finished : Params → Fields → Attempted
 finished p f = pick (checkBounds p f) (wrote (write p f)) over
 
+-- line 16, check 20 of the masks of lines 12, 13 and 15, and what follows
+abbrev pub responded : Params → Public → List ℕ → List ℕ → List ℤ → Option (List ℕ) → Attempted
+responded p P w hash c none = dry
+responded p P w hash c (some z) = finished p (signedFields p P w hash z c)
+
 -- line 11, check 11, and what follows; z is the response to each challenge polynomial
-abbrev pub challenged : Params → Public → List ℕ → List ℕ → (List ℕ → List ℕ) → Option (List ℤ) → Attempted
+abbrev pub challenged : Params → Public → List ℕ → List ℕ → (List ℕ → Option (List ℕ)) → Option (List ℤ) → Attempted
 challenged p P w hash z none = stuck
-challenged p P w hash z (some c) = finished p (signedFields p P w hash (z (residues q c)) c)
+challenged p P w hash z (some c) = responded p P w hash c (z (residues q c))
 
 -- lines 9 and 10, and what follows
-abbrev hashed : Params → Public → List ℕ → List ℕ → (List ℕ → List ℕ) → Attempted
+abbrev hashed : Params → Public → List ℕ → List ℕ → (List ℕ → Option (List ℕ)) → Attempted
 hashed p P w hash z = challenged p P w hash z (chalPoly p hash)
 
-unfoldable pub concluded : Params → Public → List ℕ → (List ℕ → List ℕ) → Attempted
-concluded p P w z = hashed p P (roundW w) (chalHash p (roundW w) (P .mu)) z
+-- line 8, check 20 of the masks of lines 4, 5 and 7, and what follows
+unfoldable pub concluded : Params → Public → Option (List ℕ) → (List ℕ → Option (List ℕ)) → Attempted
+concluded p P none z = dry
+concluded p P (some w) z = hashed p P (roundW w) (chalHash p (roundW w) (P .mu)) z
 
 -- ---- lines 4 to 16, share by share. N is the noise of the attempt, g the generator that it begins with, A the matrix, s the key's shares
 
@@ -90,8 +98,8 @@ refreshedResponse p N g A s c =
 -- one attempt, with the key's shares s: only the commitment (line 8) and the response (line 16) are added up
 unfoldable pub attempted : Params → Public → Noise → MaskGen → List ℕ → Attempted
 attempted p P N g s =
-    concluded p P (totals (p .k) (p .shares) (maskedImage p N g (P .matrix) .shares))
-    (λ (c : List ℕ). totals (p .l) (p .shares) (refreshedResponse p N g (P .matrix) s c .shares))
+    concluded p P (decoded (p .k) (p .shares) (maskedImage p N g (P .matrix)))
+    (λ (c : List ℕ). decoded (p .l) (p .shares) (refreshedResponse p N g (P .matrix) s c))
 
 -- ---- the attempts
 
@@ -127,6 +135,7 @@ abbrev pub ended : ℕ → Attempted → Outcome → Outcome
 ended a (made b) later = answer 0 (suc a) b
 ended a over later = later
 ended a stuck later = answer 11 (suc a) []
+ended a dry later = answer 20 (suc a) []
 
 -- `left` attempts in the order of the coins, from number a + 1, with the key's shares s; 12 where none passes
 unfoldable pub signFrom : Params → Public → Coins → ℕ → ℕ → List ℕ → Outcome

@@ -1,6 +1,7 @@
 -- Steps (what the code leaves on its way; no call's contract reaches these): a signing call's checks before any step, the end of an
 -- attempt as the code tells it, and what the attempts leave.
 use mathlib.Core.Path.{_≡_}
+use mathlib.Core.Bool.{true, false}
 use mathlib.Core.List.{List, [], _++_}
 use mathlib.Core.Option.{Option, some, none}
 use Prim.Native.Nat.{ℕ, _*_}
@@ -16,10 +17,10 @@ use Rattle.signature.specs.Challenge.{chalPoly}
 use Rattle.signature.specs.Checks.{keyChecks}
 use Rattle.signature.specs.Keys.{vkSeed, publicOf, digestOf, sharesOf}
 use Rattle.signature.specs.Layout.{atR}
-use Rattle.signature.specs.Masked.{Noise}
+use Rattle.signature.specs.Masked.{Noise, maskedImage}
 use Rattle.signature.specs.Matrix.{matrix}
 use Rattle.signature.specs.Outcome.{Outcome, answer, firstNo, written}
-use Rattle.signature.specs.Sign.{Public, Attempted, made, over, stuck, Coins, refreshedKey, refreshedResponse, attempted, noiseAt, maskAt, signFrom}
+use Rattle.signature.specs.Sign.{Public, Attempted, made, over, stuck, dry, Coins, refreshedKey, refreshedResponse, attempted, noiseAt, maskAt, signFrom}
 use Rattle.signature.specs.SignCalls.{Key, callChecks, publicFor, signBy, leftBy}
 use Rattle.signature.specs.declared.sign.AttemptEnd.{AttemptEnd}
 
@@ -53,12 +54,16 @@ abbrev pub EndedBy : AttemptEnd → Attempted → List ℕ → List ℕ → Type
 EndedBy AttemptEnd.Made E xs ys = E ≡ made ys
 EndedBy AttemptEnd.Over E xs ys = (E ≡ over) × (ys ≡ xs)
 EndedBy AttemptEnd.Stuck E xs ys = (E ≡ stuck) × (ys ≡ xs)
+EndedBy AttemptEnd.Dry E xs ys = (E ≡ dry) × (ys ≡ xs)
 
--- .. and the shares that it leaves in the work buffer: without a response s is as it was, and r is in the transform domain
+-- .. and the shares that it leaves in the work buffer: without a response s is as it was, and r is in the transform domain; masks may run dry
+-- before it or with it
 abbrev pub HeldBy : AttemptEnd → Params → Public → Noise → MaskGen → List ℕ → List ℕ → Type 0
 HeldBy AttemptEnd.Made p P N g s ys = Spent p P N g s ys
 HeldBy AttemptEnd.Over p P N g s ys = Spent p P N g s ys
 HeldBy AttemptEnd.Stuck p P N g s ys = Begun p N g s ys
+HeldBy AttemptEnd.Dry p P N g s ys =
+    (maskedImage p N g (P .matrix) .next .ok ≡ false → Begun p N g s ys) × (maskedImage p N g (P .matrix) .next .ok ≡ true → Spent p P N g s ys)
 
 -- one attempt, as `attempted` has it: r is the end that it tells, work the work buffer behind it
 pub record EndedAs (p : Params) (P : Public) (N : Noise) (g : MaskGen) (s : List ℕ) (r : AttemptEnd) (xs ys work : List ℕ) : Type 0 where

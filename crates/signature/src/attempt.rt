@@ -26,6 +26,12 @@ use hash::params::Params;
 use ring::poly::from_signed;
 use sharing::masks::MaskGen;
 
+// What lines 9 to 16 answer: the challenge polynomial, if it fills (check 11), and whether every mask drawn so far did (check 20).
+pub(crate) struct Reply {
+    pub challenge: Challenged,
+    pub full: bool,
+}
+
 // Line 10: of the k rounded polynomials at `at`, a byte for each coefficient, and mu.
 fn hash_at(s: &[u64], at: usize, k: usize, edition: Edition, mu: &[u8], hash: &mut [u8])
     requires { ⌜ (at + k * 512 ≤ length (now s)) × (k ≤ 9) × Below 31 (span (now s) at (k * 512)) ⌝ }
@@ -61,13 +67,7 @@ fn challenge_at(
 }
 
 // Lines 9 to 16, behind the commitment; g is the generator behind line 7. Where the challenge does not fill (check 11) there is no response.
-pub(crate) fn answer(
-    work: &mut [u64],
-    p: Params,
-    mu: &[u8],
-    hash: &mut [u8],
-    g: MaskGen,
-) -> Challenged
+pub(crate) fn answer(work: &mut [u64], p: Params, mu: &[u8], hash: &mut [u8], g: MaskGen) -> Reply
     requires { ⌜ Tabled p × (length (now work) ≡ workWords p) × Below q (now work) × (length (now hash) ≡ p .kappa / 4) ⌝ }
     ensures { λ r. ⌜ (length (now (work .exit)) ≡ length (now (work .entry))) × Below q (now (work .exit)) ⌝ }
     ensures { λ r. ⌜ ((N : Noise) (h : MaskGen) (A s : List ℕ)
@@ -82,10 +82,16 @@ pub(crate) fn answer(
     let at = at_t(l, d);
     let c = challenge_at(work, at, k, w, edition, mu, hash);
     if !c.ok {
-        return c;
+        return Reply {
+            challenge: c,
+            full: g.ok,
+        };
     }
     let f = c.poly;
     let r = from_signed(f);
-    respond(work, p, r, g);
-    c
+    let y = respond(work, p, r, g);
+    Reply {
+        challenge: c,
+        full: y.ok,
+    }
 }

@@ -10,10 +10,10 @@ ghost use Rattle.sharing.specs.Region.{span};
 ghost use Rattle.sharing.specs.Encoding.{skip, addNoise};
 ghost use Rattle.sharing.specs.Masks.{masks, maskStart};
 ghost use Rattle.sharing.specs.Noise.{seedNoise, noiseBytes};
-ghost use Rattle.signature.specs.Checks.{firstNo, both, workWords};
-ghost use Rattle.signature.specs.KeygenSteps.{Rounded, Generated, fullShareOf, keyOf};
+ghost use Rattle.signature.specs.Checks.{firstNo, workWords};
+ghost use Rattle.signature.specs.KeygenSteps.{Rounded, Generated, fullShareOf, keygenFills, keyOf};
 ghost use Rattle.signature.specs.KeyCalls.{keygenLeaves, keygenCall};
-ghost use Rattle.signature.specs.Keys.{vkSeed, noisePart, sharePart, keygenBytes, keygenOf};
+ghost use Rattle.signature.specs.Keys.{vkSeed, noisePart, sharePart, keygenBytes, keygenOf, keygenMasksFill};
 ghost use Rattle.signature.specs.MaskedSteps.{ResiduesHeld, rowsOf};
 ghost use Rattle.signature.specs.Matrix.{matrix, filled};
 ghost use Rattle.signature.specs.Outcome.{outcome};
@@ -63,7 +63,7 @@ fn public_vector(
     x
 }
 
-// Both, and the compression of s. The seeds by their parts.
+// Both, and the compression of s: checks 10 and 20. The seeds by their parts.
 fn make_parts(
     work: &mut [u64],
     p: Params,
@@ -71,11 +71,10 @@ fn make_parts(
     coins: &[u8],
     shares: &[u8],
     mask_seed: &[u8],
-) -> bool
+) -> u32
     requires { ⌜ Tabled p × (length (now work) ≡ workWords p) × (length (now coins) ≡ noiseBytes p)
         × (length (now shares) ≡ (p .shares - 1) * (p .kappa / 8)) ⌝ }
-    ensures { λ r. ⌜ (r ≡ both (filled (matrix p (now (seed .entry))))
-        (filled (fullShareOf p (now (shares .entry)) (now (coins .entry)) (now («mask_seed» .entry)))))
+    ensures { λ r. ⌜ (r ≡ firstNo (keygenFills p (now (seed .entry)) (now (coins .entry)) (now (shares .entry)) (now («mask_seed» .entry))))
         × (length (now (work .exit)) ≡ length (now (work .entry))) × Below q (now (work .exit)) ⌝ }
     ensures { λ r. ⌜ ((A x : List ℕ)
         → matrix p (now (seed .entry)) ≡ some A
@@ -95,19 +94,25 @@ fn make_parts(
     let mut a = [0u64; 32256];
     clear(work);
     if !expand_matrix(&mut a, seed, k, l) {
-        return false;
+        return 10;
     }
     let g = start(mask_seed);
     let x = noise_seeds(work, at, p, u, coins, g);
-    public_vector(work, at, to, p, &a, &coins[b..], x);
-    compress_vector(work, at, at_x(k, l, d), l, d, edition, shares, n)
+    let y = public_vector(work, at, to, p, &a, &coins[b..], x);
+    if !compress_vector(work, at, at_x(k, l, d), l, d, edition, shares, n) {
+        return 10;
+    }
+    if !y.ok {
+        return 20;
+    }
+    0
 }
 
 // Lines 2 to 8 and the compression. Lent are the matrix seed, the noise seeds (01: noise tape) and d - 1 share seeds, one behind the other.
-pub(crate) fn make_key(work: &mut [u64], p: Params, seeds: &[u8], mask_seed: &[u8]) -> bool
+pub(crate) fn make_key(work: &mut [u64], p: Params, seeds: &[u8], mask_seed: &[u8]) -> u32
     requires { ⌜ Tabled p × (length (now work) ≡ workWords p) × (length (now seeds) ≡ keygenBytes p) ⌝ }
-    ensures { λ r. ⌜ (r ≡ both (filled (matrix p (vkSeed p (now (seeds .entry)))))
-        (filled (fullShareOf p (sharePart p (now (seeds .entry))) (noisePart p (now (seeds .entry))) (now («mask_seed» .entry)))))
+    ensures { λ r. ⌜ (r ≡ firstNo (keygenFills p (vkSeed p (now (seeds .entry))) (noisePart p (now (seeds .entry)))
+        (sharePart p (now (seeds .entry))) (now («mask_seed» .entry))))
         × (length (now (work .exit)) ≡ length (now (work .entry))) × Below q (now (work .exit)) ⌝ }
     ensures { λ r. ⌜ ((A x : List ℕ)
         → matrix p (vkSeed p (now (seeds .entry))) ≡ some A
@@ -149,24 +154,26 @@ fn write_made(work: &[u64], p: Params, seeds: &[u8], out: &mut [u8])
     );
 }
 
-// Key generation behind its checks: the key, or 10. The work buffer is zero afterwards.
+// Key generation behind its checks: the key, or 10 or 20. The work buffer is zero afterwards.
 fn generate(p: Params, seeds: &[u8], mask_seed: &[u8], out: &mut [u8], work: &mut [u64]) -> u32
     requires { ⌜ Tabled p × (length (now work) ≡ workWords p) × (length (now seeds) ≡ keygenBytes p) ⌝ }
     requires { ⌜ length (now out) ≡ p .kappa / 8 + p .k * 448 + ((p .shares - 1) * (p .kappa / 8) + p .l * 3136) ⌝ }
     ensures { λ r. ⌜ outcome r (now (out .exit)) (now (work .exit))
-        ≡ keygenLeaves (firstNo ((10, filled (keygenOf p (now (seeds .entry)) (now («mask_seed» .entry)))) ∷ [])) p (now (seeds .entry))
+        ≡ keygenLeaves (firstNo ((10, filled (keygenOf p (now (seeds .entry)) (now («mask_seed» .entry))))
+        ∷ (20, keygenMasksFill p (now (seeds .entry)) (now («mask_seed» .entry))) ∷ [])) p (now (seeds .entry))
         (now («mask_seed» .entry)) (now (out .entry)) (now (work .entry)) ⌝ }
 {
-    if !make_key(work, p, seeds, mask_seed) {
+    let k = make_key(work, p, seeds, mask_seed);
+    if k != 0 {
         clear(work);
-        return 10;
+        return k;
     }
     write_made(work, p, seeds, out);
     clear(work);
     0
 }
 
-// Key generation (01, "Questions put to a call": 1, 2, 7, 8, 10).
+// Key generation (01, "Questions put to a call": 1, 2, 7, 8, 10; 02, #105: 20).
 pub fn keygen(
     set: u64,
     shares: u64,

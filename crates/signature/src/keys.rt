@@ -13,7 +13,7 @@ ghost use Rattle.sharing.specs.Encoding.{skip, refreshed};
 ghost use Rattle.sharing.specs.Masks.{masks, maskStart};
 ghost use Rattle.signature.specs.Checks.{firstNo, maskSeedSized, expandedKeySized, keyChecks};
 ghost use Rattle.signature.specs.Matrix.{buildAll, filled};
-ghost use Rattle.signature.specs.Keys.{packed, expanded, fullShare, seededShare, shareAt, decompressed, expandOf, expandedOf};
+ghost use Rattle.signature.specs.Keys.{packed, expanded, fullShare, seededShare, shareAt, decompressed, expandOf, expandedOf, refreshMasksFill};
 ghost use Rattle.signature.specs.ExpandSteps.{partBytes, expandedAt, expandedShares};
 ghost use Rattle.signature.specs.ExpandedKey.{expandedIn, expandedBytes};
 ghost use Rattle.signature.specs.KeyCalls.{keyLeaves, expandCall, refreshCall};
@@ -51,6 +51,22 @@ pub(crate) fn copy_bytes(a: &[u8], out: &mut [u8])
     }
 }
 
+// Check 20 of refreshing: do the masks of its l zero encodings fill? They are drawn here for that alone, and again by refresh_words: a refusal
+// leaves the results as they were, and the call is lent no work buffer.
+fn masks_fill(p: Params, mask_seed: &[u8]) -> bool
+    requires { ⌜ ShareCount (p .shares) ⌝ }
+    ensures { λ r. ⌜ r ≡ refreshMasksFill p (now («mask_seed» .entry)) ⌝ }
+{
+    let l = p.l;
+    let d = p.shares;
+    let mut x = start(mask_seed);
+    let mut z = [0u64; 16384];
+    for i in 0..l {
+        x = zero_encoding_at(&mut z, 0, d, x);
+    }
+    x.ok
+}
+
 // The first no of refreshing behind the look-up, or 0.
 fn refresh_no(
     p: Params,
@@ -63,7 +79,8 @@ fn refresh_no(
     requires { ⌜ Tabled p ⌝ }
     ensures { λ r. ⌜ r ≡ firstNo (keyChecks p (expanded (expandedIn (now (bytes .entry)) (now (words .entry))))
         ++ ((7, maskSeedSized (now («mask_seed» .entry)))
-        ∷ (8, expandedKeySized p (now («bytes_out» .entry)) (now («words_out» .entry))) ∷ [])) ⌝ }
+        ∷ (8, expandedKeySized p (now («bytes_out» .entry)) (now («words_out» .entry)))
+        ∷ (20, refreshMasksFill p (now («mask_seed» .entry))) ∷ [])) ⌝ }
 {
     let k = expanded_no(p, bytes, words);
     if k != 0 {
@@ -74,6 +91,9 @@ fn refresh_no(
     }
     if !sized(p, bytes_out, words_out) {
         return 8;
+    }
+    if !masks_fill(p, mask_seed) {
+        return 20;
     }
     0
 }
@@ -116,7 +136,7 @@ fn renew(
     refresh_words(words_out, p, start(mask_seed));
 }
 
-// Refreshing an expanded key (01, "Questions put to a call": 1 to 5, 7, 8).
+// Refreshing an expanded key (01, "Questions put to a call": 1 to 5, 7, 8; 02, #105: 20).
 pub fn refresh_key(
     set: u64,
     shares: u64,

@@ -1,4 +1,4 @@
-// Signing (000, Algorithm 2; 01: checks 1 to 10, 11 within each attempt, 12), on one work buffer, laid out as specs/Layout.antt says.
+// Signing (000, Algorithm 2; 01: checks 1 to 10, 11 and 20 within each attempt, 12), on one work buffer, laid out as specs/Layout.antt says.
 ghost use mathlib.Core.Path.{_≡_};
 ghost use mathlib.Core.Bool.{true};
 ghost use mathlib.Core.Option.{some};
@@ -32,11 +32,12 @@ use hash::params::Selected;
 use hash::params::lookup;
 use sharing::region::clear;
 
-// The end of an attempt (01: try): a signature; over the bounds or too long; a challenge that does not fill.
+// The end of an attempt (01: try): a signature; over the bounds or too long; a challenge that does not fill; masks that do not.
 pub(crate) enum AttemptEnd {
     Made,
     Over,
     Stuck,
+    Dry,
 }
 
 // What signing answers: the status, and the attempts that it reports.
@@ -57,7 +58,7 @@ fn reported(status: u32, attempts: usize) -> Signed
     }
 }
 
-// Attempt number i + 1, lines 4 to 20, with the matrix a.
+// Attempt number i + 1, lines 4 to 20, with the matrix a: check 20 before the challenge, check 11, check 20 behind it.
 fn attempt(
     work: &mut [u64],
     p: Params,
@@ -82,9 +83,16 @@ fn attempt(
     let b = p.kappa / 4;
     let mut hash = [0u8; 64];
     let g = commit(work, p, a, explicit, seeds, noise, masks, i);
-    let c = answer(work, p, mu, &mut hash[0..b], g);
+    if !g.ok {
+        return AttemptEnd::Dry;
+    }
+    let r = answer(work, p, mu, &mut hash[0..b], g);
+    let c = r.challenge;
     if !c.ok {
         return AttemptEnd::Stuck;
+    }
+    if !r.full {
+        return AttemptEnd::Dry;
     }
     let f = c.poly;
     if finish(work, p, vk, a, &hash[0..b], f, out) {
@@ -93,7 +101,7 @@ fn attempt(
     AttemptEnd::Over
 }
 
-// Up to n attempts, in the order of their seeds or noise: checks 11 and 12.
+// Up to n attempts, in the order of their seeds or noise: checks 11, 12 and 20.
 fn attempt_all(
     work: &mut [u64],
     p: Params,
@@ -127,6 +135,9 @@ fn attempt_all(
             }
             AttemptEnd::Stuck => {
                 return reported(11, i + 1);
+            }
+            AttemptEnd::Dry => {
+                return reported(20, i + 1);
             }
         }
     }
@@ -240,7 +251,7 @@ fn sign_found(
     }
 }
 
-// Signing with a key of either form and noise of either form (01, "Questions put to a call": 1 to 12).
+// Signing with a key of either form and noise of either form (01, "Questions put to a call": 1 to 12; 02, #105: 20).
 fn sign_any(
     set: u64,
     shares: u64,

@@ -30,12 +30,12 @@ use Rattle.signature.specs.Checks.{firstNo, publicKeySized, publicKeyGood, mess
 use Rattle.signature.specs.Digest.{keyHash, digestFor}
 use Rattle.signature.specs.Form.{Fields, write, read}
 use Rattle.signature.specs.Keys.{vkSeed}
-use Rattle.signature.specs.Masked.{Noise, maskedImage}
+use Rattle.signature.specs.Masked.{Noise, decoded, maskedImage}
 use Rattle.signature.specs.Matrix.{matrix, filled}
 use Rattle.signature.specs.Outcome.{Outcome}
 use Rattle.signature.specs.Recover.{productRow, recoveredRow, recovered, hintOf, adjusted}
-use Rattle.signature.specs.Sign.{Public, Attempted, Coins, signedFields, wrote, finished, challenged, concluded, refreshedKey, refreshedResponse, attempted, noiseAt, maskAt, ended, signFrom}
-use Rattle.signature.specs.Sign.Attempted.{made, over, stuck}
+use Rattle.signature.specs.Sign.{Public, Attempted, Coins, signedFields, wrote, finished, responded, challenged, concluded, refreshedKey, refreshedResponse, attempted, noiseAt, maskAt, ended, signFrom}
+use Rattle.signature.specs.Sign.Attempted.{made, over, stuck, dry}
 use Rattle.signature.specs.SignCalls.{publicFor}
 use Rattle.signature.specs.Verify.{recomputed, fieldsIn, verifyChecks}
 use Rattle.signature.specs.VerifySteps.{fieldChecks}
@@ -43,6 +43,7 @@ use Rattle.signature.proofs.Canonical.{Sized, write-read, write-length}
 use Rattle.signature.proofs.Centred.{length-centred}
 use Rattle.signature.proofs.SameBytes.{same-refl}
 use Rattle.theorems.proofs.ShareCount.{k-same, l-same, hash-bytes-same, concluded-same, public-same}
+use Rattle.theorems.proofs.Dry.{picked-some}
 use Rattle.theorems.proofs.Hint.{residues-centred, length-hint, hint-back}
 
 -- k rows of 512 words
@@ -116,22 +117,28 @@ module _ (p : Params) (vk msg A : List ℕ) (eA : matrix p (vkSeed p vk) ≡ som
   wrote-made none b e = let z : _≡_ {A = ℕ} 0 1 = cc in absurd (omega arith)
   wrote-made (some x) b e = cc
 
-  module _ (w : List ℕ) (z : List ℕ → List ℕ) (lw : length w ≡ p .k * 512) (wz : (c : List ℕ) → Words (p .l * 512) (z c)) (b : List ℕ) where
-    challenged-good : (o : Option (List ℤ)) → chalPoly p (chalHash p (roundW w) (P .mu)) ≡ o
-        → challenged p P (roundW w) (chalHash p (roundW w) (P .mu)) z o ≡ made b → Good b
-    unfolding finished
-    challenged-good none e r = let z : _≡_ {A = ℕ} 0 1 = cc in absurd (omega arith)
-    challenged-good (some c) e r =
-        let wc : Words (p .l * 512) (z (residues q c)) = wz (residues q c) in
-        let f : Fields = signedFields p P (roundW w) (chalHash p (roundW w) (P .mu)) (z (residues q c)) c in
-        let m = pick-made (checkBounds p f) (wrote (write p f)) b r in
-        let k : write p f ≡ some b = wrote-made (write p f) b (m .1) in
-        let g = fields-good w (z (residues q c)) c lw wc b e (m .0) k in
-        record { long = write-length p f b k; form = g .0; fields = g .1 }
+  module _ (z : List ℕ → Option (List ℕ)) (wz : (c x : List ℕ) → z c ≡ some x → Words (p .l * 512) x) (b : List ℕ) where
+    module _ (w : List ℕ) (lw : length w ≡ p .k * 512) where
+      responded-good : (c : List ℤ) (o : Option (List ℕ)) → z (residues q c) ≡ o → chalPoly p (chalHash p (roundW w) (P .mu)) ≡ some c
+          → responded p P (roundW w) (chalHash p (roundW w) (P .mu)) c o ≡ made b → Good b
+      unfolding finished
+      responded-good c none o e r = let z : _≡_ {A = ℕ} 0 1 = cc in absurd (omega arith)
+      responded-good c (some x) o e r =
+          let f : Fields = signedFields p P (roundW w) (chalHash p (roundW w) (P .mu)) x c in
+          let m = pick-made (checkBounds p f) (wrote (write p f)) b r in
+          let k : write p f ≡ some b = wrote-made (write p f) b (m .1) in
+          let g = fields-good w x c lw (wz (residues q c) x o) b e (m .0) k in
+          record { long = write-length p f b k; form = g .0; fields = g .1 }
 
-    concluded-good : concluded p P w z ≡ made b → Good b
+      challenged-good : (o : Option (List ℤ)) → chalPoly p (chalHash p (roundW w) (P .mu)) ≡ o
+          → challenged p P (roundW w) (chalHash p (roundW w) (P .mu)) z o ≡ made b → Good b
+      challenged-good none e r = let z : _≡_ {A = ℕ} 0 1 = cc in absurd (omega arith)
+      challenged-good (some c) e r = responded-good c (z (residues q c)) refl e r
+
+    concluded-good : (o : Option (List ℕ)) → ((w : List ℕ) → o ≡ some w → length w ≡ p .k * 512) → concluded p P o z ≡ made b → Good b
     unfolding concluded
-    concluded-good r = challenged-good (chalPoly p (chalHash p (roundW w) (P .mu))) refl r
+    concluded-good none l r = let z : _≡_ {A = ℕ} 0 1 = cc in absurd (omega arith)
+    concluded-good (some w) l r = challenged-good w (l w refl) (chalPoly p (chalHash p (roundW w) (P .mu))) refl r
 
   -- the verifier's first checks are among those that signing passed
   pub verify-good : (sig : List ℕ) → publicKeySized p vk ≡ true → publicKeyGood p vk ≡ true → messageSized msg ≡ true → Good sig
@@ -153,13 +160,18 @@ module _ (p r : Params) (h : setOf p ≡ setOf r) (vk msg A : List ℕ) (eA : ma
   attempt-good : (N : Noise) (g : MaskGen) (s b : List ℕ) → attempted p signer N g s ≡ made b → Good r vk msg A eA b
   unfolding attempted
   attempt-good N g s b e =
-      let w : List ℕ = totals (p .k) (p .shares) (maskedImage p N g A .shares) in
-      let z : List ℕ → List ℕ = λ (c : List ℕ). totals (p .l) (p .shares) (refreshedResponse p N g A s c .shares) in
-      concluded-good r vk msg A eA (totals (p .k) (p .shares) (maskedImage p N g A .shares)) (λ (c : List ℕ). totals (p .l) (p .shares) (refreshedResponse p N g A s c .shares))
-      (totals-words (p .k) (p .shares) (maskedImage p N g A .shares) .long ∙ ap (λ (n : ℕ). n * 512) (k-same p r h))
-      (λ (c : List ℕ). subst (λ (n : ℕ). Words (n * 512) (totals (p .l) (p .shares) (refreshedResponse p N g A s c .shares))) (l-same p r h)
-      (totals-words (p .l) (p .shares) (refreshedResponse p N g A s c .shares)))
-      b
+      let W : List ℕ = totals (p .k) (p .shares) (maskedImage p N g A .shares) in
+      let Z : List ℕ → List ℕ = λ (c : List ℕ). totals (p .l) (p .shares) (refreshedResponse p N g A s c .shares) in
+      let w : Option (List ℕ) = decoded (p .k) (p .shares) (maskedImage p N g A) in
+      let z : List ℕ → Option (List ℕ) = λ (c : List ℕ). decoded (p .l) (p .shares) (refreshedResponse p N g A s c) in
+      concluded-good r vk msg A eA z
+      (λ (c x : List ℕ) (o : z c ≡ some x).
+      subst (λ (y : List ℕ). Words (r .l * 512) y) (picked-some (refreshedResponse p N g A s c .next .ok) (Z c) x o)
+      (subst (λ (n : ℕ). Words (n * 512) (Z c)) (l-same p r h) (totals-words (p .l) (p .shares) (refreshedResponse p N g A s c .shares))))
+      b w
+      (λ (x : List ℕ) (o : w ≡ some x).
+      ap (λ (l : List ℕ). length l) (sym (picked-some (maskedImage p N g A .next .ok) W x o))
+      ∙ totals-words (p .k) (p .shares) (maskedImage p N g A .shares) .long ∙ ap (λ (n : ℕ). n * 512) (k-same p r h))
       (ap (λ (X : Public). concluded r X w z) (sym verifier-same) ∙ sym (concluded-same p r h signer w z) ∙ e)
 
   ended-good : (a : ℕ) (t : Attempted) (later : Outcome) → ((b : List ℕ) → t ≡ made b → Good r vk msg A eA b)
@@ -167,6 +179,7 @@ module _ (p r : Params) (h : setOf p ≡ setOf r) (vk msg A : List ℕ) (eA : ma
   ended-good a (made b) later f g e = f b refl
   ended-good a over later f g e = g e
   ended-good a stuck later f g e = absurd (omega arith)
+  ended-good a dry later f g e = absurd (omega arith)
 
   pub from-good : (T : Coins) (left a : ℕ) (s : List ℕ) → signFrom p signer T left a s .status ≡ 0
       → Good r vk msg A eA (signFrom p signer T left a s .bytes)

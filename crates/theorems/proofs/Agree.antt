@@ -1,4 +1,4 @@
--- Agreement: two units with equal sums at every coefficient have the same secret and the same noise totals, so that they answer alike.
+-- Agreement: two units that do not run dry, with equal sums at every coefficient, have the same secret and the same noise totals, so that they answer alike.
 use mathlib.Core.Path.{_≡_, refl, sym, ap, subst, _∙_}
 use mathlib.Core.Bool.{Bool, true, false}
 use mathlib.Core.List.{List, _++_}
@@ -21,7 +21,7 @@ use Rattle.signature.specs.Digest.{keyHash, digestFor}
 use Rattle.signature.specs.Outcome.{refusedOr, firstNo, foundIn}
 use Rattle.signature.specs.Sign.{Public}
 use Rattle.theorems.specs.Plain.{Totals, noiseTotal, totalsOf, plainFrom, plainChecks, plainPublic, signPlain}
-use Rattle.theorems.specs.Unit.{UnitCall, signUnit, recordOf, vkOf, TrueDigest, noiseTotalAt, Fits, Sound, Alike, AlikeTrue, SameSecret, EqualTotals}
+use Rattle.theorems.specs.Unit.{UnitCall, signUnit, recordOf, vkOf, TrueDigest, RunsDry, noiseTotalAt, Fits, Sound, Alike, AlikeTrue, SameSecret, EqualTotals}
 use Rattle.signature.proofs.Secrets.{secrets-totals}
 use Rattle.theorems.proofs.ShareCount.{k-same, l-same, hash-bytes-same, plain-same}
 use Rattle.theorems.proofs.Collapse.{unitSecret, noiseOf, noiseTotals, shares-are, sign-plain, sign-unknown}
@@ -98,10 +98,10 @@ module _ (u v : UnitCall) (p r : Params) (iu : recordOf u ≡ Selected.Found p) 
       cc (first, second)
 
   -- of a known set
-  known-agree : SameSecret u v → EqualTotals u v → signUnit u ≡ signUnit v
-  known-agree s t =
-      let e1 : signUnit u ≡ signPlain p (u .key .bytes) (u .attempts) (u .message) (unitSecret p u) (noiseTotals p u) = sign-plain u p iu hu in
-      let e2 : signUnit v ≡ signPlain r (v .key .bytes) (v .attempts) (v .message) (unitSecret r v) (noiseTotals r v) = sign-plain v r iv hv in
+  known-agree : SameSecret u v → EqualTotals u v → (RunsDry u → ⊥) → (RunsDry v → ⊥) → signUnit u ≡ signUnit v
+  known-agree s t fu fv =
+      let e1 : signUnit u ≡ signPlain p (u .key .bytes) (u .attempts) (u .message) (unitSecret p u) (noiseTotals p u) = sign-plain u p iu hu fu in
+      let e2 : signUnit v ≡ signPlain r (v .key .bytes) (v .attempts) (v .message) (unitSecret r v) (noiseTotals r v) = sign-plain v r iv hv fv in
       let e3 : signPlain p (u .key .bytes) (u .attempts) (u .message) (unitSecret p u) (noiseTotals p u) ≡ signPlain p (u .key .bytes) (u .attempts) (u .message) (unitSecret p u) (noiseTotals r v) =
       sign-ext p (u .key .bytes) (u .attempts) (u .message) (unitSecret p u) (noiseTotals p u) (noiseTotals r v) (noise-same t) in
       let e4 : signPlain p (u .key .bytes) (u .attempts) (u .message) (unitSecret p u) (noiseTotals r v) ≡ signPlain r (u .key .bytes) (u .attempts) (u .message) (unitSecret p u) (noiseTotals r v) =
@@ -123,15 +123,16 @@ unknown-agree : (u v : UnitCall) → Sound u → Sound v → u .set ≡ v .set �
 unknown-agree u v hu hv e i = sign-unknown u (row-look u hu (u .set) refl true i) ∙ sym (sign-unknown v (row-look v hv (u .set) e true i))
 
 -- AGREEMENT, the answers
-pub answers-agree : (u v : UnitCall) → Sound u → Sound v → Alike u v → SameSecret u v → EqualTotals u v → signUnit u ≡ signUnit v
-answers-agree u v hu hv al s t = go (eqb (setIndex (u .set)) 3) refl
+pub answers-agree : (u v : UnitCall) → Sound u → Sound v → Alike u v → SameSecret u v → EqualTotals u v → (RunsDry u → ⊥) → (RunsDry v → ⊥)
+    → signUnit u ≡ signUnit v
+answers-agree u v hu hv al s t fu fv = go (eqb (setIndex (u .set)) 3) refl
   where
     go : (b : Bool) → eqb (setIndex (u .set)) 3 ≡ b → signUnit u ≡ signUnit v
     go true i = unknown-agree u v hu hv (al .sets) i
     go false i =
         let iu = row-look u hu (u .set) refl false i in
         let iv = row-look v hv (u .set) (al .sets) false i in
-        known-agree u v (rowFor u) (rowFor v) iu iv (hu .fits (rowFor u) iu) (hv .fits (rowFor v) iv) al s t
+        known-agree u v (rowFor u) (rowFor v) iu iv (hu .fits (rowFor u) iu) (hv .fits (rowFor v) iv) al s t fu fv
 
 -- ---- with true digests equal public keys are enough
 
@@ -154,12 +155,13 @@ module _ (u v : UnitCall) (p r : Params) (iu : recordOf u ≡ Selected.Found p) 
         attempts = al .attempts;
       }
 
-pub true-agree : (u v : UnitCall) → Sound u → Sound v → AlikeTrue u v → SameSecret u v → EqualTotals u v → signUnit u ≡ signUnit v
-true-agree u v hu hv al s t = go (eqb (setIndex (u .set)) 3) refl
+pub true-agree : (u v : UnitCall) → Sound u → Sound v → AlikeTrue u v → SameSecret u v → EqualTotals u v → (RunsDry u → ⊥) → (RunsDry v → ⊥)
+    → signUnit u ≡ signUnit v
+true-agree u v hu hv al s t fu fv = go (eqb (setIndex (u .set)) 3) refl
   where
     go : (b : Bool) → eqb (setIndex (u .set)) 3 ≡ b → signUnit u ≡ signUnit v
     go true i = unknown-agree u v hu hv (al .sets) i
     go false i =
         let iu = row-look u hu (u .set) refl false i in
         let iv = row-look v hv (u .set) (al .sets) false i in
-        answers-agree u v hu hv (known-alike u v (rowFor u) (rowFor v) iu iv al) s t
+        answers-agree u v hu hv (known-alike u v (rowFor u) (rowFor v) iu iv al) s t fu fv

@@ -1,4 +1,4 @@
--- Collapse: a sound unit answers as plain signing on the sums of its shares. Its noise is words below q, and the checks that look at its shares,
+-- Collapse: a sound unit that does not run dry answers as plain signing on the sums of its shares. Its noise is words below q, and the checks that look at its shares,
 -- coins and buffers are passed.
 use mathlib.Core.Path.{_≡_, refl, sym, ap, _∙_, subst}
 use mathlib.Core.Bool.{Bool, true, false}
@@ -24,11 +24,12 @@ use Rattle.signature.specs.ExpandedKey.{vkIn}
 use Rattle.signature.specs.Keys.{vkSeed}
 use Rattle.signature.specs.Masked.{Noise, seeded, explicit}
 use Rattle.signature.specs.Matrix.{matrix, filled}
-use Rattle.signature.specs.Outcome.{answer, refusedOr, firstNo, foundIn}
+use Rattle.signature.specs.Outcome.{Outcome, answer, refusedOr, firstNo, foundIn}
 use Rattle.signature.specs.Sign.{noiseSize, noiseFrom, noiseAt}
 use Rattle.signature.specs.SignCalls.{Key, coinsGood, signChecks, attemptsOf, signBy, signOf}
-use Rattle.theorems.specs.Plain.{Totals, totalsOf, plainChecks, plainPublic, signPlain}
-use Rattle.theorems.specs.Unit.{UnitCall, signUnit, recordOf, Fits}
+use Rattle.theorems.specs.Plain.{Totals, totalsOf, plainFrom, plainChecks, plainPublic, signPlain}
+use Rattle.theorems.specs.Unit.{UnitCall, signUnit, recordOf, RunsDry, Fits}
+use Rattle.theorems.proofs.Dry.{refused-full}
 use Rattle.theorems.proofs.Steps.{GoodNoise, collapse}
 
 -- ---- noise that check 7 passed is words below q
@@ -105,13 +106,17 @@ module _ (u : UnitCall) (p : Params) (is : recordOf u ≡ Selected.Found p) (h :
       let e8 : signBuffersSized p (u .result) (u .work) ≡ true = h .buffers in
       rw (e3, e5, e7, e8, both-last (expandedBytesSized p (u .key .bytes)), both-last (filled (matrix p (vkSeed p (vkIn p (u .key .bytes)))))) refl
 
-  -- COLLAPSE
-  pub sign-plain : signUnit u ≡ signPlain p (u .key .bytes) (u .attempts) (u .message) (unitSecret p u) (noiseTotals p u)
+  -- COLLAPSE, of a unit that does not run dry
+  pub sign-plain : (RunsDry u → ⊥) → signUnit u ≡ signPlain p (u .key .bytes) (u .attempts) (u .message) (unitSecret p u) (noiseTotals p u)
   unfolding signUnit signOf signPlain
-  sign-plain =
+  sign-plain full =
+      let A : Outcome = attemptsOf p (Key.expanded (u .key)) (u .attempts) (u .message) (u .coins) in
+      let m : ℕ = firstNo (plainChecks p (u .key .bytes) (u .attempts) (u .message)) in
+      let e : signUnit u ≡ refusedOr m A =
       ap (λ (s : Selected). signBy s (foundIn s) (Key.expanded (u .key)) (u .attempts) (u .message) (u .coins) (u .result) (u .work)) is
-      ∙ ap (λ (m : ℕ). refusedOr m (attemptsOf p (Key.expanded (u .key)) (u .attempts) (u .message) (u .coins))) checks-plain
-      ∙ ap (refusedOr (firstNo (plainChecks p (u .key .bytes) (u .attempts) (u .message))))
+      ∙ ap (λ (n : ℕ). refusedOr n A) checks-plain in
+      e ∙ refused-full m A (plainFrom p (plainPublic p (u .key .bytes) (u .message)) (noiseTotals p u) (u .attempts) 0 (unitSecret p u))
+      (λ (x : refusedOr m A .status ≡ 20). full (ap (λ (X : Outcome). X .status) e ∙ x))
       (collapse p (subst (λ (x : ℕ). x ≡ 2 ^ orderIndex x) (sym shares-are) (row .power))
       (plainPublic p (u .key .bytes) (u .message)) (u .coins) (u .attempts) 0
       (λ (b : ℕ) (l : b < 0 + u .attempts). good b (omega arith)) (u .key .words) (h .share-words))

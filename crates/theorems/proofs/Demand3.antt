@@ -2,7 +2,9 @@
 use mathlib.Core.Path.{_≡_, refl, sym, ap, _∙_}
 use mathlib.Core.Bool.{true}
 use mathlib.Core.List.{List, _++_}
+use mathlib.Core.Logic.{_⊎_, inl, inr}
 use Prim.Native.Nat.{ℕ}
+use native.Mathlib.Decide.{ℕ-discrete}
 use lib.ListN.{length}
 use Rattle.hash.specs.Params.{ShareCount, lookupOf}
 use Rattle.hash.specs.declared.params.Edition.{Edition}
@@ -15,7 +17,7 @@ use Rattle.signature.specs.Outcome.{Outcome, written, foundIn}
 use Rattle.signature.specs.Sign.{Coins}
 use Rattle.signature.specs.SignCalls.{Key, leftBy, signOf, signCall}
 use Rattle.signature.specs.Verify.{verifyCall}
-use Rattle.theorems.specs.Unit.{UnitCall, signUnit, callUnit, vkOf, TrueDigest, Sound, Alike, AlikeTrue, SameSecret, EqualTotals}
+use Rattle.theorems.specs.Unit.{UnitCall, signUnit, callUnit, vkOf, TrueDigest, RunsDry, Sound, Alike, AlikeTrue, SameSecret, EqualTotals}
 use Rattle.theorems.specs.Witness.{Wanted, Has, laidFor, laid, hadBy}
 use Rattle.theorems.proofs.Agree.{answers-agree, true-agree}
 use Rattle.theorems.proofs.AcceptCall.{known-accepted, found-with}
@@ -47,16 +49,27 @@ accepted-unit u t h =
 -- Two units alike in set, public key, digest, message and allowed attempts, each with an expanded key of any of the six share counts; their shares
 -- add to the same secret, and in every allowed attempt their noise adds to equal totals at every coefficient. Whatever the share counts, the
 -- sharings, the mask seeds and what the buffers held, both from seeds, both with explicit noise or one and one, the digest true or not: status,
--- attempts and signature are the same, after a refusal too; and with 0 and a true digest the verifier accepts the signature.
-pub agreement : (u v : UnitCall) → Sound u → Sound v → Alike u v → SameSecret u v → EqualTotals u v
+-- attempts and signature are the same, after a refusal too, if neither of the two runs dry (02, #105); and with 0 and a true digest the verifier
+-- accepts the signature.
+pub agreement : (u v : UnitCall) → Sound u → Sound v → Alike u v → SameSecret u v → EqualTotals u v → (RunsDry u → ⊥) → (RunsDry v → ⊥)
     → (signUnit u ≡ signUnit v)
     × (TrueDigest u → signUnit u .status ≡ 0 → verifyCall (u .edition) (u .set) (vkOf u) (u .message) (signUnit u .bytes) ≡ 0)
-agreement u v hu hv al s t = (answers-agree u v hu hv al s t, accepted-unit u)
+agreement u v hu hv al s t fu fv = (answers-agree u v hu hv al s t fu fv, accepted-unit u)
 
 -- .. where both digests are true: equal public keys are then enough, and the verifier accepts.
-pub agreement-true : (u v : UnitCall) → Sound u → Sound v → AlikeTrue u v → SameSecret u v → EqualTotals u v
+pub agreement-true : (u v : UnitCall) → Sound u → Sound v → AlikeTrue u v → SameSecret u v → EqualTotals u v → (RunsDry u → ⊥) → (RunsDry v → ⊥)
     → (signUnit u ≡ signUnit v) × (signUnit u .status ≡ 0 → verifyCall (u .edition) (u .set) (vkOf u) (u .message) (signUnit u .bytes) ≡ 0)
-agreement-true u v hu hv al s t = (true-agree u v hu hv al s t, accepted-unit u (al .digests .0))
+agreement-true u v hu hv al s t fu fv = (true-agree u v hu hv al s t fu fv, accepted-unit u (al .digests .0))
+
+-- That is all that can part them: they answer alike, or one of them ran dry.
+pub agreed-or-dry : (u v : UnitCall) → Sound u → Sound v → Alike u v → SameSecret u v → EqualTotals u v
+    → (signUnit u ≡ signUnit v) ⊎ (RunsDry u ⊎ RunsDry v)
+agreed-or-dry u v hu hv al s t = go (ℕ-discrete (signUnit u .status) 20) (ℕ-discrete (signUnit v .status) 20)
+  where
+    go : Dec (RunsDry u) → Dec (RunsDry v) → (signUnit u ≡ signUnit v) ⊎ (RunsDry u ⊎ RunsDry v)
+    go (yes d) x = inr (inl d)
+    go (no fu) (yes d) = inr (inr d)
+    go (no fu) (no fv) = inl (answers-agree u v hu hv al s t fu fv)
 
 -- ---- what agreement supposes can be met
 
@@ -148,8 +161,10 @@ agreed-by u v p =
           ∙ accepted-unit u d (ap (λ (x : Outcome). x .status) (sym lu) ∙ h);
     }
 
-pub results-agree : (u v : UnitCall) → Sound u → Sound v → Alike u v → SameSecret u v → EqualTotals u v → Agreed u v
-results-agree u v hu hv al s t = agreed-by u v (answers-agree u v hu hv al s t)
+pub results-agree : (u v : UnitCall) → Sound u → Sound v → Alike u v → SameSecret u v → EqualTotals u v → (RunsDry u → ⊥) → (RunsDry v → ⊥)
+    → Agreed u v
+results-agree u v hu hv al s t fu fv = agreed-by u v (answers-agree u v hu hv al s t fu fv)
 
-pub results-agree-true : (u v : UnitCall) → Sound u → Sound v → AlikeTrue u v → SameSecret u v → EqualTotals u v → Agreed u v
-results-agree-true u v hu hv al s t = agreed-by u v (true-agree u v hu hv al s t)
+pub results-agree-true : (u v : UnitCall) → Sound u → Sound v → AlikeTrue u v → SameSecret u v → EqualTotals u v → (RunsDry u → ⊥)
+    → (RunsDry v → ⊥) → Agreed u v
+results-agree-true u v hu hv al s t fu fv = agreed-by u v (true-agree u v hu hv al s t fu fv)

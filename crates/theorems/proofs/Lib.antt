@@ -4,6 +4,7 @@ pub mod Agree
 pub mod Collapse
 pub mod Demand3
 pub mod Digest
+pub mod Dry
 pub mod Exactly
 pub mod Hint
 pub mod Instances

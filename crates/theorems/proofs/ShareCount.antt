@@ -7,7 +7,8 @@ use lib.IntN.{ℤ}
 use lib.ListN.{take, drop}
 use Rattle.hash.specs.declared.params.Params.{Params}
 use Rattle.hash.proofs.Sets.{setOf}
-use Rattle.ring.specs.Round.{roundW}
+use Rattle.ring.specs.Words.{q}
+use Rattle.ring.specs.Round.{roundW, residues}
 use Rattle.signature.specs.Challenge.{chalHash, chalPoly}
 use Rattle.signature.specs.Checks.{publicKeySized, publicKeyGood}
 use Rattle.signature.specs.Digest.{keyHash, digestFor}
@@ -17,24 +18,29 @@ use Rattle.signature.specs.Keys.{vkSeed, vkVector, DigestTrue}
 use Rattle.signature.specs.Matrix.{matrix}
 use Rattle.signature.specs.Outcome.{refusedOr, firstNo, heldOr}
 use Rattle.signature.specs.Recover.{recovered}
-use Rattle.signature.specs.Sign.{Public, signedFields, finished, challenged, concluded}
+use Rattle.signature.specs.Sign.{Public, signedFields, finished, responded, challenged, concluded}
 use Rattle.signature.specs.SignCalls.{Key, publicFor}
 use Rattle.theorems.specs.Plain.{Totals, plainCommitment, plainResponse, plainAttempt, plainFrom, plainChecks, plainPublic, signPlain}
 
 module _ (p : Params) where
-  challenged-set : (P : Public) (w hash : List ℕ) (z : List ℕ → List ℕ) (o : Option (List ℤ))
-      → challenged p P w hash z o ≡ challenged (setOf p) P w hash z o
+  responded-set : (P : Public) (w hash : List ℕ) (c : List ℤ) (o : Option (List ℕ)) → responded p P w hash c o ≡ responded (setOf p) P w hash c o
   unfolding signedFields finished recovered write
-  challenged-set P w hash z none = refl
-  challenged-set P w hash z (some c) = refl
+  responded-set P w hash c none = refl
+  responded-set P w hash c (some z) = refl
 
-  concluded-set : (P : Public) (w : List ℕ) (z : List ℕ → List ℕ) → concluded p P w z ≡ concluded (setOf p) P w z
+  challenged-set : (P : Public) (w hash : List ℕ) (z : List ℕ → Option (List ℕ)) (o : Option (List ℤ))
+      → challenged p P w hash z o ≡ challenged (setOf p) P w hash z o
+  challenged-set P w hash z none = refl
+  challenged-set P w hash z (some c) = responded-set P w hash c (z (residues q c))
+
+  concluded-set : (P : Public) (w : Option (List ℕ)) (z : List ℕ → Option (List ℕ)) → concluded p P w z ≡ concluded (setOf p) P w z
   unfolding concluded chalHash chalPoly
-  concluded-set P w z = challenged-set P (roundW w) (chalHash p (roundW w) (P .mu)) z (chalPoly p (chalHash p (roundW w) (P .mu)))
+  concluded-set P none z = refl
+  concluded-set P (some w) z = challenged-set P (roundW w) (chalHash p (roundW w) (P .mu)) z (chalPoly p (chalHash p (roundW w) (P .mu)))
 
   attempt-set : (P : Public) (s : List ℕ) (e : Totals) → plainAttempt p P s e ≡ plainAttempt (setOf p) P s e
   unfolding plainAttempt plainCommitment plainResponse
-  attempt-set P s e = concluded-set P (plainCommitment p (P .matrix) e) (plainResponse p s e)
+  attempt-set P s e = concluded-set P (some (plainCommitment p (P .matrix) e)) (λ (c : List ℕ). some (plainResponse p s e c))
 
   from-set : (P : Public) (e : ℕ → Totals) (left a : ℕ) (s : List ℕ) → plainFrom p P e left a s ≡ plainFrom (setOf p) P e left a s
   unfolding plainFrom
@@ -78,7 +84,7 @@ module _ (p r : Params) (h : setOf p ≡ setOf r) where
   pub l-same : p .l ≡ r .l
   l-same = ap (λ (x : Params). x .l) h
 
-  pub concluded-same : (P : Public) (w : List ℕ) (z : List ℕ → List ℕ) → concluded p P w z ≡ concluded r P w z
+  pub concluded-same : (P : Public) (w : Option (List ℕ)) (z : List ℕ → Option (List ℕ)) → concluded p P w z ≡ concluded r P w z
   concluded-same P w z = concluded-set p P w z ∙ ap (λ (x : Params). concluded x P w z) h ∙ sym (concluded-set r P w z)
 
   pub hash-bytes-same : hashBytes p ≡ hashBytes r

@@ -1,7 +1,8 @@
 -- Each masked step of signing, and what it does to the sums of the shares; then a whole attempt, and all attempts: signing on shares is plain
 -- signing on sums.
-use mathlib.Core.Path.{_≡_, refl, sym, ap, _∙_, fun-ext}
+use mathlib.Core.Path.{_≡_, refl, sym, ap, _∙_}
 use mathlib.Core.List.{List}
+use mathlib.Core.Option.{some}
 use Prim.Native.Nat.{ℕ, zero, suc, _+_, _*_, _^_, _<_}
 use native.Mathlib.Omega.{arith}
 use Rattle.hash.specs.Params.{orderIndex}
@@ -18,10 +19,12 @@ use Rattle.sharing.proofs.Carry.{mask-low}
 use Rattle.sharing.proofs.Decode.{words-sum, sum-ext, linear-sum, linear-then, total-linear, totals-build, block-totals}
 use Rattle.sharing.proofs.Lists.{block-words, block-build, build-ext, words-build}
 use Rattle.sharing.proofs.Totals.{each-words, each-total, zeroAt-total, refreshed-words, refreshed-totals, noise-words, noise-totals, zeroVector-words, zeroVector-block}
-use Rattle.signature.specs.Masked.{Noise, maskedRow, maskedProduct, maskedNoise, maskedImage}
+use Rattle.signature.specs.Masked.{Noise, decoded, maskedRow, maskedProduct, maskedNoise, maskedImage}
+use Rattle.signature.specs.Outcome.{Outcome}
 use Rattle.signature.specs.Recover.{productRow}
-use Rattle.signature.specs.Sign.{Public, Coins, concluded, maskedResponse, refreshedKey, refreshedNoise, refreshedResponse, attempted, noiseAt, maskAt, signFrom}
-use Rattle.theorems.specs.Plain.{noiseTotal, totalsOf, plainCommitment, plainResponse, plainAttempt, plainFrom}
+use Rattle.signature.specs.Sign.{Public, Attempted, dry, Coins, ended, maskedResponse, refreshedKey, refreshedNoise, refreshedResponse, attempted, noiseAt, maskAt, signFrom}
+use Rattle.theorems.specs.Plain.{Totals, noiseTotal, totalsOf, plainCommitment, plainResponse, plainAttempt, plainFrom}
+use Rattle.theorems.proofs.Dry.{picked-some, concluded-full, ended-full}
 
 -- noise of words below q
 pub record GoodNoise (p : Params) (N : Noise) : Type 0 where
@@ -175,33 +178,39 @@ module _ (p : Params) (power : p .shares ≡ 2 ^ orderIndex (p .shares)) where
           ∙ ap (λ (y : List ℕ). summedResponse l c y (totals l d (refreshedNoise p N g A s .shares))) s-totals
           ∙ ap (summedResponse l c (totals l d s)) r2-totals
 
-  -- ---- an attempt depends only on the commitment and on the response to each challenge polynomial
-
-  concluded-ext : (P : Public) (w v : List ℕ) (y z : List ℕ → List ℕ) → w ≡ v → ((c : List ℕ) → y c ≡ z c) → concluded p P w y ≡ concluded p P v z
-  concluded-ext P w v y z e h = ap (λ (x : List ℕ). concluded p P x y) e ∙ ap (λ (x : List ℕ → List ℕ). concluded p P v x) (fun-ext h)
-
-  -- an attempt on shares is the plain attempt on sums
+  -- an attempt on shares is the plain attempt on sums, unless it runs dry
   pub attempt-collapses : (P : Public) (N : Noise) → GoodNoise p N → (g : MaskGen) (s : List ℕ) → Words (l * (d * 512)) s
-      → attempted p P N g s ≡ plainAttempt p P (totals l d s) (totalsOf p N)
+      → (attempted p P N g s ≡ dry → ⊥) → attempted p P N g s ≡ plainAttempt p P (totals l d s) (totalsOf p N)
   unfolding attempted plainAttempt
-  attempt-collapses P N good g s ws =
-      concluded-ext P (totals k d (maskedImage p N g (P .matrix) .shares)) (plainCommitment p (P .matrix) (totalsOf p N))
-      (λ (c : List ℕ). totals l d (refreshedResponse p N g (P .matrix) s c .shares)) (plainResponse p (totals l d s) (totalsOf p N))
-      (w-totals N good g (P .matrix)) (z-totals N good g (P .matrix) s ws)
+  attempt-collapses P N good g s ws full =
+      concluded-full p P (decoded k d (maskedImage p N g (P .matrix))) (λ (c : List ℕ). decoded l d (refreshedResponse p N g (P .matrix) s c))
+      (plainCommitment p (P .matrix) (totalsOf p N)) (plainResponse p (totals l d s) (totalsOf p N))
+      (λ (x : List ℕ) (o : decoded k d (maskedImage p N g (P .matrix)) ≡ some x).
+      sym (picked-some (maskedImage p N g (P .matrix) .next .ok) (totals k d (maskedImage p N g (P .matrix) .shares)) x o) ∙ w-totals N good g (P .matrix))
+      (λ (c x : List ℕ) (o : decoded l d (refreshedResponse p N g (P .matrix) s c) ≡ some x).
+      sym (picked-some (refreshedResponse p N g (P .matrix) s c .next .ok) (totals l d (refreshedResponse p N g (P .matrix) s c .shares)) x o)
+      ∙ z-totals N good g (P .matrix) s ws c)
+      full
 
   -- all attempts: the key's shares change from one to the next, their sums do not
   pub collapse : (P : Public) (T : Coins) (left a : ℕ) → ((b : ℕ) → b < a + left → GoodNoise p (noiseAt p T b))
-      → (s : List ℕ) → Words (l * (d * 512)) s
+      → (s : List ℕ) → Words (l * (d * 512)) s → (signFrom p P T left a s .status ≡ 20 → ⊥)
       → signFrom p P T left a s ≡ plainFrom p P (λ (b : ℕ). totalsOf p (noiseAt p T b)) left a (totals l d s)
   unfolding signFrom plainFrom
-  collapse P T zero a good s ws = refl
-  collapse P T (suc left) a good s ws =
+  collapse P T zero a good s ws full = refl
+  collapse P T (suc left) a good s ws full =
       let here : GoodNoise p (noiseAt p T a) = good a (omega arith) in
-      let e1 : attempted p P (noiseAt p T a) (maskAt T a) s ≡ plainAttempt p P (totals l d s) (totalsOf p (noiseAt p T a)) =
-      attempt-collapses P (noiseAt p T a) here (maskAt T a) s ws in
-      let e2 : signFrom p P T left (suc a) (refreshedKey p (noiseAt p T a) (maskAt T a) (P .matrix) s .shares)
-      ≡ plainFrom p P (λ (b : ℕ). totalsOf p (noiseAt p T b)) left (suc a) (totals l d (refreshedKey p (noiseAt p T a) (maskAt T a) (P .matrix) s .shares)) =
-      collapse P T left (suc a) (λ (b : ℕ) (h : b < suc a + left). good b (omega arith)) (refreshedKey p (noiseAt p T a) (maskAt T a) (P .matrix) s .shares)
-      (s-words (noiseAt p T a) here (maskAt T a) (P .matrix) s ws) in
-      let e3 : totals l d (refreshedKey p (noiseAt p T a) (maskAt T a) (P .matrix) s .shares) ≡ totals l d s = s-totals (noiseAt p T a) here (maskAt T a) (P .matrix) s ws in
-      cc (e1, e2, e3)
+      let s′ : List ℕ = refreshedKey p (noiseAt p T a) (maskAt T a) (P .matrix) s .shares in
+      let e : ℕ → Totals = λ (b : ℕ). totalsOf p (noiseAt p T b) in
+      let later : Outcome = signFrom p P T left (suc a) s′ in
+      let e1 : attempted p P (noiseAt p T a) (maskAt T a) s ≡ plainAttempt p P (totals l d s) (e a) =
+      attempt-collapses P (noiseAt p T a) here (maskAt T a) s ws
+      (λ (x : attempted p P (noiseAt p T a) (maskAt T a) s ≡ dry). full (ap (λ (t : Attempted). ended a t later .status) x)) in
+      let e3 : totals l d s′ ≡ totals l d s = s-totals (noiseAt p T a) here (maskAt T a) (P .matrix) s ws in
+      ap (λ (t : Attempted). ended a t later) e1
+      ∙ ended-full a (plainAttempt p P (totals l d s) (e a)) later (plainFrom p P e left (suc a) (totals l d s))
+      (λ (x : ended a (plainAttempt p P (totals l d s) (e a)) later .status ≡ 20). full (ap (λ (t : Attempted). ended a t later .status) e1 ∙ x))
+      (λ (y : later .status ≡ 20 → ⊥).
+      collapse P T left (suc a) (λ (b : ℕ) (h : b < suc a + left). good b (omega arith)) s′
+      (s-words (noiseAt p T a) here (maskAt T a) (P .matrix) s ws) y
+      ∙ ap (plainFrom p P e left (suc a)) e3)

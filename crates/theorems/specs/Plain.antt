@@ -1,8 +1,9 @@
 -- Plain signing: Algorithm 2 of paper 000 on sums. One secret instead of d shares, the totals of the noise instead of its shares, no masking.
--- From line 9 on it is the text of signing itself (`concluded`). Of the record of the parameter table it looks at nothing that depends on the
+-- From line 8 on it is the text of signing itself (`concluded`). Of the record of the parameter table it looks at nothing that depends on the
 -- share count.
 use mathlib.Core.Bool.{Bool}
 use mathlib.Core.List.{List, [], _∷_}
+use mathlib.Core.Option.{some}
 use Prim.Native.Nat.{ℕ, zero, suc}
 use Rattle.hash.specs.declared.params.Params.{Params}
 use Rattle.ring.specs.Words.{addW}
@@ -42,8 +43,9 @@ plainCommitment p A e = build (p .k) (λ (i : ℕ). addW (productRow (p .l) A (e
 unfoldable pub plainResponse : Params → List ℕ → Totals → List ℕ → List ℕ
 plainResponse p s e c = build (p .l) (λ (i : ℕ). addW (mul c (intt (block 512 i s))) (block 512 i (e .first)))
 
+-- no mask is drawn, so none can fail to fill
 unfoldable pub plainAttempt : Params → Public → List ℕ → Totals → Attempted
-plainAttempt p P s e = concluded p P (plainCommitment p (P .matrix) e) (plainResponse p s e)
+plainAttempt p P s e = concluded p P (some (plainCommitment p (P .matrix) e)) (λ (c : List ℕ). some (plainResponse p s e c))
 
 -- `left` attempts from number a + 1, with the same secret s each time; e a are the totals of attempt number a + 1
 unfoldable pub plainFrom : Params → Public → (ℕ → Totals) → ℕ → ℕ → List ℕ → Outcome

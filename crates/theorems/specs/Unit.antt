@@ -1,6 +1,6 @@
 -- A unit (01): one signing call with an expanded key, from seeds or with explicit noise. Its secret, its noise totals, and what demand 3 supposes.
 use mathlib.Core.Path.{_≡_}
-use mathlib.Core.Bool.{true}
+use mathlib.Core.Bool.{Bool, true}
 use mathlib.Core.List.{List}
 use Prim.Native.Nat.{ℕ, _+_, _-_, _*_, _/_, _%_, _<_}
 use lib.Dec.{ltb}
@@ -12,12 +12,14 @@ use Rattle.hash.specs.declared.params.Params.{Params}
 use Rattle.hash.specs.declared.params.Selected.{Selected}
 use Rattle.ring.specs.Words.{q, Words}
 use Rattle.sharing.specs.Blocks.{block, sumN}
+use Rattle.sharing.specs.Encoding.{skip}
+use Rattle.sharing.specs.Masks.{masks}
 use Rattle.sharing.specs.Noise.{sampleU, noiseHeader}
 use Rattle.signature.specs.Checks.{signBuffersSized}
 use Rattle.signature.specs.ExpandedKey.{ExpandedKey, vkIn, secretAt}
 use Rattle.signature.specs.Keys.{DigestTrue}
 use Rattle.signature.specs.Outcome.{Outcome, foundIn}
-use Rattle.signature.specs.Sign.{Coins}
+use Rattle.signature.specs.Sign.{Coins, noiseAt, maskAt}
 use Rattle.signature.specs.SignCalls.{Key, coinsGood, signOf, signCall}
 
 pub record UnitCall : Type 0 where
@@ -51,6 +53,20 @@ vkOf u = vkIn (foundIn (recordOf u)) (u .key .bytes)
 
 abbrev pub TrueDigest : UnitCall → Type 0
 TrueDigest u = (p : Params) → recordOf u ≡ Selected.Found p → DigestTrue p (Key.expanded (u .key))
+
+-- ---- masks that do not fill (02, #105)
+
+-- a unit runs dry where an attempt that it makes meets a mask polynomial that does not fill: the call ends with 20
+abbrev pub RunsDry : UnitCall → Type 0
+RunsDry u = signUnit u .status ≡ 20
+
+-- did every mask polynomial of attempt a + 1 fill? It draws l zero encodings (line 4), one behind each repetition of the noise of l + k polynomials
+-- (lines 5 and 7), and three times l (lines 12, 13 and 15), from its mask seed alone
+abbrev pub encodingsIn : Params → UnitCall → ℕ → ℕ
+encodingsIn p u a = p .l + (p .l + p .k) * noiseAt p (u .coins) a .reps + 3 * p .l
+
+unfoldable pub masksFillAt : Params → UnitCall → ℕ → Bool
+masksFillAt p u a = skip masks (p .shares) (encodingsIn p u a) (maskAt (u .coins) a) .ok
 
 -- ---- the noise's sums, as 01 says them; the key's are `secretAt` (signature)
 

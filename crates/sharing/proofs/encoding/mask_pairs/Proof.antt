@@ -3,7 +3,7 @@ use Prim.Native.Nat.{_-_, _≤_, _<_}
 use native.Mathlib.Omega.{arith}
 use lib.ListN.{length}
 use Rattle.sharing.specs.Encoding.{later}
-use Rattle.sharing.specs.Masks.{masks, maskWords, maskMoved}
+use Rattle.sharing.specs.Masks.{masks, maskPoly, maskNext}
 use Rattle.sharing.proofs.Totals.{later-none, later-more}
 use Rattle.sharing.proofs.Carry.{mask-low}
 use Rattle.sharing.proofs.Pairs.{masked, masked-start, pairs-words, masked-mid, masked-turn}
@@ -33,8 +33,7 @@ add-at-requires c κs =
     let e = l .loop .inv .2 in
     let w = pairs-words masks mask-low (a .args .s .now) (a .args .h) (a .args .g) (a .pre) (l .loop .j) in
     let n = ap length e ∙ w .long in
-    let p : c .before .before .before .fill .last .0 ≡ maskWords 512 (l .loop .x) = c .before .before .before .fill .ensures .0
-    ∙ ap (λ k. maskWords k (l .loop .x)) (l .loop .inv .1) in
+    let p = c .before .before .before .fill .ensures .0 in
     (omega arith, rw e (w .low), rw p (mask-low (l .loop .x) .low))
 
 sub-at-requires : tie.Need-sub-at-requires Inv-loop μ-loop
@@ -45,9 +44,9 @@ sub-at-requires c κs =
     let j = l .loop .j in
     let h = a .args .h in
     let lt : j < h = c .before .before .before .before .before .before .before .before .before .before .loop-test .taken in
-    let p : f .last .0 ≡ maskWords 512 (l .loop .x) = f .ensures .0 ∙ ap (λ k. maskWords k (l .loop .x)) (l .loop .inv .1) in
+    let p = f .ensures .0 in
     let w = masked-mid masks mask-low (a .args .s .now) h (a .args .g) (a .pre) j lt (l .loop .s) (f .last .0)
-    (c .before .before .before .before .add-at .last .0) (l .loop .inv .2) (p ∙ ap (maskWords 512) (l .loop .inv .3))
+    (c .before .before .before .before .add-at .last .0) (l .loop .inv .2) (p ∙ ap maskPoly (l .loop .inv .3))
     (c .before .before .before .before .add-at .ensures) in
     let n = w .long in
     (omega arith, w .low, rw p (mask-low (l .loop .x) .low))
@@ -58,20 +57,17 @@ loop-again c =
     let l = c .before .before .before .before .before .before .before .before .before .before .before .before .before .before in
     let a =
     c .before .before .before .before .before .before .before .before .before .before .before .before .before .before .before .before in
-    let x = l .loop .x in
     let j = l .loop .j in
     let lt : j < a .args .h =
     c .before .before .before .before .before .before .before .before .before .before .before .before .before .loop-test .taken in
-    let p : f .last .0 ≡ maskWords 512 (later masks j (a .args .g)) = f .ensures .0 ∙ ap (λ k. maskWords k x) (l .loop .inv .1)
-    ∙ ap (maskWords 512) (l .loop .inv .3) in (
+    let p : f .last .0 ≡ maskPoly (later masks j (a .args .g)) = f .ensures .0 ∙ ap maskPoly (l .loop .inv .3) in (
       omega arith,
       ap length p ∙ mask-low (later masks j (a .args .g)) .long,
       masked-turn masks mask-low (a .args .s .now) (a .args .h) (a .args .g) (a .pre) j lt (l .loop .s) (f .last .0)
           (c .before .before .before .before .before .before .before .add-at .last .0) (l .loop .inv .2) p
           (c .before .before .before .before .before .before .before .add-at .ensures) (c .before .before .sub-at .last .0)
           (c .before .before .sub-at .ensures),
-      f .ensures .1 ∙ ap (λ k. maskMoved k x) (l .loop .inv .1) ∙ ap (maskMoved 512) (l .loop .inv .3)
-          ∙ sym (later-more masks j (a .args .g)),
+      f .ensures .1 ∙ ap maskNext (l .loop .inv .3) ∙ sym (later-more masks j (a .args .g)),
     )
 
 same-length : tie.Need-same-length Inv-loop μ-loop

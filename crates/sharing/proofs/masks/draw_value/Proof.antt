@@ -42,7 +42,7 @@ use denote.Triple.Clauses.{ensured, lasts}
 use denote.Exit.{yes}
 use Rattle.sharing.specs.declared.masks.MaskGen.{MaskGen}
 use Rattle.sharing.specs.declared.masks.Drawn.{Drawn}
-use Rattle.sharing.specs.Masks.{maskWord, maskMoved}
+use Rattle.sharing.specs.Masks.{maskDraw, maskMoved}
 use Rattle.sharing.proofs.masks.MaskGen as T
 use Rattle.sharing.proofs.masks.MaskGen.Laws as T′
 use Rattle.sharing.proofs.masks.Drawn as D
@@ -78,7 +78,7 @@ module _ {M : Type 1} (𝓤 : URA M) (H : Heap 𝓤) (A : Atoms 𝓤) (W : Given
   made : (r : ℕ) (z : MaskGen) → r < 2 ^ 64 → Is T.the-row z (mach z ∷ []) → Is D.the-row (d r z) (vstruct (vcons (vint w64 r) (vcons (mach z) vnil)) ∷ [])
   made r z fits isz = LL.owes D.the-type D′.the-laws (d r z) ((refl, fits), (isz, tt))
 
-  exits : (r : ℕ) (z : MaskGen) → (r ≡ maskWord h 0) × (z ≡ maskMoved 1 h) → r < 2 ^ 64 → Is T.the-row z (mach z ∷ []) → ent 𝓤 (sem 𝓤 H A (T.the-row .own h (mach h ∷ []))) (Post (vstruct (vcons (vint w64 r) (vcons (mach z) vnil))))
+  exits : (r : ℕ) (z : MaskGen) → (r ≡ maskDraw h) × (z ≡ maskMoved 1 h) → r < 2 ^ 64 → Is T.the-row z (mach z ∷ []) → ent 𝓤 (sem 𝓤 H A (T.the-row .own h (mach h ∷ []))) (Post (vstruct (vcons (vint w64 r) (vcons (mach z) vnil))))
   exits r z e fits isz =
       qed W (‵ (T.the-row .own h (mach h ∷ [])) ∷ []) ∵
       suffices ! _ (ends-at 𝓤 H A valued.ended stayed (valued.clauses 𝓤 H A at-mem run) W ((tt, tt, tt, (h, tt), (mach h ∷ [], tt)), tt) (vstruct (vcons (vint w64 r) (vcons (mach z) vnil))) (d r z) (tt, tt) (tt, tt)) $ says ! (λ i. record { word = e .0 i; next = e .1 i }) $
@@ -114,8 +114,8 @@ module _ {M : Type 1} (𝓤 : URA M) (H : Heap 𝓤) (A : Atoms 𝓤) (W : Given
         -- [what `draw` asks; the lender's part; _5; …; _4; …; _3; …; _2's end; _1; …; room for _0; …]
         calls-at ! fm (Draw 𝓤 H A at-mem run) known (to-draw l₂ ν γ) (and-then ! (load ! (from ! (stop !)) (look ! 4 refl)) (no-more !)) (λ w.
         use1 W (later (some (λ (r : ℕ). ((‵ (flft (ν ∷ []) fullShare) ⊛ ‵ ftrue) ⊛ ‵ (u64 .own r (w ∷ []))) ⊛ raw (ensured 𝓤 H A draw.ended (draw.clauses 𝓤 H A at-mem run) (ν ∷ [], tt) (x l₂ γ, tt) tt r)))) (id⊢ 𝓤 _) $ await ! tt $ pick ! (λ r.
-        split ! $ move ! (1 ∷ []) $ use1 W (some (λ (zs : MaskGen × Unit {0}). ‵ (lasts draw.ended (ν ∷ [], tt) (x l₂ γ, tt) zs) ⊛ raw (fact 𝓤 ((r ≡ maskWord h 0) × (zs .0 ≡ maskMoved 1 h))))) (id⊢ 𝓤 _) $ pick ! (λ zs.
-        split ! $ move ! (1 ∷ []) $ heard ! ((r ≡ maskWord h 0) × (zs .0 ≡ maskMoved 1 h)) (λ e. fsplit ! $
+        split ! $ move ! (1 ∷ []) $ use1 W (some (λ (zs : MaskGen × Unit {0}). ‵ (lasts draw.ended (ν ∷ [], tt) (x l₂ γ, tt) zs) ⊛ raw (fact 𝓤 ((r ≡ maskDraw h) × (zs .0 ≡ maskMoved 1 h))))) (id⊢ 𝓤 _) $ pick ! (λ zs.
+        split ! $ move ! (1 ∷ []) $ heard ! ((r ≡ maskDraw h) × (zs .0 ≡ maskMoved 1 h)) (λ e. fsplit ! $
         move ! (2 ∷ []) $ split ! $ move ! (1 ∷ []) $ peeks ! u64 (Is u64) (shows 𝓤 H A u64) r (w ∷ []) (λ isr.
         land ! (from ! (stop !)) (init ! 9 refl (uint-lawful 𝓤 H A W w64 .typed r _ isr .0)) $ rewrite ! 9 (λ (u : Val). ‵ (fat fullShare (tyInt w64) l₃ 0 u)) (ap only (isr .0)) refl $
         -- the lifetime is ended, and the local is back at the state that `draw` left

@@ -1,4 +1,4 @@
-use mathlib.Core.Path.{ap, _∙_}
+use mathlib.Core.Path.{refl, ap, _∙_}
 use mathlib.Core.List.{_++_}
 use Prim.Native.Nat.{ℕ, _*_}
 use native.Mathlib.Omega.{arith}
@@ -34,7 +34,7 @@ returns c =
     let z = rw (c .before .before .before .before .before .before .before .before .before .at-t .ensures) at (c .before .before .before .before .before .before .challenge-at .ensures) in
     let W = span (b .work .now) (atT (p .l) (p .shares)) (p .k * 512) in
     let e = z .1 ∙ ap (λ (n : ℕ). shake256 (headed 104 (p .k) ++ ordered (p .edition) (roundW W) (b .mu .now)) n) (a .pre .3) in
-    ((z .0 .long, z .0 .low), λ N h A s u. answer-none p N h (b .g) A (b .mu .now) s (b .work .now) _ _ _ u (z .0) e (z .2) (not-true _ (c .if1 .taken)))
+    ((z .0 .long, z .0 .low), λ N h A s u. answer-none p N h (b .g) A (b .mu .now) s (b .work .now) _ _ (record { challenge = c .before .before .before .before .before .before .challenge-at .result; full = b .g .ok }) u (z .0) e (z .2) (not-true _ (c .if1 .taken)) refl)
 
 respond-requires : tie.Need-respond-requires
 respond-requires c κs =
@@ -55,7 +55,7 @@ returns-2 c =
     let W = span (b .work .now) (atT (p .l) (p .shares)) (p .k * 512) in
     let e = z .1 ∙ ap (λ (n : ℕ). shake256 (headed 104 (p .k) ++ ordered (p .edition) (roundW W) (b .mu .now)) n) (a .pre .3) in
     let v = c .before .before .respond .ensures in
-    ((v .long ∙ z .0 .long, v .low), λ N h A s u. answer-made p N h (b .g) A (b .mu .now) s (b .work .now) _ _ _ u (z .0) e (z .2) (count-power (p .shares) (a .pre .0 .count)) _ _ _ (not-false _ (c .before .before .before .before .before .before .if1 .left)) (c .before .before .before .before .from-signed .ensures .0) v)
+    ((v .long ∙ z .0 .long, v .low), λ N h A s u. answer-made p N h (b .g) A (b .mu .now) s (b .work .now) _ _ (record { challenge = c .before .before .before .before .before .before .before .before .before .before .before .before .challenge-at .result; full = c .before .before .respond .result .ok }) u (z .0) e (z .2) (count-power (p .shares) (a .pre .0 .count)) _ _ _ (not-false _ (c .before .before .before .before .before .before .if1 .left)) (c .before .before .before .before .from-signed .ensures .0) refl v)
 
 pub answer-spec : {M : Type 1} → statement M
 answer-spec =

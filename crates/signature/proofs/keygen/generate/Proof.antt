@@ -1,5 +1,4 @@
 use mathlib.Core.Path.{ap, _∙_}
-use borrow.Author.Tests.{not-true, not-false}
 use Rattle.signature.specs.Outcome.{outcome}
 use Rattle.signature.proofs.KeyDone.{keygen-none, keygen-some}
 use borrow.Author.Needs.{needs}
@@ -25,8 +24,8 @@ returns c =
     let m = c .before .before .before .before .before .before .before in
     let b = m .before .before .before .before .before .before .args in
     let e = m .make-key .ensures in
-    ap (outcome 10 (b .out .now)) (c .before .before .clear .ensures)
-    ∙ keygen-none (b .p) (b .seeds .now) (b .mask-seed .now) (b .out .now) (b .work .now) _ (e .0 .0) (m .make-key .last .0) (not-true _ (c .before .before .before .before .if1 .taken)) (e .0 .1)
+    ap (outcome (m .make-key .result) (b .out .now)) (c .before .before .clear .ensures)
+    ∙ keygen-none (b .p) (b .seeds .now) (b .mask-seed .now) (b .out .now) (b .work .now) _ (e .0 .0) (m .make-key .last .0) (c .before .before .before .before .if1 .taken) (e .0 .1)
 
 write-made-requires : tie.Need-write-made-requires
 write-made-requires c κs =
@@ -50,7 +49,7 @@ returns-2 c =
     let b = m .before .before .before .before .before .before .args in
     let e = m .make-key .ensures in
     ap (outcome 0 _) (c .before .before .clear2 .ensures)
-    ∙ keygen-some (b .p) (b .seeds .now) (b .mask-seed .now) (b .out .now) (b .work .now) _ (e .0 .0) _ (m .make-key .last .0) (not-false _ (w .before .before .before .if1 .left)) (e .1) (w .write-made .ensures) (e .0 .1)
+    ∙ keygen-some (b .p) (b .seeds .now) (b .mask-seed .now) (b .out .now) (b .work .now) _ (e .0 .0) _ (m .make-key .last .0) (w .before .before .before .if1 .left) (e .1) (w .write-made .ensures) (e .0 .1)
 
 pub generate-spec : {M : Type 1} → statement M
 generate-spec =

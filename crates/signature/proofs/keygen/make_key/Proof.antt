@@ -4,7 +4,6 @@ use native.Mathlib.Omega.{arith}
 use Rattle.signature.specs.Keys.{vkSeed}
 use Rattle.signature.proofs.KeySteps.{three-parts, PartsLeft}
 use Rattle.signature.proofs.Sizes.{fits-low, coins-low, coins-ends, seed-long, coins-part, share-part, coins-long, share-long}
-use Rattle.sharing.specs.Masks.{maskStart}
 use lib.ListN.{length}
 use borrow.Author.Needs.{needs}
 use Rattle.signature.proofs.keygen.make_key.Statement.{statement}
@@ -106,7 +105,7 @@ returns c =
     let h = a .pre .0 in
     let xs = b .seeds .now in
     let e = a .pre .2 in
-    three-parts (PartsLeft p (maskStart (b .mask-seed .now)) _ (b .work .now) _) refl (coins-part p h xs e) (share-part p h xs e) (c .before .before .make-parts .ensures)
+    three-parts (PartsLeft p (b .mask-seed .now) _ (b .work .now) _) refl (coins-part p h xs e) (share-part p h xs e) (c .before .before .make-parts .ensures)
 
 pub make-key-spec : {M : Type 1} → statement M
 make-key-spec =

@@ -7,7 +7,7 @@ use native.Mathlib.Omega.{arith}
 use lib.ListN.{length}
 use Rattle.ring.specs.Words.{q, Below}
 use Rattle.signature.specs.Sign.{publicBy, signFrom}
-use Rattle.signature.proofs.AttemptEnds.{told-as, all-over, all-pass, all-stuck, all-next}
+use Rattle.signature.proofs.AttemptEnds.{told-as, all-over, all-pass, all-stuck, all-dry, all-next}
 use Rattle.signature.proofs.Coins.{coins-within}
 use Rattle.ring.specs.Rns.{wordsOf}
 use borrow.Author.Needs.{needs}
@@ -103,15 +103,39 @@ returns-2 c =
     let r = c .reported2 .ensures in
     (v .0 .0 ∙ i .1, told-as _ (r .0) (r .1) (all-stuck p P T (b .n) (l .i) _ _ (b .out .now) (i .4) (c .before .before .before .before .before .before .before .before .before .before .loop-test .taken) _ _ _ _ (i .3) (v .1) (c .before .enum-told3 .given .1)))
 
+add-reported-3 : tie.Need-add-reported-3 Inv-loop μ-loop
+add-reported-3 c =
+    omega (arith, c .before .before .before .before .before .before .before .before .before .loop-test .taken, c .before .before .before .before .before .before .before .before .before .before .before .before .before .before .before .before .before .before .before .pre .1 .1 .0)
+
 reported-requires-3 : tie.Need-reported-requires-3 Inv-loop μ-loop
 reported-requires-3 c κs =
-    omega (arith, c .before .loop .inv .0, c .before .before .before .before .before .before .before .before .before .before .pre .1 .1 .0)
+    omega (arith, c .before .before .before .before .before .before .before .before .before .loop-test .taken, c .before .before .before .before .before .before .before .before .before .before .before .before .before .before .before .before .before .before .before .pre .1 .1 .0)
 
 same-length-6 : tie.Need-same-length-6 Inv-loop μ-loop
-same-length-6 c = ap (λ (l : List ℕ). length l) (c .before .before .loop .inv .3)
+same-length-6 c =
+    c .before .before .before .before .before .before .before .attempt .kept .1 .1 .1 .1 .1 .1 .1 .1 .1 .1 .0 ∙ ap (λ (l : List ℕ). length l) (c .before .before .before .before .before .before .before .before .before .before .before .loop .inv .3)
 
 returns-3 : tie.Need-returns-3 Inv-loop μ-loop
 returns-3 c =
+    let b = c .before .before .before .before .before .before .before .before .before .before .before .before .before .before .before .before .before .before .before .before .args in
+    let p = b .p in
+    let l = c .before .before .before .before .before .before .before .before .before .before .before .loop in
+    let i = l .inv in
+    let v = c .before .before .before .before .before .before .before .attempt .ensures in
+    let T = coinsOf (b .explicit) (b .seeds .now) (b .noise .now) (b .masks .now) in
+    let P = publicBy p (b .vk .now) (b .mu .now) (matrixIn p (wordsOf (b .a .now))) in
+    let r = c .reported3 .ensures in
+    (v .0 .0 ∙ i .1, told-as _ (r .0) (r .1) (all-dry p P T (b .n) (l .i) _ _ (b .out .now) (i .4) (c .before .before .before .before .before .before .before .before .before .before .loop-test .taken) _ _ _ _ (i .3) (v .1) (c .before .enum-told4 .given .1)))
+
+reported-requires-4 : tie.Need-reported-requires-4 Inv-loop μ-loop
+reported-requires-4 c κs =
+    omega (arith, c .before .loop .inv .0, c .before .before .before .before .before .before .before .before .before .before .pre .1 .1 .0)
+
+same-length-8 : tie.Need-same-length-8 Inv-loop μ-loop
+same-length-8 c = ap (λ (l : List ℕ). length l) (c .before .before .loop .inv .3)
+
+returns-4 : tie.Need-returns-4 Inv-loop μ-loop
+returns-4 c =
     let b = c .before .before .before .before .before .before .before .before .before .before .before .args in
     let p = b .p in
     let l = c .before .before .loop in
@@ -119,7 +143,7 @@ returns-3 c =
     let T = coinsOf (b .explicit) (b .seeds .now) (b .noise .now) (b .masks .now) in
     let P = publicBy p (b .vk .now) (b .mu .now) (matrixIn p (wordsOf (b .a .now))) in
     let z : b .n - l .i ≡ 0 = omega (arith, c .before .loop-test .left) in
-    let r = c .reported3 .ensures in
+    let r = c .reported4 .ensures in
     (i .1, told-as _ (r .0) (r .1) (all-over p P T (b .n) (l .i) _ _ (b .out .now) (i .4) _ (i .3) z))
 
 pub attempt-all-spec : {M : Type 1} → statement M
@@ -127,4 +151,5 @@ attempt-all-spec =
     tie.close (tie.spec Inv-loop μ-loop loop-holds attempt-requires (λ c. search needs) add-reported reported-requires
     (λ c. search needs) same-length-2 returns (λ c. search needs) (λ c. search needs) loop-less loop-again
     (λ c. search needs) add-reported-2 reported-requires-2 (λ c. search needs) same-length-4 returns-2
-    reported-requires-3 (λ c. search needs) same-length-6 returns-3)
+    (λ c. search needs) add-reported-3 reported-requires-3 (λ c. search needs) same-length-6 returns-3
+    reported-requires-4 (λ c. search needs) same-length-8 returns-4)
