@@ -28,7 +28,7 @@ static uint8_t signature[RACCOON_SIGNATURE_BYTES(SET)];
 
 #define WORDS(array) (sizeof(array) / sizeof((array)[0]))
 
-/* A status is the number of the first check whose answer was no. These are the checks. */
+/* A status is the number of the first check whose answer was no. These are the checks; no call has 17 to 19. */
 static const char *const CHECKS[] = {
     "yes to all",
     "Is the set 128, 192 or 256?",
@@ -47,6 +47,7 @@ static const char *const CHECKS[] = {
     "Is it the very byte string that the writer makes of the fields read from it?",
     "Do the fields of the signature pass the bounds?",
     "Is the recomputed challenge hash equal?",
+    [20] = "Did every mask polynomial fill within 777 draws?",
 };
 
 /* The unit draws no randomness: every seed comes from us, fresh for each call, and is used once. */

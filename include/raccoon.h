@@ -45,7 +45,8 @@ enum raccoon_status {
     RACCOON_BAD_SIGNATURE_LENGTH = 13, /* Is the signature exactly as long as the set says? */
     RACCOON_BAD_SIGNATURE_FORM = 14,   /* Is the signature the very byte string that the writer makes of the fields read from it? */
     RACCOON_BAD_SIGNATURE_BOUNDS = 15, /* Do the fields of the signature pass the bounds? */
-    RACCOON_BAD_SIGNATURE_HASH = 16    /* Is the recomputed challenge hash equal? */
+    RACCOON_BAD_SIGNATURE_HASH = 16,   /* Is the recomputed challenge hash equal? */
+    RACCOON_MASKS_NOT_FILLED = 20      /* Did every mask polynomial fill within 777 draws? */
 };
 
 /* ---- Sizes ----
@@ -124,7 +125,7 @@ enum raccoon_status {
 /* ---- Keys ---- */
 
 /*
- * Generates a key.  Checks 1, 2, 7, 8, 10.
+ * Generates a key.  Checks 1, 2, 7, 8, 10, 20.
  *
  * Reads   seeds       RACCOON_KEYGEN_SEED_BYTES(set, shares) bytes: matrix seed, noise seeds, share seeds, joined
  *         mask_seed   RACCOON_MASK_SEED_BYTES bytes
@@ -132,7 +133,7 @@ enum raccoon_status {
  *                     public key
  *         work        RACCOON_WORK_WORDS(set, shares) words
  * After   0           key_out the key, work zero
- *         10          key_out as it was, work zero
+ *         10, 20      key_out as it was, work zero
  *         1, 2, 7, 8  both as they were
  */
 uint32_t raccoon_keygen(uint32_t set, uint32_t shares, const uint8_t *seeds, size_t seeds_len, const uint8_t *mask_seed, size_t mask_seed_len,
@@ -154,7 +155,7 @@ uint32_t raccoon_expand_key(uint32_t set, uint32_t shares, const uint8_t *key, s
 
 /*
  * Shares the secret of an expanded key anew: the sum of the shares modulo q is what it was. Public key and digest are carried on as they were
- * lent; a digest that is not the public key's hash is not mended.  Checks 1, 2, 3, 4, 5, 7, 8.
+ * lent; a digest that is not the public key's hash is not mended.  Checks 1, 2, 3, 4, 5, 7, 8, 20.
  *
  * Reads   bytes       RACCOON_EXPANDED_BYTES(set) bytes; check 4 is of the public key alone, the digest may be anything
  *         words       RACCOON_SHARE_WORDS(set, shares) words
@@ -171,7 +172,7 @@ uint32_t raccoon_refresh_key(uint32_t set, uint32_t shares, const uint8_t *bytes
 
 /*
  * What signing returns. attempts is, with status 0, the number of the first attempt that passed (from 1); with 12 all allowed attempts; with
- * 11 the attempt that met it; with any other status 0.
+ * 11 and 20 the attempt that met it; with any other status 0.
  */
 struct raccoon_signed {
     uint32_t status;
@@ -179,9 +180,10 @@ struct raccoon_signed {
 };
 
 /*
- * Signs a message with a signing key.  Checks 1 to 10, then 11 within each attempt, then 12.
+ * Signs a message with a signing key.  Checks 1 to 10, then 20 and 11 within each attempt, then 12.
  *
- * attempts is the number of attempts allowed, 1 to 16. They run in order; the first that passes gives the signature.
+ * attempts is the number of attempts allowed, 1 to 16. They run in order; the first that passes gives the signature. One that meets 11 or 20
+ * ends the call. Of the masks drawn before the challenge 20 is put ahead of 11, of those drawn behind it behind 11.
  *
  * Reads   key             RACCOON_SIGNING_KEY_BYTES(set, shares) bytes
  *         message         at most RACCOON_MAX_MESSAGE_BYTES bytes; empty is allowed
@@ -191,7 +193,7 @@ struct raccoon_signed {
  *         work            RACCOON_WORK_WORDS(set, shares) words
  * After   0               signature_out the signature, work zero; raccoon_verify returns 0 for it
  *         1 to 8          both as they were
- *         9 to 12         signature_out as it was, work zero
+ *         9 to 12, 20     signature_out as it was, work zero
  */
 struct raccoon_signed raccoon_sign(uint32_t set, uint32_t shares, uint32_t attempts, const uint8_t *key, size_t key_len, const uint8_t *message,
                                    size_t message_len, const uint8_t *noise_seeds, size_t noise_seeds_len, const uint8_t *mask_seeds,

@@ -1,6 +1,7 @@
 // Exports for the benchmark, which times them beside another implementation.
 ghost use mathlib.Core.Path.{_≡_};
 ghost use mathlib.Core.List.{_++_};
+ghost use Prim.Native.Nat.{_+_};
 ghost use lib.ListN.{length};
 ghost use mathlib.Core.Bool.{true, false};
 ghost use Rattle.hash.specs.Lists.{pick};
@@ -10,6 +11,8 @@ ghost use Rattle.ring.specs.Uniform.{sampleQ};
 ghost use Rattle.ring.specs.UniformSteps.{heldOf};
 ghost use Rattle.hash.specs.Keccak.{lane};
 ghost use Rattle.hash.specs.Shake.{zeroState, after, shake256};
+ghost use Rattle.sharing.specs.Encoding.{later};
+ghost use Rattle.sharing.specs.Masks.{masks, maskPoly, maskStart};
 ghost use Rattle.signature.specs.Decision.{decided};
 use signature::bounds::Decision;
 
@@ -83,6 +86,20 @@ pub extern "C" fn bench_sample_q(header: &[u8; 8], seed: &[u8], out: &mut [u64; 
     let p = s.poly;
     *out = p;
     s.ok
+}
+
+// Polynomial number n of a seed's mask generator, from 0 on. Where it or one before it runs dry it is zero, and the answer is false.
+#[no_mangle]
+pub extern "C" fn bench_masks(seed: &[u8], n: u64, out: &mut [u64; 512]) -> bool
+    ensures { λ r. ⌜ (r ≡ later masks (n + 1) (maskStart (now (seed .entry))) .ok)
+        × (now (out .exit) ≡ maskPoly (later masks n (maskStart (now (seed .entry))))) ⌝ }
+{
+    let mut g = sharing::masks::start(seed);
+    for i in 0..n {
+        g = sharing::masks::fill(out, g);
+    }
+    let e = sharing::masks::fill(out, g);
+    e.ok
 }
 
 // CheckBounds of any hint and response under any limits, settled early.

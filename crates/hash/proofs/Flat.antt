@@ -1,16 +1,14 @@
 -- A state as its 25 lanes in a row, in the order of 3.1.2, and back.
-use mathlib.Core.Path.{_≡_, refl, sym, ap, _∙_}
+use mathlib.Core.Path.{_≡_, refl, sym}
 use mathlib.Core.List.{List, [], _∷_}
-use Prim.Native.Nat.{ℕ, zero, suc, _+_, _*_, _/_, _%_, _^_, _<_}
-use lib.Dec.{lit<}
+use Prim.Native.Nat.{ℕ, _+_, _*_}
 use lib.ListN.{length, getD}
 use Rattle.hash.specs.Lists.{table}
-use Rattle.hash.specs.Keccak.{State, lane, plane, lanes, chi, round, rounds, keccakF}
+use Rattle.hash.specs.Keccak.{State, lane, lanes, chi, round, rounds, keccakF}
 use Rattle.hash.specs.Shake.{absorbed, finish}
-use Rattle.hash.specs.Endian.{laneAt, word}
-use Rattle.hash.proofs.Table.{getD-table, listed}
+use Rattle.hash.specs.Endian.{laneAt}
+use Rattle.hash.proofs.Table.{listed}
 use Rattle.hash.proofs.Sponge.{finish-absorbed}
-use Rattle.hash.proofs.Word.{first-word}
 
 abbrev pub flat : State → List ℕ
 flat A = table (laneAt A) 25
@@ -47,33 +45,3 @@ unflat-permuted A = refl
 pub unflat-absorbed : (m : List ℕ) → unflat (flat (absorbed m)) ≡ absorbed m
 unfolding finish
 unflat-absorbed m = rw (← finish-absorbed m) (unflat-permuted _)
-
--- ---- lanes of 64 bits
-
-low-plane : (f : ℕ → ℕ) → ((x : ℕ) → f x < 2 ^ 64) → (x : ℕ) → getD (plane f) x 0 < 2 ^ 64
-low-plane f h zero = h 0
-low-plane f h (suc zero) = h 1
-low-plane f h (suc (suc zero)) = h 2
-low-plane f h (suc (suc (suc zero))) = h 3
-low-plane f h (suc (suc (suc (suc zero)))) = h 4
-low-plane f h (suc (suc (suc (suc (suc x))))) = lit< tt
-
-low-lanes : (f : ℕ → ℕ → ℕ) → ((x y : ℕ) → f x y < 2 ^ 64) → (x y : ℕ) → lane (lanes f) x y < 2 ^ 64
-low-lanes f h x zero = low-plane (λ x. f x 0) (λ x. h x 0) x
-low-lanes f h x (suc zero) = low-plane (λ x. f x 1) (λ x. h x 1) x
-low-lanes f h x (suc (suc zero)) = low-plane (λ x. f x 2) (λ x. h x 2) x
-low-lanes f h x (suc (suc (suc zero))) = low-plane (λ x. f x 3) (λ x. h x 3) x
-low-lanes f h x (suc (suc (suc (suc zero)))) = low-plane (λ x. f x 4) (λ x. h x 4) x
-low-lanes f h x (suc (suc (suc (suc (suc y))))) = lit< tt
-
-rate-flat : (l : List ℕ) → table (laneAt (unflat l)) 17 ≡ table (λ i. getD l i 0) 17
-unfolding table
-rate-flat l = refl
-
--- lane i of the rate is word i of the stream
-pub flat-word : (l : List ℕ) (i : ℕ) → i < 17 → ((j : ℕ) → getD l j 0 < 2 ^ 64) → getD l i 0 ≡ word (unflat l) i
-flat-word l i h low =
-    sym (getD-table (λ j. getD l j 0) 17 i h)
-    ∙ ap (λ t. getD t i 0) (sym (rate-flat l))
-    ∙ getD-table (laneAt (unflat l)) 17 i h
-    ∙ sym (first-word (unflat l) i h (low-lanes (λ x y. getD l (5 * y + x) 0) (λ x y. low (5 * y + x)) (i % 5) (i / 5)))

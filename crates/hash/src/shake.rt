@@ -6,7 +6,6 @@ ghost use Prim.Native.Nat.{_+_, _-_, _*_, _/_, _%_, _<_, _≤_};
 ghost use lib.ListN.{getD, length, drop};
 ghost use Rattle.hash.specs.Lists.{table};
 ghost use Rattle.hash.specs.Keccak.{keccakF};
-ghost use Rattle.hash.specs.Endian.{word};
 ghost use Rattle.hash.specs.ShakeSteps.{rateLanes, alone, pasted};
 ghost use Rattle.hash.specs.Shake.{absorbed, byteAt, xorByte, absorbByte, absorbFrom, finish, rate, zeroState, after, stream, shake256};
 use crate::endian::load;
@@ -54,9 +53,9 @@ pub fn start() -> [[u64; 5]; 5]
     [[0; 5]; 5]
 }
 
-// The rate as its 17 lanes, which are its words of eight bytes.
+// The rate as its 17 lanes.
 fn rate_words(a: [[u64; 5]; 5]) -> [u64; 17]
-    ensures { λ r. ⌜ (r ≡ rateLanes a) × (r ≡ table (word a) 17) ⌝ }
+    ensures { λ r. ⌜ r ≡ rateLanes a ⌝ }
 {
     let p = a[0];
     let q = a[1];

@@ -1,4 +1,4 @@
--- The mask generator carried on: draws one after another are those of the bytes bytesAhead, its polynomials are filled by them, and from the start
+-- The mask generator carried on: draws one after another are those of the bytes ahead, its polynomials are filled by them, and from the start
 -- they are those of the seed's stream.
 use mathlib.Core.Path.{_≡_, refl, sym, ap, _∙_}
 use mathlib.Core.Bool.{Bool, true, false}
@@ -27,7 +27,7 @@ use Rattle.ring.proofs.Sums.{words-zeros}
 use Rattle.sharing.specs.declared.masks.MaskGen.{MaskGen}
 use Rattle.sharing.specs.declared.masks.Drawn.{Drawn}
 use Rattle.sharing.specs.Encoding.{later, zeroAfter, skip}
-use Rattle.sharing.specs.Masks.{stateOf, placeIn, heldAt, bytesAhead, maskDraw, maskMoved, drawn, marked, used, maskPoly, maskNext, maskStart, masks}
+use Rattle.sharing.specs.Masks.{stateOf, placeIn, heldAt, bytesAhead, maskDraw, maskMoved, drawn, flagged, used, maskPoly, maskNext, maskStart, masks}
 
 -- the state of a generator that was moved
 whole : (k n : ℕ) (g : MaskGen) (b : Bool) → stateOf (heldAt (after k (stateOf g)) n b) ≡ after k (stateOf g)
@@ -46,7 +46,7 @@ module _ (n : ℕ) (g : MaskGen) where
       ∙ stream-after (stateOf g) (a / 136) (min (a % 136) 135 + j)
       ∙ ap (stream (stateOf g)) e
 
-  pub moved-add : (m : ℕ) → maskMoved m (maskMoved n g) ≡ maskMoved (n + m) g
+  moved-add : (m : ℕ) → maskMoved m (maskMoved n g) ≡ maskMoved (n + m) g
   unfolding maskMoved
   moved-add m =
       let a = placeIn g + 7 * n in
@@ -54,11 +54,11 @@ module _ (n : ℕ) (g : MaskGen) where
       let e : (min (a % 136) 135 + 7 * m) % 136 ≡ (placeIn g + 7 * (n + m)) % 136 = omega arith in
       rw (whole (a / 136) (a % 136) g (g .ok), after-add, d, e)
 
-  pub moved-ok : maskMoved n g .ok ≡ g .ok
+  moved-ok : maskMoved n g .ok ≡ g .ok
   unfolding maskMoved
   moved-ok = refl
 
-  -- the next draw is draw number n of the bytes bytesAhead
+  -- the next draw is draw number n of the bytes ahead
   byte-on : (j : ℕ) → 7 * n + j < 5439 → getD (bytesAhead (maskMoved n g)) j 0 ≡ getD (bytesAhead g) (7 * n + j) 0
   unfolding bytesAhead
   byte-on j h =
@@ -77,7 +77,7 @@ module _ (n : ℕ) (g : MaskGen) where
 pub moved-none : (g h : MaskGen) → h ≡ maskMoved 0 g → h ≡ maskMoved 0 h
 moved-none g h e = e ∙ sym (ap (maskMoved 0) e ∙ moved-add 0 g 0)
 
-pub ahead-same : (g : MaskGen) → bytesAhead (maskMoved 0 g) ≡ bytesAhead g
+ahead-same : (g : MaskGen) → bytesAhead (maskMoved 0 g) ≡ bytesAhead g
 unfolding bytesAhead
 ahead-same g =
     table-same (λ (j : ℕ). stream (stateOf (maskMoved 0 g)) (placeIn (maskMoved 0 g) + j)) (λ (j : ℕ). stream (stateOf g) (placeIn g + j)) 5439
@@ -107,9 +107,9 @@ used-stays s i (suc m) h =
     ap (used s) (add-suc i m) ∙ rw (used, le-leb _ _ l) (used-stays s i m h)
 
 -- one draw more
-pub one-more : (h₀ h : MaskGen) (x : Drawn) (p : List ℕ) (i k : ℕ) → h ≡ maskMoved i h₀ → x ≡ drawn h → i < 777 → Front (bytesAhead h₀) [] i p k → k < 512
+pub draw-more : (h₀ h : MaskGen) (x : Drawn) (p : List ℕ) (i k : ℕ) → h ≡ maskMoved i h₀ → x ≡ drawn h → i < 777 → Front (bytesAhead h₀) [] i p k → k < 512
     → (x .word ≡ draw (bytesAhead h₀) i) × (x .next ≡ maskMoved (i + 1) h₀) × (used (bytesAhead h₀) (i + 1) ≡ i + 1)
-one-more h₀ h x p i k e d l v n = (
+draw-more h₀ h x p i k e d l v n = (
   ap (λ (x : Drawn). x .word) d ∙ ap maskDraw e ∙ draw-on i h₀ l,
   ap (λ (x : Drawn). x .next) d ∙ ap (maskMoved 1) e ∙ moved-add i h₀ 1,
   used-more (bytesAhead h₀) i (omega (arith, v .count)),
@@ -125,26 +125,24 @@ dry-poly g e = rw e (refl, refl)
 module _ (g : MaskGen) (o : g .ok ≡ true) (f : Option (List ℕ)) (e : uniform (bytesAhead g) ≡ f) (n : ℕ) (u : used (bytesAhead g) 777 ≡ n) where
   ok-poly : heldOr f (zeros 512) ≡ maskPoly g
   unfolding maskPoly
-  ok-poly =
-      sym
-      (ap (λ (b : Bool). pick b (heldOr (uniform (bytesAhead g)) (zeros 512)) (zeros 512)) o ∙ ap (λ (f : Option (List ℕ)). heldOr f (zeros 512)) e)
+  ok-poly = rw (← e) (ap (λ (b : Bool). pick b (heldOr (uniform (bytesAhead g)) (zeros 512)) (zeros 512)) (sym o))
 
-  ok-next : marked (filled f) (maskMoved n g) ≡ maskNext g
+  ok-next : flagged (filled f) (maskMoved n g) ≡ maskNext g
   unfolding maskNext
-  ok-next =
-      sym
-      (ap (λ (b : Bool). pick b (marked (filled (uniform (bytesAhead g))) (maskMoved (used (bytesAhead g) 777) g)) g) o
-      ∙ ap (λ (f : Option (List ℕ)). marked (filled f) (maskMoved (used (bytesAhead g) 777) g)) e
-      ∙ ap (λ (n : ℕ). marked (filled f) (maskMoved n g)) u)
+  ok-next = rw (← e, ← u) (ap (λ (b : Bool). pick b (flagged (filled (uniform (bytesAhead g))) (maskMoved (used (bytesAhead g) 777) g)) g) (sym o))
 
--- .. and where the next is ok too, it is some draws on
+-- a generator under its own flag
+flagged-same : (b : Bool) (g : MaskGen) → g .ok ≡ b → g ≡ flagged b g
+flagged-same b g e = λ j. record { lanes = g .lanes; at = g .at; ok = e j }
+
+-- where the next is ok too, it is some draws on
 next-moved : (g : MaskGen) → g .ok ≡ true → maskNext g .ok ≡ true → maskNext g ≡ maskMoved (used (bytesAhead g) 777) g
 next-moved g o h =
     let n = used (bytesAhead g) 777 in
     let f = uniform (bytesAhead g) in
-    let e : marked (filled f) (maskMoved n g) ≡ maskNext g = ok-next g o f refl n refl in
+    let e : flagged (filled f) (maskMoved n g) ≡ maskNext g = ok-next g o f refl n refl in
     let b : filled f ≡ true = ap (λ (x : MaskGen). x .ok) e ∙ h in
-    sym e ∙ (λ j. record { lanes = maskMoved n g .lanes; at = maskMoved n g .at; ok = (b ∙ sym (moved-ok n g ∙ o)) j })
+    sym (flagged-same (filled f) (maskMoved n g) (moved-ok n g ∙ o ∙ sym b) ∙ e)
 
 -- g is ok, h₀ is g with its place below 136; i draws are made, and those kept stand at the front of p
 module _ (g h₀ : MaskGen) (o : g .ok ≡ true) (e : h₀ ≡ maskMoved 0 g) (p : List ℕ) (i k : ℕ) (u : used (bytesAhead h₀) i ≡ i) (v : Front (bytesAhead h₀) [] i p k) where
@@ -163,16 +161,15 @@ module _ (g h₀ : MaskGen) (o : g .ok ≡ true) (e : h₀ ≡ maskMoved 0 g) (p
       ∙ ap (used (bytesAhead h₀)) (sym w)
       ∙ used-stays (bytesAhead h₀) i (777 - i) (omega (arith, v .count))
       ∙ u in
-      let m : maskMoved i g ≡ marked true (maskMoved i g) = λ j. record { lanes = maskMoved i g .lanes; at = maskMoved i g .at; ok = (moved-ok i g ∙ o) j } in
-      let t : marked true (maskMoved i g) ≡ marked (filled (some p)) (maskMoved i g) = ap (λ (b : Bool). marked b (maskMoved i g)) (sym (some-filled (some p) p refl)) in
-      (ok-poly g o (some p) f i n, moved-there ∙ m ∙ t ∙ ok-next g o (some p) f i n)
+      let t = flagged-same (filled (some p)) (maskMoved i g) (moved-ok i g ∙ o ∙ sym (some-filled (some p) p refl)) in
+      (ok-poly g o (some p) f i n, moved-there ∙ t ∙ ok-next g o (some p) f i n)
 
-  pub unfilled-poly : i ≡ 777 → k < 512 → (zeros 512 ≡ maskPoly g) × (marked false (maskMoved i h₀) ≡ maskNext g)
+  pub unfilled-poly : i ≡ 777 → k < 512 → (zeros 512 ≡ maskPoly g) × (flagged false (maskMoved i h₀) ≡ maskNext g)
   unfilled-poly h l =
       let f : uniform (bytesAhead g) ≡ none = rw ahead-there at (unfilled (bytesAhead h₀) [] p i k (front-read (bytesAhead h₀) [] p 0 i k v) (h ∙ sym (all-ahead h₀)) (omega arith)) in
       let n : used (bytesAhead g) 777 ≡ i = ap (λ (s : List ℕ). used s 777) (sym ahead-there) ∙ ap (used (bytesAhead h₀)) (sym h) ∙ u in
-      let t : marked false (maskMoved i g) ≡ marked (filled {A = ℕ} none) (maskMoved i g) = ap (λ (b : Bool). marked b (maskMoved i g)) (sym (none-filled {A = ℕ} none refl)) in
-      (ok-poly g o none f i n, ap (marked false) moved-there ∙ t ∙ ok-next g o none f i n)
+      let t : flagged false (maskMoved i g) ≡ flagged (filled {A = ℕ} none) (maskMoved i g) = ap (λ (b : Bool). flagged b (maskMoved i g)) (sym (none-filled {A = ℕ} none refl)) in
+      (ok-poly g o none f i n, ap (flagged false) moved-there ∙ t ∙ ok-next g o none f i n)
 
 -- ---- words below q
 
@@ -196,7 +193,7 @@ sticky false x g e h = sym e ∙ h
 
 next-ok : (g : MaskGen) → maskNext g .ok ≡ true → g .ok ≡ true
 unfolding maskNext
-next-ok g h = sticky (g .ok) (marked (filled (uniform (bytesAhead g))) (maskMoved (used (bytesAhead g) 777) g)) g refl h
+next-ok g h = sticky (g .ok) (flagged (filled (uniform (bytesAhead g))) (maskMoved (used (bytesAhead g) 777) g)) g refl h
 
 pub later-ok : (n : ℕ) (g : MaskGen) → later masks n g .ok ≡ true → g .ok ≡ true
 unfolding later

@@ -58,8 +58,8 @@ module _ (f : ℕ → ℕ) (x y r : ℕ) (fits : x < 2 ^ 64) (low : (j : ℕ) �
       high j h (omega arith)
       ∙ ap (λ (n : ℕ). n % 256) (sym (byte-high x y (r + j - 8) fits) ∙ ap (λ (n : ℕ). (x + y * 2 ^ 64) / 2 ^ (8 * n)) e)
 
-  byte-is : (j : ℕ) → j < 7 → f j ≡ byteOf ((x + y * 2 ^ 64) / 2 ^ (8 * r)) j
-  byte-is j h =
+  byte-from : (j : ℕ) → j < 7 → f j ≡ byteOf ((x + y * 2 ^ 64) / 2 ^ (8 * r)) j
+  byte-from j h =
       let e : 8 * r + 8 * j ≡ 8 * (r + j) = omega arith in
       either j h (decLt (r + j) 8)
       ∙ ap (λ (n : ℕ). n % 256) (sym (shr-shr (x + y * 2 ^ 64) (8 * r) (8 * j) ∙ ap (λ (n : ℕ). (x + y * 2 ^ 64) / 2 ^ n) e))
@@ -67,7 +67,7 @@ module _ (f : ℕ → ℕ) (x y r : ℕ) (fits : x < 2 ^ 64) (low : (j : ℕ) �
   seven : le f 7 % 2 ^ 49 ≡ (x + y * 2 ^ 64) / 2 ^ (8 * r) % 2 ^ 49
   seven =
       ap (λ (n : ℕ). n % 2 ^ 49)
-      (le-same f (byteOf ((x + y * 2 ^ 64) / 2 ^ (8 * r))) 7 byte-is ∙ le-bytes ((x + y * 2 ^ 64) / 2 ^ (8 * r)) 7)
+      (le-same f (byteOf ((x + y * 2 ^ 64) / 2 ^ (8 * r))) 7 byte-from ∙ le-bytes ((x + y * 2 ^ 64) / 2 ^ (8 * r)) 7)
       ∙ mod-mod-pow ((x + y * 2 ^ 64) / 2 ^ (8 * r)) 7 49
 
 -- the code's shifts: s bits of x are left out, and y stands behind the rest
@@ -88,9 +88,9 @@ two-shifts y s t e h =
     ∙ high-cut (y % 2 ^ 63) s t
     ∙ ap (λ (n : ℕ). n * 2 ^ t) (ap (λ (n : ℕ). y % 2 ^ n % 2 ^ s) (sym o) ∙ mod-mod-pow y (63 - s) s)
 
-pub shifted : (x y s : ℕ) → x < 2 ^ 64 → s ≤ 56
+pub draw-shifted : (x y s : ℕ) → x < 2 ^ 64 → s ≤ 56
     → bitOr (x / 2 ^ s) (y * 2 % 2 ^ 64 * 2 ^ (63 - s) % 2 ^ 64) % 2 ^ 49 ≡ (x + y * 2 ^ 64) / 2 ^ s % 2 ^ 49
-shifted x y s h l =
+draw-shifted x y s h l =
     let t = 64 - s in
     let a = x / 2 ^ s in
     let b = y / 2 ^ s in
@@ -136,7 +136,7 @@ module _ (g : MaskGen) (vs : List Val) (owned : Owned (g .lanes) vs) where
   fits : (k : ℕ) → getD (g .lanes) k 0 < 2 ^ 64
   fits k = low-lane (g .lanes) (owned .0) (owned .1 .1) k
 
-  -- the seven bytes at the placeIn, of lane k and the lane y behind it
+  -- the seven bytes at the place, of lane k and the lane y behind it
   draw-is : (k y : ℕ) → k ≡ placeIn g / 8 → ((j : ℕ) → j < 7 → 8 ≤ placeIn g % 8 + j → stream (stateOf g) (placeIn g + j) ≡ y / 2 ^ (8 * (placeIn g % 8 + j - 8)) % 256)
       → (getD (g .lanes) k 0 + y * 2 ^ 64) / 2 ^ (8 * (placeIn g % 8)) % 2 ^ 49 ≡ maskDraw g
   unfolding maskDraw bytesAhead
@@ -201,6 +201,6 @@ goes-on g h =
 pub neighbours : (l : List ℕ) (k i : ℕ) → k ≡ i → _≡_ {A = Neighbours} (record { low = getD l i 0; high = getD l (i + 1) 0 }) (record { low = getD l k 0; high = getD l (k + 1) 0 })
 neighbours l k i e = λ j. record { low = getD l (sym e j) 0; high = getD l (sym e j + 1) 0 }
 
--- a number that is not i
-pub past : (k i : ℕ) → (k ≡ i → ⊥) → i ≤ k → i + 1 ≤ k
-past k i h l = omega arith
+-- a number from i on, and not i
+pub from-next : (k i : ℕ) → (k ≡ i → ⊥) → i ≤ k → i + 1 ≤ k
+from-next k i h l = omega arith

@@ -17,7 +17,7 @@ use Rattle.sharing.specs.declared.masks.MaskGen.{MaskGen}
 use Rattle.sharing.specs.declared.masks.Drawn.{Drawn}
 use Rattle.sharing.specs.Encoding.{Generator}
 
--- the state as five planes; the placeIn, a byte of its block; and the generator at place n of a state's block
+-- the state as five planes; the place, a byte of its block; and the generator at place n of a state's block
 abbrev pub stateOf : MaskGen → State
 stateOf g = lanes (λ (x : ℕ) (y : ℕ). getD (g .lanes) (5 * y + x) 0)
 
@@ -47,15 +47,15 @@ used s zero = 0
 used s (suc n) = pick (leb 512 (length (kept s n))) (used s n) (suc n)
 
 -- the same generator, ok or dry
-abbrev pub marked : Bool → MaskGen → MaskGen
-marked b g = record { lanes = g .lanes; at = g .at; ok = b }
+abbrev pub flagged : Bool → MaskGen → MaskGen
+flagged b g = record { lanes = g .lanes; at = g .at; ok = b }
 
 -- the next polynomial, and the generator behind it
 unfoldable pub maskPoly : MaskGen → List ℕ
 maskPoly g = pick (g .ok) (heldOr (uniform (bytesAhead g)) (zeros 512)) (zeros 512)
 
 unfoldable pub maskNext : MaskGen → MaskGen
-maskNext g = pick (g .ok) (marked (filled (uniform (bytesAhead g))) (maskMoved (used (bytesAhead g) 777) g)) g
+maskNext g = pick (g .ok) (flagged (filled (uniform (bytesAhead g))) (maskMoved (used (bytesAhead g) 777) g)) g
 
 -- the generator of a seed
 unfoldable pub maskStart : List ℕ → MaskGen

@@ -6,7 +6,7 @@ ghost use Prim.Native.Nat.{_+_, _*_, _/_, _%_, _^_, _<_, _≤_};
 ghost use lib.ListN.{getD, length};
 ghost use Rattle.hash.specs.Keccak.{lanes};
 ghost use Rattle.sharing.specs.declared.masks.Neighbours.{Neighbours};
-ghost use Rattle.sharing.specs.Masks.{heldAt, maskDraw, maskMoved, maskStart, drawn, marked, maskPoly, maskNext};
+ghost use Rattle.sharing.specs.Masks.{heldAt, maskDraw, maskMoved, maskStart, drawn, flagged, maskPoly, maskNext};
 use crate::region::clear;
 use hash::num::least;
 use ring::poly::Q;
@@ -98,10 +98,9 @@ fn settled(g: MaskGen) -> MaskGen
     ensures { λ r. ⌜ r ≡ maskMoved 0 g ⌝ }
 {
     let l = g.lanes;
-    let at = least(g.at, 135);
     MaskGen {
         lanes: l,
-        at: at,
+        at: least(g.at, 135),
         ok: g.ok,
     }
 }
@@ -239,7 +238,7 @@ pub fn draw_value(g: MaskGen) -> Drawn
 
 // The generator, dry.
 fn dried(g: MaskGen) -> MaskGen
-    ensures { λ r. ⌜ r ≡ marked false g ⌝ }
+    ensures { λ r. ⌜ r ≡ flagged false g ⌝ }
 {
     let l = g.lanes;
     MaskGen {

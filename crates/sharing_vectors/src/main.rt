@@ -19,13 +19,18 @@ fn print_digest(s: &[u64]) {
     hexio::print_line(&hash::shake::digest_32(hash::shake::finish(a, n)));
 }
 
-// A sharing of d shares, filled with the words of one seed and refreshed with those of another.
+// A sharing of d shares, filled with the polynomials of one seed and refreshed with those of another.
 fn refreshed(p: Params)
     requires { ⌜ ShareCount (p .shares) ⌝ }
 {
     let mut s = [0u64; 32768];
     let m = p.shares * 512;
-    let g = sharing::masks::fill(&mut s, sharing::masks::start(b"sharing"));
+    let mut g = sharing::masks::start(b"sharing");
+    for i in 0..64usize {
+        let from = i * 512;
+        let to = from + 512;
+        g = sharing::masks::fill(&mut s[from..to], g);
+    }
     if ring::poly::all_below(&s, ring::poly::Q) {
         let h = sharing::encoding::refresh_at(&mut s, m, p, sharing::masks::start(b"refresh"));
         let e = m + m;

@@ -18,13 +18,14 @@ use Rattle.sharing.proofs.Decode.{words-sum}
 use Rattle.sharing.proofs.Lists.{build-ext}
 use Rattle.signature.specs.ExpandedKey.{vkIn, secretAt}
 use Rattle.signature.specs.Digest.{keyHash, digestFor}
-use Rattle.signature.specs.Outcome.{refusedOr, firstNo, foundIn}
+use Rattle.signature.specs.Outcome.{Outcome, refusedOr, firstNo, foundIn}
 use Rattle.signature.specs.Sign.{Public}
 use Rattle.theorems.specs.Plain.{Totals, noiseTotal, totalsOf, plainFrom, plainChecks, plainPublic, signPlain}
 use Rattle.theorems.specs.Unit.{UnitCall, signUnit, recordOf, vkOf, TrueDigest, RunsDry, noiseTotalAt, Fits, Sound, Alike, AlikeTrue, SameSecret, EqualTotals}
 use Rattle.signature.proofs.Secrets.{secrets-totals}
 use Rattle.theorems.proofs.ShareCount.{k-same, l-same, hash-bytes-same, plain-same}
 use Rattle.theorems.proofs.Collapse.{unitSecret, noiseOf, noiseTotals, shares-are, sign-plain, sign-unknown}
+use Rattle.theorems.proofs.Dry.{one-share-full}
 use Rattle.theorems.proofs.NoiseTotals.{first-at, second-at}
 
 -- ---- plain signing looks only at the totals of the allowed attempts
@@ -121,6 +122,14 @@ row-look w h set e b i =
 
 unknown-agree : (u v : UnitCall) → Sound u → Sound v → u .set ≡ v .set → eqb (setIndex (u .set)) 3 ≡ true → signUnit u ≡ signUnit v
 unknown-agree u v hu hv e i = sign-unknown u (row-look u hu (u .set) refl true i) ∙ sym (sign-unknown v (row-look v hv (u .set) e true i))
+
+-- with one share no unit runs dry, whatever the set
+pub one-share-never : (u : UnitCall) → Sound u → u .shares ≡ 1 → RunsDry u → ⊥
+one-share-never u h one d = go (eqb (setIndex (u .set)) 3) refl
+  where
+    go : (b : Bool) → eqb (setIndex (u .set)) 3 ≡ b → ⊥
+    go true i = let e : _≡_ {A = ℕ} 1 20 = sym (ap (λ (A : Outcome). A .status) (sign-unknown u (row-look u h (u .set) refl true i))) ∙ d in omega arith
+    go false i = one-share-full u (rowFor u) (row-look u h (u .set) refl false i) one d
 
 -- AGREEMENT, the answers
 pub answers-agree : (u v : UnitCall) → Sound u → Sound v → Alike u v → SameSecret u v → EqualTotals u v → (RunsDry u → ⊥) → (RunsDry v → ⊥)

@@ -19,7 +19,7 @@ use Rattle.signature.specs.SignCalls.{Key, leftBy, signOf, signCall}
 use Rattle.signature.specs.Verify.{verifyCall}
 use Rattle.theorems.specs.Unit.{UnitCall, signUnit, callUnit, vkOf, TrueDigest, RunsDry, Sound, Alike, AlikeTrue, SameSecret, EqualTotals}
 use Rattle.theorems.specs.Witness.{Wanted, Has, laidFor, laid, hadBy}
-use Rattle.theorems.proofs.Agree.{answers-agree, true-agree}
+use Rattle.theorems.proofs.Agree.{one-share-never, answers-agree, true-agree}
 use Rattle.theorems.proofs.AcceptCall.{known-accepted, found-with}
 use Rattle.theorems.proofs.Witness.{laid-sound, laid-has, had, has-alike, has-alike-true, has-secret, has-totals}
 
@@ -82,6 +82,15 @@ met u d c =
     let w : Wanted = hadBy u in
     let h : Has w (laid d w) = laid-has w d c in
     (laid d w, refl, refl, laid-sound w d c, has-alike w u (laid d w) (had u) h, has-secret w u (laid d w) (had u) h c, has-totals w u (laid d w) (had u) h)
+
+-- .. and where u does not run dry, that of one share does not either, and so agrees with it: agreement is never about nothing.
+pub met-full : (u : UnitCall) → Sound u → (RunsDry u → ⊥)
+    → (v : UnitCall) × (v .shares ≡ 1) × Sound v × Alike u v × SameSecret u v × EqualTotals u v × (RunsDry v → ⊥) × (signUnit u ≡ signUnit v)
+met-full u h full =
+    let m = met u 1 (record { six = inl refl }) in
+    let v = m .0 in
+    let never = one-share-never v (m .3) (m .1) in
+    (v, m .1, m .3, m .4, m .5, m .6, never, answers-agree u v h (m .3) (m .4) (m .5) (m .6) full never)
 
 -- Whatever the secret and the noise totals are to be, for each two of the six share counts there are two sound units of these counts that have
 -- them, and so meet all that agreement supposes (01: equal totals can be laid out for two share counts).

@@ -92,7 +92,7 @@ impl Kind {
         matches!(self, RefreshKey | SignExpanded | SignExpandedExplicit)
     }
 
-    /// The statuses that it can give: 0 and its checks, but for 10 and 11 outside the samplers, for which no input is known.
+    /// The statuses that it can give: 0 and its checks, but for 10 and 11 outside the samplers and for 20, for which no input is known.
     pub fn statuses(self) -> &'static [u32] {
         match self {
             Keygen | KatKeygen => &[0, 1, 2, 7, 8],

@@ -4,33 +4,40 @@
 //! The functions are those of [`crate::unit`], argument for argument. They give the status (signing: the attempts too) and leave
 //! result and work buffer as the unit has to leave them: a result is written with 0 only, and a work buffer is zero after all ends
 //! but refusals 1 to 8.
+//!
+//! The functions `.._from` are told what each mask seed stands for. No seed is known that gets 20; a lent stream in its place can.
 
 use crate::layout::{bits, full_share, share_words};
 use crate::unit::{Key, Signed, Signing};
+use independent::masks::{Checked, Masks};
 use independent::raccoon::{self as independent_raccoon, Edition, Noise, Params, challenge, expand, refresh, with_digest};
 use independent::ring::{N, Q, sample_q};
 
-/// What comes of a call, or the number of the first check whose answer is no.
-type Asked<T = ()> = Result<T, u32>;
-
-fn ask(number: u32, yes: bool) -> Asked {
+fn ask(number: u32, yes: bool) -> Checked {
     if yes { Ok(()) } else { Err(number) }
 }
 
 /// The status. With 0 the result is written.
-fn status<T>(asked: Asked<T>, write: impl FnOnce(T)) -> u32 {
+fn status<T>(asked: Checked<T>, write: impl FnOnce(T)) -> u32 {
     asked.map(write).map_or_else(|number| number, |()| 0)
 }
 
+/// A work buffer is zero after all ends but refusals 1 to 8.
+fn clear(status: u32, work: &mut [u64]) {
+    if !(1..=8).contains(&status) {
+        work.fill(0);
+    }
+}
+
 /// Checks 1 and 2.
-fn params(edition: Edition, set: u32, shares: u32) -> Asked<Params> {
+fn params(edition: Edition, set: u32, shares: u32) -> Checked<Params> {
     ask(1, [128, 192, 256].contains(&set))?;
     ask(2, [1, 2, 4, 8, 16, 32].contains(&shares))?;
     Ok(Params::new(set as usize, shares as usize, edition).expect("a column of the tables"))
 }
 
 /// Checks 3, 4 and 5.
-fn ask_key(p: &Params, key: Key) -> Asked {
+fn ask_key(p: &Params, key: Key) -> Checked {
     let public_good = |bytes: &[u8]| (0..p.k * N).all(|i| bits(bytes, 8 * p.seed_bytes() + 7 * i, 7) < 125);
     match key {
         Key::Packed(key) => {
@@ -46,24 +53,35 @@ fn ask_key(p: &Params, key: Key) -> Asked {
     }
 }
 
-/// Key generation: checks 1, 2, 7, 8, 10.
+/// Key generation: checks 1, 2, 7, 8, 10, 20.
 pub fn keygen(edition: Edition, set: u32, shares: u32, seeds: &[u8], mask_seed: &[u8], key: &mut [u8], work: &mut [u64]) -> u32 {
-    let made = || -> Asked<Vec<u8>> {
+    keygen_from(Masks::Seed, edition, (set, shares), seeds, mask_seed, key, work)
+}
+
+/// [`keygen`], told what the mask seed stands for.
+pub fn keygen_from<'a>(
+    masks: impl Fn(&'a [u8]) -> Masks<'a>,
+    edition: Edition,
+    (set, shares): (u32, u32),
+    seeds: &[u8],
+    mask_seed: &'a [u8],
+    key: &mut [u8],
+    work: &mut [u64],
+) -> u32 {
+    let made = || -> Checked<Vec<u8>> {
         let p = params(edition, set, shares)?;
         ask(7, seeds.len() == p.keygen_bytes() && mask_seed.len() == 32)?;
         ask(8, key.len() == p.sk_bytes() && work.len() == p.work_words())?;
-        independent_raccoon::keygen(&p, seeds, mask_seed).ok_or(10)
+        independent_raccoon::keygen(&p, seeds, masks(mask_seed))
     };
-    let made = made();
-    if matches!(made, Ok(_) | Err(10)) {
-        work.fill(0);
-    }
-    status(made, |made| key.copy_from_slice(&made))
+    let status = status(made(), |made| key.copy_from_slice(&made));
+    clear(status, work);
+    status
 }
 
 /// Expanding a signing key: checks 1, 2, 3, 4, 5, 8, 10.
 pub fn expand_key(edition: Edition, set: u32, shares: u32, key: &[u8], bytes: &mut [u8], words: &mut [u64]) -> u32 {
-    let made = || -> Asked<(Vec<u8>, Vec<u64>)> {
+    let made = || -> Checked<(Vec<u8>, Vec<u64>)> {
         let p = params(edition, set, shares)?;
         ask_key(&p, Key::Packed(key))?;
         ask(8, bytes.len() == p.expanded_bytes() && words.len() == share_words(&p))?;
@@ -75,14 +93,26 @@ pub fn expand_key(edition: Edition, set: u32, shares: u32, key: &[u8], bytes: &m
     })
 }
 
-/// Refreshing an expanded key: checks 1, 2, 3, 4, 5, 7, 8. Public key and digest are carried on.
+/// Refreshing an expanded key: checks 1, 2, 3, 4, 5, 7, 8, 20. Public key and digest are carried on.
 pub fn refresh_key(set: u32, shares: u32, key: (&[u8], &[u64]), mask_seed: &[u8], bytes: &mut [u8], words: &mut [u64]) -> u32 {
-    let made = || -> Asked<Vec<u64>> {
+    refresh_key_from(Masks::Seed, (set, shares), key, mask_seed, bytes, words)
+}
+
+/// [`refresh_key`], told what the mask seed stands for.
+pub fn refresh_key_from<'a>(
+    masks: impl Fn(&'a [u8]) -> Masks<'a>,
+    (set, shares): (u32, u32),
+    key: (&[u8], &[u64]),
+    mask_seed: &'a [u8],
+    bytes: &mut [u8],
+    words: &mut [u64],
+) -> u32 {
+    let made = || -> Checked<Vec<u64>> {
         let p = params(Edition::Printed, set, shares)?;
         ask_key(&p, Key::Expanded(key.0, key.1))?;
         ask(7, mask_seed.len() == 32)?;
         ask(8, bytes.len() == p.expanded_bytes() && words.len() == share_words(&p))?;
-        Ok(refresh(&p, key.1, mask_seed))
+        refresh(&p, key.1, masks(mask_seed))
     };
     status(made(), |made| {
         bytes.copy_from_slice(key.0);
@@ -91,7 +121,7 @@ pub fn refresh_key(set: u32, shares: u32, key: (&[u8], &[u64]), mask_seed: &[u8]
 }
 
 /// Check 7 of signing: the noise, attempt by attempt.
-fn noise_of<'a>(p: &Params, attempts: usize, noise: Noise<'a>) -> Asked<Vec<Noise<'a>>> {
+fn noise_of<'a>(p: &Params, attempts: usize, noise: Noise<'a>) -> Checked<Vec<Noise<'a>>> {
     match noise {
         Noise::Seeds(seeds) => {
             ask(7, seeds.len() == attempts * p.noise_bytes())?;
@@ -105,7 +135,13 @@ fn noise_of<'a>(p: &Params, attempts: usize, noise: Noise<'a>) -> Asked<Vec<Nois
 }
 
 /// Status, attempts and signature, or one of the checks 1 to 10.
-fn signed(edition: Edition, input: &Signing, signature: usize, work: usize) -> Asked<(u32, u32, Option<Vec<u8>>)> {
+fn signed<'a>(
+    masks: impl Fn(&'a [u8]) -> Masks<'a>,
+    edition: Edition,
+    input: &Signing<'a>,
+    signature: usize,
+    work: usize,
+) -> Checked<(u32, u32, Option<Vec<u8>>)> {
     let p = params(edition, input.set, input.shares)?;
     ask_key(&p, input.key)?;
     ask(6, (1..=16).contains(&input.attempts))?;
@@ -118,19 +154,30 @@ fn signed(edition: Edition, input: &Signing, signature: usize, work: usize) -> A
         Key::Packed(key) => (with_digest(&p, &key[..p.vk_bytes()]), expand(&p, key).ok_or(10u32)?),
         Key::Expanded(bytes, words) => (bytes.to_vec(), words.to_vec()),
     };
-    let attempts: Vec<(Noise, &[u8])> = noise.into_iter().zip(input.mask_seeds.chunks_exact(32)).collect();
+    let attempts: Vec<(Noise, Masks)> = noise.into_iter().zip(input.mask_seeds.chunks_exact(32).map(masks)).collect();
     Ok(independent_raccoon::sign(&p, &bytes, &words, input.message, &attempts))
 }
 
-/// Signing: checks 1 to 10, then 11 within each attempt, then 12.
+/// Signing: checks 1 to 10, then 20 and 11 within each attempt, then 12. 20 is put of the masks before the challenge ahead of 11, of those
+/// behind it behind 11.
 pub fn sign(edition: Edition, input: &Signing, signature: &mut [u8], work: &mut [u64]) -> Signed {
-    let (status, attempts, made) = signed(edition, input, signature.len(), work.len()).unwrap_or_else(|number| (number, 0, None));
+    sign_from(Masks::Seed, edition, input, signature, work)
+}
+
+/// [`sign`], told what each mask seed stands for.
+pub fn sign_from<'a>(
+    masks: impl Fn(&'a [u8]) -> Masks<'a>,
+    edition: Edition,
+    input: &Signing<'a>,
+    signature: &mut [u8],
+    work: &mut [u64],
+) -> Signed {
+    let made = signed(masks, edition, input, signature.len(), work.len());
+    let (status, attempts, made) = made.unwrap_or_else(|number| (number, 0, None));
     if let Some(made) = made {
         signature.copy_from_slice(&made);
     }
-    if !(1..=8).contains(&status) {
-        work.fill(0);
-    }
+    clear(status, work);
     Signed { status, attempts }
 }
 
@@ -147,7 +194,7 @@ pub fn sample_uniform(bytes: &[u8], words: &mut [u64]) -> u32 {
 
 /// The challenge sampler: checks 1, 8, 11.
 pub fn sample_challenge(set: u32, bytes: &[u8], coefficients: &mut [i8]) -> u32 {
-    let made = || -> Asked<[i8; N]> {
+    let made = || -> Checked<[i8; N]> {
         let p = params(Edition::Printed, set, 1)?;
         ask(8, coefficients.len() == N)?;
         challenge(p.edition, p.omega, bytes).ok_or(11)

@@ -1,6 +1,12 @@
 //! Known answers: the labels and digests of the data files, and what they say of a call.
+//!
+//! `calls-128-printed.txt` is as it was given, but for the rows `refresh` of two shares and more. Those given are of masking words modulo q;
+//! they stand as `refresh, words modulo q`, which the independent implementation gives with such words lent. What stands as `refresh` is of the
+//! even words of paper 02, request #105: made by the independent implementation and, alike, by a script on another SHAKE256. Keys and
+//! signatures do not depend on masking words, so that their rows stay.
 
 use independent::keccak::shake256;
+use independent::ring::Q;
 use independent::sha256::sha256;
 use std::collections::HashMap;
 
@@ -23,6 +29,13 @@ pub fn digest(bytes: &[u8]) -> String {
 /// The bytes of words, little-endian.
 pub fn word_bytes(words: &[u64]) -> Vec<u8> {
     words.iter().flat_map(|w| w.to_le_bytes()).collect()
+}
+
+/// Words of the stream of a seed, eight bytes each, modulo q: the masking words of paper 01 before paper 02, request #105.
+pub fn words_modulo_q(seed: &[u8], n: usize) -> Vec<u64> {
+    let mut stream = vec![0u8; 8 * n];
+    shake256(seed, &mut stream);
+    stream.chunks_exact(8).map(|word| u64::from_le_bytes(word.try_into().unwrap()) % Q).collect()
 }
 
 /// What the file says of a call: its status and the SHA-256 of its result.

@@ -1,4 +1,4 @@
-//! Numbers packed in bytes, the digest in an expanded key, and polynomials laid out in shares.
+//! Numbers packed in bytes, draws in a stream, the digest in an expanded key, and polynomials laid out in shares.
 
 use crate::random::Random;
 use independent::raccoon::{Params, with_digest};
@@ -16,6 +16,16 @@ pub fn put_bits(bytes: &mut [u8], from: usize, width: usize, value: u64) {
         let at = from + b;
         bytes[at / 8] = bytes[at / 8] & !(1 << (at % 8)) | ((value >> b & 1) as u8) << (at % 8);
     }
+}
+
+/// A stream of draws: the low seven bytes of each value, little-endian.
+pub fn draws(values: &[u64]) -> Vec<u8> {
+    values.iter().flat_map(|value| value.to_le_bytes()[..7].to_vec()).collect()
+}
+
+/// The polynomials of masks that a zero encoding takes: half as many as shares, on each of log2 d levels.
+pub fn encoding_masks(d: usize) -> usize {
+    d / 2 * d.ilog2() as usize
 }
 
 /// The bit of a signing key at which its full share begins.

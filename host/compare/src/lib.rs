@@ -5,7 +5,7 @@
 //! * [`case`]: a call with all that it is lent, put to both and compared.
 //! * [`pool`], [`fuzz`]: random and damaged cases.
 //! * [`bounds`]: fields of a signature at its bounds, and just above.
-//! * [`layout`]: packed numbers, the digest in an expanded key, and polynomials in shares.
+//! * [`layout`]: packed numbers, draws, the digest in an expanded key, and polynomials in shares.
 //! * [`known`]: the known answers of the data files.
 //! * [`response`]: the submission's response files.
 //! * [`random`]: a small seeded generator for tests.

@@ -1,11 +1,12 @@
-//! How many Keccak permutations a call takes, by formulas: the streams of paper 000 and of the mask generator, one by one as the
-//! code makes them.
+//! How many Keccak permutations a call takes: the streams of paper 000 and of the mask generator, one by one as the code makes them.
+//! Those of paper 000 go by formulas. How far the mask generator goes depends on how many draws it drops, so its draws are counted.
 //!
 //! Both implementations make the same streams but for how often ([`Maker`]). The counts of the independent implementation are
-//! compared with its counter whenever the speed report runs. Those of the unit were compared with the calls of
+//! compared with its counter whenever the speed report runs. Those of the unit can be compared with the calls of
 //! `hash::keccak::permute` that callgrind counts (`valgrind --tool=callgrind --dump-after='raccoon_*'`; the function is inlined
-//! nowhere), and were equal for all five calls at all 18 pairs.
+//! nowhere); before the mask generator dropped draws they were equal for all five calls at all 18 pairs.
 
+use independent::masks::{MaskGenerator, Masks};
 use independent::raccoon::Params;
 use independent::ring::N;
 
@@ -21,15 +22,19 @@ const CHALLENGE: usize = 1;
 /// Bytes of the messages that are signed and verified.
 pub const MESSAGE: usize = 100;
 
+/// The mask seed of all calls.
+pub const MASK_SEED: [u8; 32] = [8; 32];
+
 /// The calls that are counted.
 pub const CALLS: [&str; 5] = ["generating", "expanding", "refreshing", "signing", "verifying"];
 
 /// Whose permutations are counted.
 #[derive(Clone, Copy, PartialEq, Eq, Debug)]
 pub enum Maker {
-    /// Samples seeded shares twice in expanding; the mask generator makes its next block with the last word of the one before.
+    /// Samples seeded shares twice in expanding, and draws the masks twice in refreshing: first to ask whether all fill, then to write. The
+    /// mask generator makes its next block as soon as a draw takes the last byte of the one before.
     Unit,
-    /// Samples them once, and makes no block of which it takes no word.
+    /// Samples and draws them once, and makes no block of which it takes no byte.
     Independent,
 }
 
@@ -43,22 +48,30 @@ impl Maker {
         let counts = [
             self.masks(p.d, vector + noisy) + noise(p, p.ut) + matrix + seeded,
             passes * seeded + digest,
-            self.masks(p.d, vector),
+            passes * self.masks(p.d, vector),
             self.masks(p.d, vector + noisy + 3 * vector) + noise(p, p.uw) + matrix + challenge,
             matrix + digest + challenge,
         ];
         counts.map(|count| count as u64)
     }
 
-    /// The mask generator over so many zero encodings, 17 words to a block. One of d shares takes d / 2 polynomials on each of
-    /// log2 d levels.
+    /// The mask generator over so many zero encodings.
     fn masks(self, d: usize, encodings: usize) -> usize {
-        let words = encodings * (d / 2) * d.ilog2() as usize * N;
+        let bytes = 7 * mask_draws(d, encodings);
         match self {
-            Maker::Unit => 1 + words / 17,
-            Maker::Independent => words.div_ceil(17),
+            Maker::Unit => 1 + bytes / RATE,
+            Maker::Independent => squeezed(bytes),
         }
     }
+}
+
+/// The draws of so many zero encodings from [`MASK_SEED`], by making them.
+fn mask_draws(d: usize, encodings: usize) -> usize {
+    let mut masks = MaskGenerator::new(Masks::Seed(&MASK_SEED));
+    for _ in 0..encodings {
+        masks.zero_encoding(d).expect("masks that fill");
+    }
+    masks.draws()
 }
 
 /// Blocks of a stream that is squeezed so far; its header and seed are absorbed in one.

@@ -4,6 +4,7 @@
 use crate::layout::{full_share, put_bits, sums};
 use crate::random::Random;
 use independent::keccak::shake256;
+use independent::masks::Masks;
 use independent::raccoon::{Edition, Noise, Params, expand, keygen, sign, with_digest};
 use independent::ring::{N, Q, sample_q};
 use std::sync::OnceLock;
@@ -39,11 +40,12 @@ pub struct Base {
 
 impl Base {
     fn new(p: Params, random: &mut Random) -> Base {
-        let key = Pair::new(&p, keygen(&p, &random.bytes(p.keygen_bytes()), &random.bytes(32)).expect("a key"));
+        let key = Pair::new(&p, keygen(&p, &random.bytes(p.keygen_bytes()), Masks::Seed(&random.bytes(32))).expect("a key"));
         let large = Pair::new(&p, large_key(&p, random));
         let message = random.bytes(50);
         let (noise, mask_seeds) = (random.bytes(16 * p.noise_bytes()), random.bytes(16 * 32));
-        let attempts: Vec<_> = noise.chunks_exact(p.noise_bytes()).map(Noise::Seeds).zip(mask_seeds.chunks_exact(32)).collect();
+        let (noise, masks) = (noise.chunks_exact(p.noise_bytes()), mask_seeds.chunks_exact(32));
+        let attempts: Vec<_> = noise.map(Noise::Seeds).zip(masks.map(Masks::Seed)).collect();
         let signature = sign(&p, &key.bytes, &key.words, &message, &attempts).2.expect("a signature");
         Base { p, key, large, message, signature }
     }

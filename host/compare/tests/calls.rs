@@ -2,12 +2,9 @@
 
 use compare::independent::ring::Q;
 use compare::known::{digest, known, word_bytes, xof};
+use compare::layout::draws;
 use compare::random::Random;
 use compare::{expect, unit};
-
-fn draws(values: &[u64]) -> Vec<u8> {
-    values.iter().flat_map(|v| v.to_le_bytes()[..7].to_vec()).collect()
-}
 
 /// Runs a sampler on a result of n words with guards around it, and gives the answer as the file has it.
 fn uniform(sampler: fn(&[u8], &mut [u64]) -> u32, bytes: &[u8], n: usize) -> String {

@@ -1,5 +1,6 @@
 //! The checking program `target/bin/checker`, which `rt check` writes: what it prints on its standard input.
 
+use compare::independent::masks::Masks;
 use compare::independent::raccoon::{Edition, Noise, Params, expand, keygen, sign, verify, with_digest};
 use compare::known::xof;
 use std::io::Write;
@@ -31,11 +32,11 @@ fn printed(bytes: &[u8]) -> String {
 /// A key, a signature by one share, and the message.
 fn signed(message: &[u8]) -> [Vec<u8>; 3] {
     let p = Params::new(128, 1, Edition::Printed).unwrap();
-    let key = keygen(&p, &xof("tape 128-1", p.keygen_bytes()), &xof("mask", 32)).unwrap();
+    let key = keygen(&p, &xof("tape 128-1", p.keygen_bytes()), Masks::Seed(&xof("mask", 32))).unwrap();
     let vk = &key[..KEY];
     let noise = xof("noise 128-1", 16 * p.noise_bytes());
     let mask = xof("mask", 32);
-    let attempts: Vec<(Noise, &[u8])> = noise.chunks_exact(p.noise_bytes()).map(|n| (Noise::Seeds(n), &mask[..])).collect();
+    let attempts: Vec<_> = noise.chunks_exact(p.noise_bytes()).map(|n| (Noise::Seeds(n), Masks::Seed(&mask))).collect();
     let signature = sign(&p, &with_digest(&p, vk), &expand(&p, &key).unwrap(), message, &attempts).2.unwrap();
     assert_eq!(signature.len(), SIGNATURE);
     [vk.to_vec(), signature, message.to_vec()]

@@ -3,7 +3,12 @@
 
 use compare::case::{Answer, Calls, Case, EXPECTED, Field, GUARD, Inputs, KINDS, Kind, UNIT, compare, only_read};
 use compare::fuzz::{Fuzz, Tally};
-use compare::independent::raccoon::{Edition, Params, check_bounds, read, with_digest};
+use compare::independent::keccak::shake256;
+use compare::independent::masks::{MaskGenerator, Masks};
+use compare::independent::raccoon::{Edition, Params, check_bounds, read, refresh, with_digest};
+use compare::independent::ring::N;
+use compare::known::words_modulo_q;
+use compare::layout::{draws, encoding_masks};
 use compare::pool::{SETS, SHARES};
 use compare::random::Random;
 use compare::unit::{self, Key, Signed, Signing};
@@ -237,6 +242,63 @@ fn wrong_on_keys() -> Vec<Wrong> {
     ]
 }
 
+/// Refreshes as the unit does, but with these masking words, each below q.
+fn refreshed_with(
+    words_of: fn(&[u8], usize) -> Vec<u64>,
+    (set, shares): (u32, u32),
+    mask_seed: &[u8],
+    key: &[u64],
+    words: &mut [u64],
+) {
+    let p = Params::new(set as usize, shares as usize, Edition::Printed).unwrap();
+    let masks = draws(&words_of(mask_seed, p.l * encoding_masks(p.d)));
+    words.copy_from_slice(&refresh(&p, key, Masks::Lent(&masks)).unwrap());
+}
+
+fn modulo_q(seed: &[u8], polynomials: usize) -> Vec<u64> {
+    words_modulo_q(seed, polynomials * N)
+}
+
+/// Each polynomial 777 draws behind the one before, in place of behind its last draw.
+fn far_behind(seed: &[u8], polynomials: usize) -> Vec<u64> {
+    let mut stream = vec![0; 7 * 777 * polynomials];
+    shake256(seed, &mut stream);
+    stream.chunks_exact(7 * 777).flat_map(|draws| MaskGenerator::new(Masks::Lent(draws)).poly().unwrap()).collect()
+}
+
+/// Each polynomial at the beginning of a block, in place of within the one where the last draw was.
+fn in_whole_blocks(seed: &[u8], polynomials: usize) -> Vec<u64> {
+    let mut stream = vec![0; 136 * 40 * polynomials];
+    shake256(seed, &mut stream);
+    let mut at = 0;
+    let mut next = || {
+        let mut masks = MaskGenerator::new(Masks::Lent(&stream[at..]));
+        let poly = masks.poly().unwrap();
+        at += (7 * masks.draws()).next_multiple_of(136);
+        poly
+    };
+    (0..polynomials).flat_map(|_| next()).collect()
+}
+
+fn wrong_on_masks() -> Vec<Wrong> {
+    macro_rules! with {
+        ($words:ident) => {
+            |set, shares, key: (&[u8], &[u64]), mask_seed: &[u8], bytes: &mut [u8], words: &mut [u64]| {
+                let status = unit::refresh_key(set, shares, key, mask_seed, bytes, words);
+                if status == 0 {
+                    refreshed_with($words, (set, shares), mask_seed, key.1, words);
+                }
+                status
+            }
+        };
+    }
+    vec![
+        ("takes masking words modulo q", Kind::RefreshKey, Calls { refresh_key: with!(modulo_q), ..UNIT }),
+        ("gives each polynomial of masks all its draws", Kind::RefreshKey, Calls { refresh_key: with!(far_behind), ..UNIT }),
+        ("begins each polynomial of masks with a block", Kind::RefreshKey, Calls { refresh_key: with!(in_whole_blocks), ..UNIT }),
+    ]
+}
+
 /// The bytes of an expanded key with the digest made anew.
 fn anew(set: u32, bytes: &[u8]) -> Vec<u8> {
     let p = Params::new(set as usize, 1, Edition::Printed).unwrap();
@@ -357,7 +419,8 @@ fn wrong_samplers() -> Vec<Wrong> {
 #[test]
 fn a_wrong_unit_is_noticed() {
     let fuzz = Fuzz::new(SEED);
-    let all = [wrong_on_keys(), wrong_on_digests(), wrong_on_bounds(), wrong_on_signatures(), wrong_samplers()].concat();
+    let all = [wrong_on_keys(), wrong_on_masks(), wrong_on_digests(), wrong_on_bounds(), wrong_on_signatures(), wrong_samplers()]
+        .concat();
     for (what, kind, calls) in all {
         let mut these = (0..CASES).filter(|&number| fuzz.case(number).kind == kind);
         let first = these.find_map(|number| Some((number, fuzz.put(number, &calls, &mut Tally::new()).err()?)));

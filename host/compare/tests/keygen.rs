@@ -24,7 +24,8 @@ impl Call {
     fn new(p: &Params, set: usize, seeds: Vec<u8>, mask: Vec<u8>) -> Call {
         Call { edition: p.edition, set: set as u32, d: p.d as u32, seeds, mask, key: p.sk_bytes(), work: p.work_words() }
     }
-    /// The status and, with 0, the key. A refusal must leave the result as it was; 0 and 10 must leave a work buffer of zeros.
+    /// The status and, with 0, the key. A refusal must leave the result as it was; all ends but refusals 1 to 8 must leave a work buffer of
+    /// zeros.
     fn run(&self, calls: &Calls) -> (u32, Option<Vec<u8>>) {
         let (mut key, mut work) = (vec![0xa7u8; self.key + 32], vec![0x1234_5678u64; self.work + 8]);
         let (result, lent) = (16..self.key + 16, 4..self.work + 4);
@@ -32,7 +33,7 @@ impl Call {
         let status = (calls.keygen)(self.edition, self.set, self.d, &self.seeds, &self.mask, key_out, work_out);
         assert!(key[..16].iter().chain(&key[result.end..]).all(|&x| x == 0xa7), "a guard was written");
         assert!(work[..4].iter().chain(&work[lent.end..]).all(|&x| x == 0x1234_5678), "a guard was written");
-        let left = if status == 0 || status == 10 { 0 } else { 0x1234_5678 };
+        let left = if (1..=8).contains(&status) { 0x1234_5678 } else { 0 };
         assert!(work[lent].iter().all(|&x| x == left), "the work buffer after {status}");
         if status == 0 {
             return (0, Some(key[result].to_vec()));

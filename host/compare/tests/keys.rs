@@ -1,12 +1,13 @@
-//! Expanding and refreshing of the proved code: known answers, all 18 pairs of set and share count, the digest behind the public key, and
-//! damaged or badly sized inputs, each against the independent implementation, with guards around every result.
+//! Expanding and refreshing of the proved code: known answers, all 18 pairs of set and share count, refreshes that feed each other, the digest
+//! behind the public key, and damaged or badly sized inputs, each against the independent implementation, with guards around every result.
 
 use compare::case::{EXPECTED, UNIT};
 use compare::independent::keccak::shake256;
+use compare::independent::masks::Masks;
 use compare::independent::raccoon::{Edition, Params, expand, keygen, refresh};
 use compare::independent::ring::{N, Q};
 use compare::known::{digest, known, word_bytes, xof};
-use compare::layout::put_bits;
+use compare::layout::{put_bits, sums};
 use compare::random::Random;
 use compare::unit;
 
@@ -46,7 +47,7 @@ struct Case {
 
 fn case(set: usize, d: usize, edition: Edition) -> Case {
     let p = Params::new(set, d, edition).unwrap();
-    let key = keygen(&p, &xof(&format!("tape {set}-{d}"), p.keygen_bytes()), &xof("mask", 32)).unwrap();
+    let key = keygen(&p, &xof(&format!("tape {set}-{d}"), p.keygen_bytes()), Masks::Seed(&xof("mask", 32))).unwrap();
     Case { p, set: set as u32, d: d as u32, key }
 }
 
@@ -120,7 +121,7 @@ fn all_sets_and_share_counts_in_both_editions() {
         shake256(vk, &mut digest);
         assert_eq!(bytes, [vk, &digest].concat(), "{}-{}: public key and digest", c.set, c.d);
         assert_eq!(words, expand(&c.p, &c.key).unwrap(), "{}-{}", c.set, c.d);
-        let fresh = refresh(&c.p, &words, &xof("refresh", 32));
+        let fresh = refresh(&c.p, &words, Masks::Seed(&xof("refresh", 32))).unwrap();
         assert_eq!(c.refresh((&bytes, &words), c.bytes()), (0, Some((bytes.clone(), fresh.clone()))), "{}-{}", c.set, c.d);
         // a digest with its first or its last bit turned is carried on as it is
         for (at, bit) in [(vk.len(), 1), (c.bytes() - 1, 0x80)] {
@@ -134,6 +135,26 @@ fn all_sets_and_share_counts_in_both_editions() {
                 c.d
             );
         }
+    }
+}
+
+/// Each refresh takes what the one before left, with a mask seed of its own: every masking word stands in the words, and what was wrong once
+/// stays wrong. The secret stays.
+#[test]
+fn refreshes_in_a_row() {
+    let mut random = Random(31);
+    for c in all_cases().filter(|c| c.p.edition == Edition::Printed) {
+        let (bytes, mut words) = c.opened();
+        let secret = sums(&words, c.p.d);
+        for number in 0..if c.d <= 4 { 20 } else { 5 } {
+            let mask = random.bytes(32);
+            let expected = refresh(&c.p, &words, Masks::Seed(&mask)).unwrap();
+            let found = results(c.bytes(), c.words(), |b, w| unit::refresh_key(c.set, c.d, (&bytes, &words), &mask, b, w));
+            assert_eq!(found, (0, Some((bytes.clone(), expected.clone()))), "{}-{}, refresh {number}", c.set, c.d);
+            assert_eq!(expected != words, c.d > 1, "{}-{}, refresh {number}: other shares", c.set, c.d);
+            words = expected;
+        }
+        assert_eq!(sums(&words, c.p.d), secret, "{}-{}: the secret", c.set, c.d);
     }
 }
 

@@ -1,6 +1,7 @@
 //! The first tests of the submission's 18 response files, and of the same with the printed text, by the independent implementation and by the
 //! unit: SHA-256 of pk, sk and sm. And three whole files by the unit.
 
+use compare::independent::masks::Masks;
 use compare::independent::raccoon::{Edition, Noise, Params, expand, keygen, sign, verify, with_digest};
 use compare::known::{digest, hex, response_tests};
 use compare::response::{self, Inputs, Test};
@@ -24,10 +25,11 @@ fn check(file: &str, edition: Edition, make: impl Fn(&Params, &Inputs) -> Test) 
 }
 
 fn independent(p: &Params, input: &Inputs) -> Test {
-    let key = keygen(p, &input.key_seeds, &[7; 32]).unwrap();
+    let key = keygen(p, &input.key_seeds, Masks::Seed(&[7; 32])).unwrap();
     let vk = &key[..p.vk_bytes()];
     let (bytes, words) = (with_digest(p, vk), expand(p, &key).unwrap());
-    let (status, attempts, signature) = sign(p, &bytes, &words, &input.message, &[(Noise::Seeds(&input.noise_seeds), &[9; 32])]);
+    let attempt = (Noise::Seeds(&input.noise_seeds), Masks::Seed(&[9; 32]));
+    let (status, attempts, signature) = sign(p, &bytes, &words, &input.message, &[attempt]);
     assert_eq!((status, attempts), (0, 1));
     let signature = signature.unwrap();
     assert_eq!(verify(p.kappa, p.edition, vk, &input.message, &signature), 0);

@@ -2,9 +2,10 @@
 //! share counts, keys with another digest, attempts that fail, and each refusal. Status, attempts and signature are compared with the
 //! independent implementation, with guards around the result and the work buffer; what was signed is verified.
 
+use compare::independent::masks::Masks;
 use compare::independent::raccoon::{Edition, Noise, Params, expand, form_bits, keygen, read, refresh, sample_u, with_digest};
 use compare::independent::ring::{N, Q};
-use compare::known::{digest, known, word_bytes, xof};
+use compare::known::{digest, known, word_bytes, words_modulo_q, xof};
 use compare::layout::{digest_is_true, full_share, laid_out, put_bits, small_totals, sums, words_below_q};
 use compare::pool::{SETS, SHARES};
 use compare::random::Random;
@@ -142,7 +143,7 @@ fn short((status, attempts, signature): &Answer) -> String {
 
 /// The words of a stream, modulo q.
 fn stream_words(label: &str, n: usize) -> Vec<u64> {
-    xof(label, 8 * n).chunks_exact(8).map(|x| u64::from_le_bytes(x.try_into().unwrap()) % Q).collect()
+    words_modulo_q(label.as_bytes(), n)
 }
 
 fn params(set: usize, d: usize) -> Params {
@@ -150,7 +151,7 @@ fn params(set: usize, d: usize) -> Params {
 }
 
 fn signing_key(p: &Params) -> Vec<u8> {
-    keygen(p, &xof(&format!("tape {}-{}", p.kappa, p.d), p.keygen_bytes()), &xof("mask", 32)).unwrap()
+    keygen(p, &xof(&format!("tape {}-{}", p.kappa, p.d), p.keygen_bytes()), Masks::Seed(&xof("mask", 32))).unwrap()
 }
 
 fn expanded(p: &Params, key: &[u8]) -> Key {
@@ -180,7 +181,7 @@ fn known_signatures() {
         let call = known_call(d);
         assert_eq!(short(&call.run()), known(&format!("128-{d} sign")));
         let Key::Packed(key) = &call.key else { panic!() };
-        let fresh = refresh(&p, &expand(&p, key).unwrap(), &xof("mask", 32));
+        let fresh = refresh(&p, &expand(&p, key).unwrap(), Masks::Seed(&xof("mask", 32))).unwrap();
         let refreshed = Call { key: Key::Expanded(with_digest(&p, &key[..2256]), fresh), ..call.clone() };
         assert_eq!(short(&refreshed.run()), known(&format!("128-{d} sign refreshed")));
     }

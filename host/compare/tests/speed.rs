@@ -1,7 +1,10 @@
 //! The speed report with few turns: positive figures for all 18 pairs, permutations that were counted by hand, and the plot. The
-//! report itself checks that the results of both sides are equal, and the permutations of the independent implementation those of
-//! the formulas.
+//! report itself checks that the results of both sides are equal, and the permutations of the independent implementation those that
+//! it tells.
 
+use compare::independent::keccak::shake256;
+use compare::independent::ring::{N, Q};
+use compare::permutations::MASK_SEED;
 use std::process::{Command, Output};
 use std::sync::OnceLock;
 
@@ -48,31 +51,57 @@ fn all_pairs() {
     }
 }
 
-/// 128-1: no masks but the generator's first block; 72 noise streams of 4 or 23 blocks; 20 entries of the matrix, of 28 blocks;
-/// 17 blocks of the digest, 1 of mu, 20 of the challenge hash, 1 of the challenge.
+#[test]
+fn parts() {
+    let table = report().lines().skip_while(|line| !line.starts_with("Parts: ")).skip(3);
+    let rows: Vec<&str> = table.take_while(|line| !line.is_empty()).collect();
+    assert_eq!(rows.len(), 7);
+    assert!(rows[0].starts_with("permutation ") && rows[6].starts_with("mask polynomial "));
+    for row in rows {
+        let figures: Vec<f64> = row.split_whitespace().rev().take(3).map(|figure| figure.parse().unwrap()).collect();
+        assert!(figures.len() == 3 && figures.iter().all(|&figure| figure > 0.0), "{row}");
+    }
+}
+
+/// 128-1: no masks but the generator's first block, which the unit makes twice in refreshing; 72 noise streams of 4 or 23 blocks; 20 entries
+/// of the matrix, of 28 blocks; 17 blocks of the digest, 1 of mu, 20 of the challenge hash, 1 of the challenge.
 #[test]
 fn permutations_of_one_share() {
     let (matrix, digest) = (20 * 28, 17);
     let (generating, verifying) = (72 * 4 + matrix, matrix + digest + 1 + 20 + 1);
     let signing = 72 * 23 + verifying - digest;
-    let counts = [(1 + generating, generating), (digest, digest), (1, 0), (1 + signing, signing), (verifying, verifying)];
-    assert_eq!(counts, [(849, 848), (17, 17), (1, 0), (2239, 2238), (599, 599)]);
+    let counts = [(1 + generating, generating), (digest, digest), (2, 0), (1 + signing, signing), (verifying, verifying)];
+    assert_eq!(counts, [(849, 848), (17, 17), (2, 0), (2239, 2238), (599, 599)]);
     assert_eq!(figures("Permutations", "128-1").map(|[unit, independent, _]| (unit as u32, independent as u32)), counts);
 }
 
-/// 256-32: a zero encoding is 80 polynomials, 17 words to a block; 71 of them in generating, 7 in refreshing, 92 in signing. 2048
-/// noise streams of 4 or 19 blocks, 63 entries, 217 seeded shares; 30 blocks of the digest, 2 of mu, 35 of the challenge hash, 1
-/// of the challenge.
+/// The blocks of the seed's stream up to the last draw of so many polynomials of masks. As each begins behind the one before, these are its
+/// first draws below q, wherever polynomials end.
+fn mask_blocks(polynomials: usize) -> u32 {
+    let mut stream = vec![0; 7 * 540 * polynomials];
+    shake256(&MASK_SEED, &mut stream);
+    let value = |draw: &[u8]| draw.iter().rev().fold(0, |sum, &byte| sum << 8 | u64::from(byte)) % (1 << 49);
+    let kept = stream.chunks_exact(7).enumerate().filter(|(_, draw)| value(draw) < Q);
+    let (last, _) = kept.take(N * polynomials).last().unwrap();
+    let bytes = 7 * (last as u32 + 1);
+    // else the unit would have made one block more
+    assert_ne!(bytes % 136, 0, "draws that end with a block");
+    bytes.div_ceil(136)
+}
+
+/// 256-32: a zero encoding is 80 polynomials of masks; 71 of them in generating, 7 in refreshing, where the unit draws them twice, 92 in
+/// signing. 2048 noise streams of 4 or 19 blocks, 63 entries, 217 seeded shares; 30 blocks of the digest, 2 of mu, 35 of the challenge hash,
+/// 1 of the challenge.
 #[test]
 fn permutations_of_32_shares() {
-    let masks = |encodings: u32| (encodings * 80 * 512).div_ceil(17);
+    let masks = |encodings: usize| mask_blocks(80 * encodings);
     let (generating, refreshing) = (masks(71) + 2048 * 4 + (63 + 217) * 28, masks(7));
     let (digest, verifying) = (30, 63 * 28 + 30 + 2 + 35 + 1);
     let (seeded, signing) = (217 * 28, masks(92) + 2048 * 19 + verifying - digest);
-    let unit = [generating, 2 * seeded + digest, refreshing, signing, verifying];
+    let unit = [generating, 2 * seeded + digest, 2 * refreshing, signing, verifying];
     let independent = [generating, seeded + digest, refreshing, signing, verifying];
     let counts: [(u32, u32); 5] = std::array::from_fn(|call| (unit[call], independent[call]));
-    assert_eq!(counts, [(187101, 187101), (12182, 6106), (16866, 16866), (262380, 262380), (1832, 1832)]);
+    assert_eq!(counts, [(169278, 169278), (12182, 6106), (30216, 15108), (239293, 239293), (1832, 1832)]);
     assert_eq!(figures("Permutations", "256-32").map(|[unit, independent, _]| (unit as u32, independent as u32)), counts);
 }
 

@@ -2,6 +2,7 @@
 //! at the edges of the bounds and of the length, damaged keys and wrong lengths. Every status is compared with the independent one.
 
 use compare::bounds::{fields_of_norm, zero_fields};
+use compare::independent::masks::Masks;
 use compare::independent::raccoon::{Edition, Fields, Noise, Params, expand, form_bits, keygen, read, sign, with_digest, write};
 use compare::independent::ring::Q;
 use compare::known::{digest, known, response_tests, xof};
@@ -42,11 +43,11 @@ struct Case {
 impl Case {
     fn new(set: usize, edition: Edition, message: Vec<u8>) -> Case {
         let p = Params::new(set, 1, edition).unwrap();
-        let key = keygen(&p, &xof(&format!("tape {set}"), p.keygen_bytes()), &[1; 32]).unwrap();
+        let key = keygen(&p, &xof(&format!("tape {set}"), p.keygen_bytes()), Masks::Seed(&[1; 32])).unwrap();
         let noise = xof(&format!("noise {set}"), p.noise_bytes());
         let vk = key[..p.vk_bytes()].to_vec();
         let (bytes, words) = (with_digest(&p, &vk), expand(&p, &key).unwrap());
-        let signature = sign(&p, &bytes, &words, &message, &[(Noise::Seeds(&noise), &[2; 32])]).2.unwrap();
+        let signature = sign(&p, &bytes, &words, &message, &[(Noise::Seeds(&noise), Masks::Seed(&[2; 32]))]).2.unwrap();
         Case { p, set, vk, message, signature }
     }
     fn verdict(&self) -> u32 {
@@ -76,10 +77,12 @@ fn known_verdicts() {
     let mut good = (vec![], vec![]);
     for d in [1, 2, 4, 8] {
         let p = Params::new(128, d, Edition::Printed).unwrap();
-        let key = keygen(&p, &xof(&format!("tape 128-{d}"), p.keygen_bytes()), &xof("mask", 32)).unwrap();
+        let key = keygen(&p, &xof(&format!("tape 128-{d}"), p.keygen_bytes()), Masks::Seed(&xof("mask", 32))).unwrap();
         let noise = xof(&format!("noise 128-{d}"), p.noise_bytes());
         let (bytes, words) = (with_digest(&p, &key[..2256]), expand(&p, &key).unwrap());
-        let signature = sign(&p, &bytes, &words, &message, &[(Noise::Seeds(&noise), &xof("mask", 32))]).2.unwrap();
+        let mask = xof("mask", 32);
+        let attempt = (Noise::Seeds(&noise), Masks::Seed(&mask));
+        let signature = sign(&p, &bytes, &words, &message, &[attempt]).2.unwrap();
         assert_eq!(format!("0 1 {}", digest(&signature)), known(&format!("128-{d} sign")));
         assert_eq!(
             format!("{} -", verdict(Edition::Printed, 128, &key[..2256], &message, &signature)),
@@ -119,11 +122,11 @@ fn signatures_of_the_response_files_in_both_editions() {
         for ((set, d, _), answers) in first {
             let p = Params::new(set, d, edition).unwrap();
             let input = &response::inputs(&p, 1)[0];
-            let key = keygen(&p, &input.key_seeds, &[7; 32]).unwrap();
+            let key = keygen(&p, &input.key_seeds, Masks::Seed(&[7; 32])).unwrap();
             let vk = &key[..p.vk_bytes()];
             let (bytes, words) = (with_digest(&p, vk), expand(&p, &key).unwrap());
             let noise = Noise::Seeds(&input.noise_seeds);
-            let signature = sign(&p, &bytes, &words, &input.message, &[(noise, &[9; 32])]).2.unwrap();
+            let signature = sign(&p, &bytes, &words, &input.message, &[(noise, Masks::Seed(&[9; 32]))]).2.unwrap();
             assert_eq!(digest(&[&signature[..], &input.message].concat()), answers["sm"], "sm of {set}-{d}");
             assert_eq!(verdict(edition, set, vk, &input.message, &signature), 0, "{set}-{d}");
             assert_eq!(verdict(other, set, vk, &input.message, &signature), 16, "{set}-{d} in the other edition");

@@ -3,6 +3,7 @@
 
 pub mod drbg;
 pub mod keccak;
+pub mod masks;
 pub mod raccoon;
 pub mod ring;
 pub mod sha256;

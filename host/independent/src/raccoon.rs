@@ -1,8 +1,9 @@
-//! Raccoon from paper 000, with the refusals, seeds and the mask generator of paper 01, written for comparison and not for speed
-//! or secrecy. Polynomials are arrays of 512 words below q; a sharing is a vector of d polynomials.
+//! Raccoon from paper 000, with the refusals and seeds of paper 01, written for comparison and not for speed or secrecy. Polynomials are
+//! arrays of 512 words below q; a sharing is a vector of d polynomials.
 
 use crate::keccak::Shake256;
-use crate::ring::{N, Poly, Q, Tables, sample_q};
+use crate::masks::{Checked, MaskGenerator, Masks};
+use crate::ring::{N, Poly, Q, Tables, add, sample_q, sub};
 
 /// Which text of Algorithms 9, 10, 14 and 15 is followed: the printed one, or that of the response files.
 #[derive(Clone, Copy, PartialEq, Eq, Debug)]
@@ -25,6 +26,8 @@ pub struct Params {
     pub ut: usize,
     pub uw: usize,
     pub sig_bytes: usize,
+    /// The most draws of a uniform polynomial, 777. Tests of the order of checks allow fewer than can fill one.
+    pub uniform_draws: usize,
     pub edition: Edition,
 }
 
@@ -45,7 +48,8 @@ impl Params {
             32 => (4, 2),
             _ => return None,
         };
-        Some(Params { kappa: set, d, k, l, omega, b22, binf, rep, ut: ut - less, uw: 41 - less, sig_bytes, edition })
+        let (ut, uw) = (ut - less, 41 - less);
+        Some(Params { kappa: set, d, k, l, omega, b22, binf, rep, ut, uw, sig_bytes, uniform_draws: 777, edition })
     }
 
     pub fn seed_bytes(&self) -> usize {
@@ -81,14 +85,6 @@ impl Params {
     }
 }
 
-fn add(a: &Poly, b: &Poly) -> Poly {
-    std::array::from_fn(|i| (a[i] + b[i]) % Q)
-}
-
-fn sub(a: &Poly, b: &Poly) -> Poly {
-    std::array::from_fn(|i| (a[i] + Q - b[i]) % Q)
-}
-
 fn xof(header: &[u8], seed: &[u8]) -> Shake256 {
     let mut xof = Shake256::new();
     xof.absorb(header);
@@ -115,8 +111,9 @@ fn sampled<T>(mut xof: Shake256, first: usize, all: usize, sample: impl Fn(&[u8]
 }
 
 /// SampleQ: nothing after 777 draws (check 10). 28 blocks are 544 draws: too few for one polynomial in a million.
-fn uniform(header: [u8; 8], seed: &[u8]) -> Option<Poly> {
-    sampled(xof(&header, seed), 28 * 136, 777 * 7, sample_q)
+fn uniform(p: &Params, header: [u8; 8], seed: &[u8]) -> Option<Poly> {
+    let all = 7 * p.uniform_draws;
+    sampled(xof(&header, seed), all.min(28 * 136), all, sample_q)
 }
 
 /// SampleU: samples of u bits, signed, modulo q.
@@ -132,42 +129,6 @@ pub fn sample_u(header: [u8; 8], seed: &[u8], u: usize) -> Poly {
     })
 }
 
-/// The mask generator of paper 01: words of eight bytes of a stream, modulo q.
-pub struct Masks(Shake256);
-
-impl Masks {
-    pub fn new(seed: &[u8]) -> Masks {
-        Masks(xof(&[], seed))
-    }
-    fn poly(&mut self) -> Poly {
-        let mut bytes = [0u8; 8 * N];
-        self.0.squeeze(&mut bytes);
-        std::array::from_fn(|i| u64::from_le_bytes(bytes[8 * i..8 * i + 8].try_into().unwrap()) % Q)
-    }
-    /// Algorithm 12.
-    pub fn zero_encoding(&mut self, d: usize) -> Vec<Poly> {
-        if d == 1 {
-            return vec![[0; N]];
-        }
-        let mut left = self.zero_encoding(d / 2);
-        let mut right = self.zero_encoding(d / 2);
-        for (x, y) in left.iter_mut().zip(right.iter_mut()) {
-            let r = self.poly();
-            *x = add(x, &r);
-            *y = sub(y, &r);
-        }
-        left.append(&mut right);
-        left
-    }
-    /// Algorithm 11.
-    pub fn refresh(&mut self, shares: &mut [Poly]) {
-        let zero = self.zero_encoding(shares.len());
-        for (x, z) in shares.iter_mut().zip(zero) {
-            *x = add(x, &z);
-        }
-    }
-}
-
 /// The noise of one attempt: seeds, or explicit words (the bench form).
 #[derive(Clone, Copy)]
 pub enum Noise<'a> {
@@ -176,7 +137,7 @@ pub enum Noise<'a> {
 }
 
 /// Algorithm 8 at polynomials first .. first + v.len() of the noise, with the header's index from 0.
-fn add_rep_noise(p: &Params, v: &mut [Vec<Poly>], first: usize, u: usize, noise: Noise, masks: &mut Masks) {
+fn add_rep_noise(p: &Params, v: &mut [Vec<Poly>], first: usize, u: usize, noise: Noise, masks: &mut MaskGenerator) -> Checked {
     for (i, sharing) in v.iter_mut().enumerate() {
         match noise {
             Noise::Seeds(seeds) => {
@@ -186,7 +147,7 @@ fn add_rep_noise(p: &Params, v: &mut [Vec<Poly>], first: usize, u: usize, noise:
                         let seed = &seeds[number * p.seed_bytes()..(number + 1) * p.seed_bytes()];
                         *share = add(share, &sample_u([117, t as u8, i as u8, j as u8, 0, 0, 0, 0], seed, u));
                     }
-                    masks.refresh(sharing);
+                    masks.refresh(sharing)?;
                 }
             }
             Noise::Words(words) => {
@@ -194,10 +155,11 @@ fn add_rep_noise(p: &Params, v: &mut [Vec<Poly>], first: usize, u: usize, noise:
                     let at = ((first + i) * p.d + j) * N;
                     *share = add(share, words[at..at + N].try_into().unwrap());
                 }
-                masks.refresh(sharing);
+                masks.refresh(sharing)?;
             }
         }
     }
+    Ok(())
 }
 
 fn decode(shares: &[Poly]) -> Poly {
@@ -207,7 +169,7 @@ fn decode(shares: &[Poly]) -> Poly {
 /// ExpandA, transformed.
 fn matrix(p: &Params, tables: &Tables, seed: &[u8]) -> Option<Vec<Vec<Poly>>> {
     (0..p.k)
-        .map(|i| (0..p.l).map(|j| Some(tables.transform(&uniform([65, i as u8, j as u8, 0, 0, 0, 0, 0], seed)?))).collect())
+        .map(|i| (0..p.l).map(|j| Some(tables.transform(&uniform(p, [65, i as u8, j as u8, 0, 0, 0, 0, 0], seed)?))).collect())
         .collect()
 }
 
@@ -260,34 +222,40 @@ fn round_w(x: u64) -> u64 {
     ((x + (1 << 43)) >> 44) % 31
 }
 
-/// Algorithm 1: the signing key, or refusal 10.
-pub fn keygen(p: &Params, seeds: &[u8], mask_seed: &[u8]) -> Option<Vec<u8>> {
+/// Shares 1 to d - 1 of the l polynomials, from their seeds (lines 4 to 6 of Algorithm 14).
+fn seeded_shares(p: &Params, seeds: &[u8]) -> Option<Vec<Vec<Poly>>> {
+    let seeds = || (1..).zip(seeds.chunks_exact(p.seed_bytes()));
+    (0..p.l).map(|j| seeds().map(|(i, seed)| uniform(p, share_header(p.edition, i, j), seed)).collect()).collect()
+}
+
+/// Algorithm 1: the signing key, or refusal 10, or 20. Masks are drawn when all uniform polynomials have filled: 10 comes first.
+pub fn keygen(p: &Params, seeds: &[u8], masks: Masks) -> Checked<Vec<u8>> {
     let tables = Tables::new();
-    let n = p.seed_bytes();
-    let (seed, rest) = seeds.split_at(n);
+    let (seed, rest) = seeds.split_at(p.seed_bytes());
     let (noise, share_seeds) = rest.split_at(p.noise_bytes());
-    let a = matrix(p, &tables, seed)?;
-    let mut masks = Masks::new(mask_seed);
-    let mut s: Vec<Vec<Poly>> = (0..p.l).map(|_| masks.zero_encoding(p.d)).collect();
-    add_rep_noise(p, &mut s, 0, p.ut, Noise::Seeds(noise), &mut masks);
+    let a = matrix(p, &tables, seed).ok_or(10u32)?;
+    let seeded = seeded_shares(p, share_seeds).ok_or(10u32)?;
+    let mut masks = MaskGenerator::new(masks);
+    let mut s: Vec<Vec<Poly>> = (0..p.l).map(|_| masks.zero_encoding(p.d)).collect::<Checked<_>>()?;
+    add_rep_noise(p, &mut s, 0, p.ut, Noise::Seeds(noise), &mut masks)?;
     let mut t = masked_product(p, &tables, &a, &s);
-    add_rep_noise(p, &mut t, p.l, p.ut, Noise::Seeds(noise), &mut masks);
+    add_rep_noise(p, &mut t, p.l, p.ut, Noise::Seeds(noise), &mut masks)?;
     let mut key = seed.to_vec();
     let rounded: Vec<u64> = t.iter().flat_map(|sharing| decode(sharing).map(round_t)).collect();
     key.extend(pack(&rounded, 7));
     key.extend(share_seeds);
-    for (j, sharing) in s.iter().enumerate() {
+    for (sharing, seeded) in s.iter().zip(&seeded) {
         let mut x = tables.transform(&sharing[0]);
-        for i in 1..p.d {
-            x = sub(&x, &uniform(share_header(p.edition, i, j), &share_seeds[(i - 1) * n..i * n])?);
-            x = add(&x, &tables.transform(&sharing[i]));
+        for (share, seeded) in sharing[1..].iter().zip(seeded) {
+            x = sub(&x, seeded);
+            x = add(&x, &tables.transform(share));
         }
         key.extend(pack(&x, 49));
     }
-    Some(key)
+    Ok(key)
 }
 
-/// Algorithm 15: the words of all shares, polynomial by polynomial.
+/// Algorithm 15: the words of all shares, polynomial by polynomial; nothing where a seeded share does not fill (check 10).
 pub fn expand(p: &Params, key: &[u8]) -> Option<Vec<u64>> {
     let n = p.seed_bytes();
     let part = &key[p.vk_bytes()..];
@@ -297,7 +265,7 @@ pub fn expand(p: &Params, key: &[u8]) -> Option<Vec<u64>> {
     for j in 0..p.l {
         words.extend(&full[j * N..(j + 1) * N]);
         for i in 1..p.d {
-            words.extend(uniform(share_header(p.edition, i, j), &seeds[(i - 1) * n..i * n])?);
+            words.extend(uniform(p, share_header(p.edition, i, j), &seeds[(i - 1) * n..i * n])?);
         }
     }
     Some(words)
@@ -312,12 +280,11 @@ fn sharings(p: &Params, words: &[u64]) -> Vec<Vec<Poly>> {
     words.chunks_exact(p.d * N).map(|s| s.chunks_exact(N).map(|x| x.try_into().unwrap()).collect()).collect()
 }
 
-/// A new sharing of an expanded key. Its bytes stay what they are.
-pub fn refresh(p: &Params, words: &[u64], mask_seed: &[u8]) -> Vec<u64> {
-    let mut masks = Masks::new(mask_seed);
+/// A new sharing of an expanded key, or refusal 20. Its bytes stay what they are.
+pub fn refresh(p: &Params, words: &[u64], masks: Masks) -> Checked<Vec<u64>> {
     let mut s = sharings(p, words);
-    s.iter_mut().for_each(|sharing| masks.refresh(sharing));
-    s.concat().concat()
+    MaskGenerator::new(masks).refresh_all(&mut s)?;
+    Ok(s.concat().concat())
 }
 
 /// Algorithm 10 over a stream: nothing after 1,088 draws (check 11).
@@ -471,14 +438,8 @@ fn commitment(p: &Params, tables: &Tables, a: &[Vec<Poly>], z: &[Poly], c: &Poly
         .collect()
 }
 
-/// One attempt: the signature, an attempt over the bounds or too long, or a challenge that did not fill.
-pub enum Attempt {
-    Made(Vec<u8>),
-    Over,
-    Stuck,
-}
-
-/// Lines 4 to 20 of Algorithm 2. The shares of s go on to the next attempt as they are left.
+/// Lines 4 to 20 of Algorithm 2: the signature; nothing for an attempt over the bounds or too long; or, where masks or the challenge do not
+/// fill, the check that ends the call, 20 or 11. The shares of s go on to the next attempt as they are left.
 fn attempt(
     p: &Params,
     tables: &Tables,
@@ -487,37 +448,33 @@ fn attempt(
     mu: &[u8],
     s: &mut [Vec<Poly>],
     noise: Noise,
-    mask_seed: &[u8],
-) -> Attempt {
-    let mut masks = Masks::new(mask_seed);
-    let mut r: Vec<Vec<Poly>> = (0..p.l).map(|_| masks.zero_encoding(p.d)).collect();
-    add_rep_noise(p, &mut r, 0, p.uw, noise, &mut masks);
+    masks: Masks,
+) -> Checked<Option<Vec<u8>>> {
+    let mut masks = MaskGenerator::new(masks);
+    let mut r: Vec<Vec<Poly>> = (0..p.l).map(|_| masks.zero_encoding(p.d)).collect::<Checked<_>>()?;
+    add_rep_noise(p, &mut r, 0, p.uw, noise, &mut masks)?;
     let mut w = masked_product(p, tables, a, &r);
-    add_rep_noise(p, &mut w, p.l, p.uw, noise, &mut masks);
+    add_rep_noise(p, &mut w, p.l, p.uw, noise, &mut masks)?;
     let w: Vec<u64> = w.iter().flat_map(|sharing| decode(sharing).map(round_w)).collect();
     let hash = chal_hash(p, &w.iter().map(|&x| x as u8).collect::<Vec<u8>>(), mu);
-    let Some(c) = chal_poly(p, &hash) else { return Attempt::Stuck };
-    let c = signed(&c);
+    let c = signed(&chal_poly(p, &hash).ok_or(11u32)?);
     let values = tables.transform(&c);
-    s.iter_mut().for_each(|sharing| masks.refresh(sharing));
-    r.iter_mut().for_each(|sharing| masks.refresh(sharing));
+    masks.refresh_all(s)?;
+    masks.refresh_all(&mut r)?;
     let mut z: Vec<Vec<Poly>> = (s.iter().zip(&r))
         .map(|(s, r)| s.iter().zip(r).map(|(s, r)| add(&tables.inverse(&Tables::pointwise(&values, s)), r)).collect())
         .collect();
-    z.iter_mut().for_each(|sharing| masks.refresh(sharing));
+    masks.refresh_all(&mut z)?;
     let z: Vec<Poly> = z.iter().map(|sharing| decode(sharing)).collect();
     let y = commitment(p, tables, a, &z, &c, t);
     let hint = w.iter().zip(&y).map(|(w, y)| centred((w + 31 - y) % 31, 31)).collect();
     let fields = Fields { hash, hint, response: z.iter().flat_map(|z| z.map(|x| centred(x, Q))).collect() };
-    if !check_bounds(p, &fields) {
-        return Attempt::Over;
-    }
-    write(p, &fields).map_or(Attempt::Over, Attempt::Made)
+    Ok(if check_bounds(p, &fields) { write(p, &fields) } else { None })
 }
 
 /// Signing with an expanded key whose lengths and words are right: status, attempts, signature. The digest is taken as it stands behind
 /// the public key.
-pub fn sign(p: &Params, bytes: &[u8], words: &[u64], message: &[u8], attempts: &[(Noise, &[u8])]) -> (u32, u32, Option<Vec<u8>>) {
+pub fn sign(p: &Params, bytes: &[u8], words: &[u64], message: &[u8], attempts: &[(Noise, Masks)]) -> (u32, u32, Option<Vec<u8>>) {
     assert_eq!(bytes.len(), p.expanded_bytes(), "public key and digest");
     let (vk, digest) = bytes.split_at(p.vk_bytes());
     let tables = Tables::new();
@@ -525,11 +482,11 @@ pub fn sign(p: &Params, bytes: &[u8], words: &[u64], message: &[u8], attempts: &
     let t = unpack(&vk[p.seed_bytes()..], 7);
     let mu = hash(&[digest, message], p.hash_bytes());
     let mut s = sharings(p, words);
-    for (number, (noise, mask_seed)) in attempts.iter().enumerate() {
-        match attempt(p, &tables, &a, &t, &mu, &mut s, *noise, mask_seed) {
-            Attempt::Made(signature) => return (0, number as u32 + 1, Some(signature)),
-            Attempt::Over => {}
-            Attempt::Stuck => return (11, number as u32 + 1, None),
+    for (number, &(noise, masks)) in (1..).zip(attempts) {
+        match attempt(p, &tables, &a, &t, &mu, &mut s, noise, masks) {
+            Ok(Some(signature)) => return (0, number, Some(signature)),
+            Ok(None) => {}
+            Err(check) => return (check, number, None),
         }
     }
     (12, attempts.len() as u32, None)

@@ -30,6 +30,16 @@ fn reversed(index: usize) -> usize {
     (index as u16).reverse_bits() as usize >> 7
 }
 
+/// The sum, word by word modulo q.
+pub fn add(a: &Poly, b: &Poly) -> Poly {
+    std::array::from_fn(|i| (a[i] + b[i]) % Q)
+}
+
+/// The difference, word by word modulo q.
+pub fn sub(a: &Poly, b: &Poly) -> Poly {
+    std::array::from_fn(|i| (a[i] + Q - b[i]) % Q)
+}
+
 /// The product of the ring, coefficient by coefficient.
 pub fn schoolbook(f: &Poly, g: &Poly) -> Poly {
     let mut product = [0u64; N];
@@ -135,20 +145,23 @@ impl Tables {
     }
 }
 
+/// A draw of seven bytes, little-endian: its low 49 bits, or nothing where these are q or more.
+pub fn draw(bytes: &[u8]) -> Option<u64> {
+    let mut word = [0u8; 8];
+    word[..7].copy_from_slice(bytes);
+    let value = u64::from_le_bytes(word) & ((1 << 49) - 1);
+    (value < Q).then_some(value)
+}
+
 /// A uniform polynomial from the stream of SHAKE256 (Algorithm 5), or nothing after 777 draws.
 pub fn sample_q(bytes: &[u8]) -> Option<Poly> {
     let mut poly = [0u64; N];
     let mut filled = 0;
-    for draw in bytes.chunks_exact(7).take(777) {
-        let mut word = [0u8; 8];
-        word[..7].copy_from_slice(draw);
-        let value = u64::from_le_bytes(word) & ((1 << 49) - 1);
-        if value < Q {
-            poly[filled] = value;
-            filled += 1;
-            if filled == N {
-                return Some(poly);
-            }
+    for value in bytes.chunks_exact(7).take(777).filter_map(draw) {
+        poly[filled] = value;
+        filled += 1;
+        if filled == N {
+            return Some(poly);
         }
     }
     None

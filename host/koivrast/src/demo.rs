@@ -114,7 +114,8 @@ fn six_keys(set: Set, random: &mut Random) -> Result<(PublicKey, Vec<ExpandedKey
 /// What each key answered.
 type Answers = Vec<Result<Signature, Refusal>>;
 
-/// One attempt of each key with noise of the same totals, the noise cut at random too, the masks drawn for each.
+/// One attempt of each key with noise of the same totals, the noise cut at random too, the masks drawn for each. Keys whose masks run dry
+/// need not agree with the others: that ends the demonstration with 20.
 fn six_answers(set: Set, keys: &[ExpandedKey], random: &mut Random, progress: &Progress) -> Result<Answers, Trouble> {
     let mut totals = Secret::zeros(N * (set.l() + set.k()));
     for total in totals.iter_mut() {
@@ -129,7 +130,11 @@ fn six_answers(set: Set, keys: &[ExpandedKey], random: &mut Random, progress: &P
         os_random(&mut mask_seed).map_err(Trouble::random)?;
         let explicit = SigningSeeds::new(params).attempts(1).and_then(|seeds| seeds.explicit(&noise, &mask_seed));
         let explicit = explicit.map_err(|refusal| Trouble::refused(refusal, Doing::Signing))?;
-        answers.push(key.sign_explicit(MESSAGE, explicit).map(|signed| signed.signature).map_err(|answer| answer.refusal));
+        let answer = key.sign_explicit(MESSAGE, explicit).map(|signed| signed.signature).map_err(|answer| answer.refusal);
+        if answer == Err(Refusal::MasksNotFilled) {
+            return Err(Trouble::refused(Refusal::MasksNotFilled, Doing::Signing));
+        }
+        answers.push(answer);
     }
     Ok(answers)
 }

@@ -24,8 +24,7 @@ Commands:
 
 Exit status:
   0  done; from verify: the signature is good
-  1  no: one of the sixteen checks of the unit was answered with no, and the
-     message names it
+  1  no: a check of the unit was answered with no, and the message names it
   2  wrong use, or trouble with a file or the system
 
 Files hold the plain bytes of keys and signatures; what a file is follows from

@@ -107,5 +107,25 @@ fn advice(refusal: Refusal, doing: Doing) -> &'static str {
         (BadSignatureForm, _) => "Do not accept it: it is damaged or forged.",
         (BadSignatureBounds, _) => "Do not accept it.",
         (BadSignatureHash, _) => "Do not accept it: it is of another message or key, made with a false digest, or forged.",
+        (MasksNotFilled, _) => "No mask seed is known that meets this. Run the command again: it draws new seeds.",
+    }
+}
+
+#[cfg(test)]
+mod tests {
+    use super::*;
+
+    /// No seeds are known that get 20, so no session meets it.
+    #[test]
+    fn masks_that_do_not_fill() {
+        let refusal = Refusal::MasksNotFilled;
+        let said = "koivrast: refused, 20: Did every mask polynomial fill within 777 draws? No.";
+        let again = "No mask seed is known that meets this. Run the command again: it draws new seeds.";
+        for doing in [Doing::MakingKey, Doing::LoadingKey, Doing::Signing] {
+            let trouble = Trouble::refused(refusal, doing);
+            assert_eq!((trouble.to_string(), trouble.status()), (format!("{said}\n{again}\n"), 1));
+        }
+        let trouble = Trouble::not_signed(NotSigned { refusal, attempts: 2 });
+        assert_eq!((trouble.to_string(), trouble.status()), (format!("{said} (after 2 attempts)\n{again}\n"), 1));
     }
 }

@@ -99,7 +99,7 @@ pub fn sample_challenge(set: u32, bytes: &[u8], coefficients: &mut [i8]) -> u32 
     unsafe { raw::raccoon_sample_challenge(set, bytes.as_ptr(), bytes.len(), coefficients.as_mut_ptr(), coefficients.len()) }
 }
 
-/// Key generation: its status. With 0 the result holds the signing key, else it is as it was; the work buffer is zero with 0 and 10.
+/// Key generation: its status. With 0 the result holds the signing key, else it is as it was; the work buffer is zero with 0, 10 and 20.
 pub fn keygen(edition: Edition, set: u32, shares: u32, seeds: &[u8], mask_seed: &[u8], key: &mut [u8], work: &mut [u64]) -> u32 {
     let call = match edition {
         Edition::Printed => raw::raccoon_keygen,
@@ -161,7 +161,7 @@ pub fn verify(edition: Edition, set: u32, public_key: &[u8], message: &[u8], sig
     }
 }
 
-/// What signing reports: the status, and the attempt that passed (with 12 all attempts, with 11 the attempt that met it, else 0).
+/// What signing reports: the status, and the attempt that passed (with 12 all attempts, with 11 and 20 the attempt that met it, else 0).
 #[repr(C)]
 #[derive(Clone, Copy, PartialEq, Eq, Debug)]
 pub struct Signed {

@@ -78,7 +78,7 @@ pub struct SigningKey {
 }
 
 impl SigningKey {
-    /// Algorithm 1. Refused with 10 (no known seeds are).
+    /// Algorithm 1. Refused with 10 or 20 (no known seeds are).
     pub fn generate(seeds: KeygenSeeds) -> Result<SigningKey, Refusal> {
         let params = seeds.params;
         let (mut bytes, mut work) = (Secret::zeros(params.signing_key_bytes()), Secret::zeros(params.work_words()));
@@ -233,7 +233,8 @@ impl ExpandedKey {
         zero.bytes == self.bytes
     }
 
-    /// A new sharing of the same secret; public key and digest are carried on. The mask seed is for one call.
+    /// A new sharing of the same secret; public key and digest are carried on. The mask seed is for one call. Refused with 20 (no known
+    /// mask seed is).
     ///
     /// ```
     /// use raccoon::*;

@@ -1,8 +1,8 @@
 //! Raccoon signatures by the proved unit.
 //!
-//! The types keep lengths right: a key, a signature or a set of seeds cannot be made with a wrong length, so of the sixteen refusals of the
-//! unit only those remain that speak of contents. Seeds are given away with the call that uses them, so that none is used twice, and what is
-//! secret is wiped when it is dropped.
+//! The types keep lengths right: a key, a signature or a set of seeds cannot be made with a wrong length, so of the refusals of the unit only
+//! those remain that speak of contents. Seeds are given away with the call that uses them, so that none is used twice, and what is secret is
+//! wiped when it is dropped.
 //!
 //! ```
 //! use raccoon::{os_random, KeygenSeeds, Params, Set, Shares, SigningKey, SigningSeeds};
@@ -24,7 +24,7 @@
 //! * [`SigningKey`], [`ExpandedKey`], [`PublicKey`], [`Signature`]: the byte forms of paper 000, section 2.5.
 //! * [`Secret`]: bytes or words that are wiped when they are dropped.
 //! * [`KeygenSeeds`], [`SigningSeeds`], [`ExplicitNoise`]: what a call is lent besides.
-//! * [`Refusal`]: the sixteen numbers and their checks.
+//! * [`Refusal`]: the numbers and their checks.
 //! * [`call`]: the calls themselves, on slices of any length.
 //!
 //! All follow the printed text of the submission; the edition of its response files is in [`call`] alone.

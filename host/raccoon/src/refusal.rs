@@ -1,4 +1,4 @@
-//! The sixteen refusals of paper 01.
+//! The refusals of paper 01, and of the requests of paper 02 that have landed.
 
 use std::fmt;
 
@@ -29,13 +29,14 @@ pub enum Refusal {
     BadSignatureForm,
     BadSignatureBounds,
     BadSignatureHash,
+    MasksNotFilled = 20,
 }
 
 use Refusal::*;
 
 impl Refusal {
     /// In the order of their numbers.
-    pub const ALL: [Refusal; 16] = [
+    pub const ALL: [Refusal; 17] = [
         BadSet,
         BadShareCount,
         BadKeyLength,
@@ -52,25 +53,29 @@ impl Refusal {
         BadSignatureForm,
         BadSignatureBounds,
         BadSignatureHash,
+        MasksNotFilled,
     ];
 
     /// What a status says: 0 is yes to all.
     ///
     /// # Panics
-    /// If it is above 16, which no call answers.
+    /// If it is the number of no refusal, which no call answers.
     pub fn from_status(status: u32) -> Result<(), Refusal> {
-        match status {
-            0 => Ok(()),
-            _ => Err(Refusal::ALL[status as usize - 1]),
+        match Refusal::ALL.into_iter().find(|refusal| refusal.number() == status) {
+            Some(refusal) => Err(refusal),
+            None => {
+                assert_eq!(status, 0, "a status that no call answers");
+                Ok(())
+            }
         }
     }
 
-    /// The paper's number, 1 to 16.
+    /// The papers' number, 1 to 16 or 20.
     pub const fn number(self) -> u32 {
         self as u32
     }
 
-    /// The check, in the paper's words.
+    /// The check, in the papers' words.
     pub const fn check(self) -> &'static str {
         match self {
             BadSet => "Is the set 128, 192 or 256?",
@@ -89,6 +94,7 @@ impl Refusal {
             BadSignatureForm => "Is the signature the very byte string that the writer makes of the fields read from it?",
             BadSignatureBounds => "Do the fields of the signature pass the bounds?",
             BadSignatureHash => "Is the recomputed challenge hash equal?",
+            MasksNotFilled => "Did every mask polynomial fill within 777 draws?",
         }
     }
 }

@@ -12,7 +12,7 @@ pub struct Signed {
     pub attempt: u32,
 }
 
-/// Why there is no signature. The attempts are, with 12, all that were allowed, with 11 the one that met it, else 0.
+/// Why there is no signature. The attempts are, with 12, all that were allowed, with 11 and 20 the one that met it, else 0.
 #[derive(Clone, Copy, PartialEq, Eq, Debug)]
 pub struct NotSigned {
     pub refusal: Refusal,
@@ -42,7 +42,7 @@ fn signed(params: Params, attempts: u32, key: Key, message: &[u8], noise: Noise,
 
 impl SigningKey {
     /// Refused with 9 for a message that is too long, with 12 where no attempt passed (bring new seeds); seeds made for other parameters
-    /// are refused with 7.
+    /// are refused with 7. With 10, 11 and 20 no known key, message and seeds are refused.
     pub fn sign(&self, message: &[u8], seeds: SigningSeeds) -> Result<Signed, NotSigned> {
         let key = Key::Packed(self.as_bytes());
         signed(self.params(), seeds.attempts, key, message, Noise::Seeds(&seeds.noise), &seeds.masks)

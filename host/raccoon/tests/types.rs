@@ -47,13 +47,26 @@ fn numbers_of_sets_and_share_counts() {
 #[test]
 fn questions_are_those_of_the_header() {
     let header = include_str!("../../../include/raccoon.h");
-    for (i, refusal) in Refusal::ALL.into_iter().enumerate() {
-        assert_eq!(refusal.number() as usize, i + 1);
-        assert_eq!(Refusal::from_status(refusal.number()), Err(refusal));
-        let line =
-            header.lines().find(|line| line.contains(&format!(" = {},", i + 1)) || line.contains(&format!(" = {} ", i + 1)));
-        let line = line.unwrap_or_else(|| panic!("the header has no {}", i + 1));
-        assert!(line.contains(&format!("/* {}", refusal.check())), "{line}");
+    let status = |line: &'static str| {
+        let (number, text) = line.trim().strip_prefix("RACCOON_")?.split_once(" = ")?.1.split_once("/* ")?;
+        Some((number.trim().trim_end_matches(',').parse::<u32>().ok()?, text))
+    };
+    let mut statuses = header.lines().skip_while(|line| !line.starts_with("enum raccoon_status")).filter_map(status);
+    assert_eq!(statuses.next(), Some((0, "yes to all */")));
+    for refusal in Refusal::ALL {
+        let (number, text) = statuses.next().unwrap_or_else(|| panic!("the header has no {}", refusal.number()));
+        assert_eq!((refusal.number(), Refusal::from_status(number)), (number, Err(refusal)));
+        assert!(text.starts_with(refusal.check()), "{text}");
+    }
+    assert_eq!(statuses.next(), None, "a status that is no refusal");
+    assert_eq!(Refusal::ALL.map(Refusal::number)[..], (1..=16).chain([20]).collect::<Vec<u32>>());
+    assert_eq!(Refusal::from_status(0), Ok(()));
+}
+
+#[test]
+fn numbers_of_no_refusal() {
+    for status in [17, 18, 19, 21, u32::MAX] {
+        assert!(std::panic::catch_unwind(|| Refusal::from_status(status)).is_err(), "{status}");
     }
 }
 

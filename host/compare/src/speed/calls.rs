@@ -3,14 +3,15 @@
 use super::table::{Table, cell};
 use super::{Best, Turns};
 use crate::known::xof;
-use crate::permutations::{CALLS, MESSAGE, Maker};
+use crate::permutations::{CALLS, MASK_SEED, MESSAGE, Maker};
 use crate::unit;
+use independent::masks::Masks;
 use independent::raccoon::{self, Edition, Noise, Params};
 use std::hint::black_box;
 
 const SETS: [usize; 3] = [128, 192, 256];
 const SHARES: [usize; 6] = [1, 2, 4, 8, 16, 32];
-const MASK_SEED: [u8; 32] = [8; 32];
+const MASKS: Masks = Masks::Seed(&MASK_SEED);
 
 /// What the calls of all pairs are lent.
 pub fn lent() -> Vec<Lent> {
@@ -31,7 +32,7 @@ pub struct Pair {
     calls: Vec<(Best, u64)>,
 }
 
-/// The unit's permutations are those of the formulas; the independent implementation's were counted, and must be those of theirs.
+/// The unit's permutations are those of [`Maker::counts`]; the independent implementation's were counted as it ran, and must be those too.
 pub fn pairs(lent: &[Lent], calls: &[Best]) -> Vec<Pair> {
     let pair = |(Lent { p, .. }, calls): (&Lent, &[Best])| {
         let counted: Vec<u64> = calls.iter().map(|best| best.permutations).collect();
@@ -113,7 +114,7 @@ pub struct Lent {
 impl Lent {
     fn new(p: Params) -> Lent {
         let (seeds, message, noise) = (xof("seeds", p.keygen_bytes()), xof("message", MESSAGE), xof("noise", p.noise_bytes()));
-        let key = raccoon::keygen(&p, &seeds, &MASK_SEED).unwrap();
+        let key = raccoon::keygen(&p, &seeds, MASKS).unwrap();
         let (bytes, words) = (raccoon::with_digest(&p, &key[..p.vk_bytes()]), raccoon::expand(&p, &key).unwrap());
         let mut lent = Lent { p, seeds, key, bytes, words, message, noise, signature: vec![] };
         lent.signature = lent.signed();
@@ -126,7 +127,7 @@ impl Lent {
 
     /// The independent implementation's signature, of one attempt.
     fn signed(&self) -> Vec<u8> {
-        let attempt = (Noise::Seeds(&self.noise), &MASK_SEED[..]);
+        let attempt = (Noise::Seeds(&self.noise), MASKS);
         raccoon::sign(&self.p, black_box(&self.bytes), &self.words, &self.message, &[attempt]).2.unwrap()
     }
 
@@ -140,7 +141,7 @@ impl Lent {
         let (mut key, mut work, mut other) = (vec![0u8; p.sk_bytes()], vec![0u64; p.work_words()], vec![]);
         let best = turns.best(
             || assert_eq!(unit::keygen(p.edition, set, d, black_box(&self.seeds), &MASK_SEED, &mut key, &mut work), 0),
-            || other = raccoon::keygen(p, black_box(&self.seeds), &MASK_SEED).unwrap(),
+            || other = raccoon::keygen(p, black_box(&self.seeds), MASKS).unwrap(),
         );
         assert_eq!(key, other);
         best
@@ -163,7 +164,7 @@ impl Lent {
         let (mut bytes, mut words, mut other) = (vec![0u8; key.0.len()], vec![0u64; key.1.len()], vec![]);
         let best = turns.best(
             || assert_eq!(unit::refresh_key(set, d, black_box(key), &MASK_SEED, &mut bytes, &mut words), 0),
-            || other = raccoon::refresh(&self.p, black_box(key.1), &MASK_SEED),
+            || other = raccoon::refresh(&self.p, black_box(key.1), MASKS).unwrap(),
         );
         assert_eq!((&bytes[..], words), (key.0, other));
         best

@@ -1,23 +1,26 @@
-//! The parts of the calls: the permutation and streams, the transform and the ring, the uniform sampler.
+//! The parts of the calls: the permutation and streams, the transform and the ring, the uniform sampler, the mask generator.
 
 use super::table::{Table, cell};
 use super::{Best, Turns};
+use crate::permutations::MASK_SEED;
 use crate::unit;
+use independent::masks::{MaskGenerator, Masks};
 use independent::{keccak, ring};
 use std::hint::black_box;
 
-const PARTS: [&str; 6] = [
+const PARTS: [&str; 7] = [
     "permutation",
     "stream to a slice, per block of 136 bytes",
     "message absorbed, per block of 136 bytes",
     "transform",
     "product: two transforms, pointwise, inverse",
     "uniform polynomial",
+    "mask polynomial",
 ];
 
 /// One round over the parts, the permutation first.
 pub fn measured(turns: Turns) -> Vec<Best> {
-    [permutation, stream, absorbing, transform, product, uniform].map(|part| part(turns)).to_vec()
+    [permutation, stream, absorbing, transform, product, uniform, masks].map(|part| part(turns)).to_vec()
 }
 
 pub fn table(parts: &[Best]) -> Table {
@@ -121,4 +124,21 @@ fn uniform(turns: Turns) -> Best {
     assert_eq!(p, r);
     assert!(p.is_some());
     best
+}
+
+/// The polynomials of a seed up to the last of these, each behind the one before.
+fn masks(turns: Turns) -> Best {
+    const N: usize = 100;
+    let (mut x, mut y) = ([0; ring::N], [0; ring::N]);
+    let best = turns.best(
+        || assert!(unit::masks(black_box(&MASK_SEED), N as u64 - 1, &mut x)),
+        || {
+            let mut masks = MaskGenerator::new(Masks::Seed(black_box(&MASK_SEED)));
+            for _ in 0..N {
+                y = black_box(masks.poly()).unwrap();
+            }
+        },
+    );
+    assert_eq!(x, y);
+    best.part(N)
 }

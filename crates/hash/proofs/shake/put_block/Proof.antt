@@ -58,7 +58,7 @@ loop-again c =
 returns : tie.Need-returns Inv-loop μ-loop
 returns c =
     let e : 8 * c .before .loop .i ≡ 136 = omega arith in
-    rw (c .before .loop .inv .2, e, c .before .before .rate-words .ensures .0, of-lanes)
+    rw (c .before .loop .inv .2, e, c .before .before .rate-words .ensures, of-lanes)
 
 pub put-block-spec : {M : Type 1} → statement M
 put-block-spec =

@@ -5,8 +5,8 @@ use Prim.Native.Nat.{_-_, _≤_, _<_}
 use native.Mathlib.Omega.{arith}
 use Rattle.ring.proofs.Draws.{Front, front-none, front-kept, front-left}
 use Rattle.hash.specs.Lists.{zeros}
-use Rattle.sharing.specs.Masks.{bytesAhead, maskMoved, marked, used}
-use Rattle.sharing.proofs.Carry.{moved-none, used-none, one-more, dry-poly, filled-poly, unfilled-poly}
+use Rattle.sharing.specs.Masks.{bytesAhead, maskMoved, flagged, used}
+use Rattle.sharing.proofs.Carry.{moved-none, used-none, draw-more, dry-poly, filled-poly, unfilled-poly}
 use borrow.Author.Tests.{not-true, not-false}
 use borrow.Author.Needs.{needs}
 use Rattle.sharing.proofs.masks.fill.Statement.{statement}
@@ -37,7 +37,7 @@ returns-2 c =
     let v = l .loop .inv in
     let f = unfilled-poly (b .args .g) (l .before .settled .result) (not-false _ (l .before .before .if1 .left)) (l .before .settled .ensures) (l .loop .p) (l .loop .i) (l .loop .k) (v .2) (v .3) (d .before .before .if2 .taken)
     (d .before .before .before .loop-test .taken) in
-    (d .clear2 .ensures ∙ ap zeros (v .3 .long) ∙ f .0, c .dried .ensures ∙ ap (marked false) (v .1) ∙ f .1)
+    (d .clear2 .ensures ∙ ap zeros (v .3 .long) ∙ f .0, c .dried .ensures ∙ ap (flagged false) (v .1) ∙ f .1)
 
 loop-again : tie.Need-loop-again Inv-loop μ-loop
 loop-again c =
@@ -45,7 +45,7 @@ loop-again c =
     let v = l .loop .inv in
     let i : l .loop .i < 777 = omega (arith, v .0, c .before .before .before .if2 .left) in
     let k = c .before .before .before .before .loop-test .taken in
-    let t = one-more (l .before .settled .result) (l .loop .h) _ (l .loop .p) (l .loop .i) (l .loop .k) (v .1) (c .before .before .draw-value .ensures) i (v .3) k in
+    let t = draw-more (l .before .settled .result) (l .loop .h) _ (l .loop .p) (l .loop .i) (l .loop .k) (v .1) (c .before .before .draw-value .ensures) i (v .3) k in
     (omega (arith, i), t .1, t .2, front-kept _ [] (l .loop .p) (l .loop .i) (l .loop .k) _ (v .3) (t .0) (omega (arith, k)) (c .if3 .taken))
 
 loop-again-2 : tie.Need-loop-again-2 Inv-loop μ-loop
@@ -54,7 +54,7 @@ loop-again-2 c =
     let v = l .loop .inv in
     let i : l .loop .i < 777 = omega (arith, v .0, c .before .before .before .if2 .left) in
     let k = c .before .before .before .before .loop-test .taken in
-    let t = one-more (l .before .settled .result) (l .loop .h) _ (l .loop .p) (l .loop .i) (l .loop .k) (v .1) (c .before .before .draw-value .ensures) i (v .3) k in
+    let t = draw-more (l .before .settled .result) (l .loop .h) _ (l .loop .p) (l .loop .i) (l .loop .k) (v .1) (c .before .before .draw-value .ensures) i (v .3) k in
     (omega (arith, i), t .1, t .2, front-left _ [] (l .loop .p) (l .loop .i) (l .loop .k) _ (v .3) (t .0) (c .if3 .left))
 
 returns-3 : tie.Need-returns-3 Inv-loop μ-loop
