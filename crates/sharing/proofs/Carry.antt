@@ -21,6 +21,7 @@ use Rattle.hash.proofs.Flat.{unflat-flat, unflat-permuted, unflat-absorbed}
 use Rattle.ring.specs.Words.{Words}
 use Rattle.ring.specs.Checks.{filled, heldOr}
 use Rattle.ring.specs.Uniform.{draw, kept, draws, uniform}
+use Rattle.ring.proofs.Checks.{absurd-bool}
 use Rattle.ring.proofs.Draws.{draw-by, kept-stretch, Front, front-read, fills, unfilled, uniform-few, uniform-words}
 use Rattle.ring.proofs.Filled.{some-filled, none-filled}
 use Rattle.ring.proofs.Sums.{words-zeros}
@@ -28,6 +29,7 @@ use Rattle.sharing.specs.declared.masks.MaskGen.{MaskGen}
 use Rattle.sharing.specs.declared.masks.Drawn.{Drawn}
 use Rattle.sharing.specs.Encoding.{later, zeroAfter, skip}
 use Rattle.sharing.specs.Masks.{stateOf, placeIn, heldAt, bytesAhead, maskDraw, maskMoved, drawn, flagged, used, maskPoly, maskNext, maskStart, masks}
+use Rattle.sharing.proofs.Totals.{later-add}
 
 -- the state of a generator that was moved
 whole : (k n : ℕ) (g : MaskGen) (b : Bool) → stateOf (heldAt (after k (stateOf g)) n b) ≡ after k (stateOf g)
@@ -220,6 +222,38 @@ pub start-ok : (seed : List ℕ) → maskStart seed .ok ≡ true
 unfolding maskStart
 start-ok seed = refl
 
+-- .. and none behind a dry one is
+later-dry : (n m : ℕ) (g : MaskGen) → later masks n g .ok ≡ false → later masks (n + m) g .ok ≡ false
+later-dry n m g h = go (later masks (n + m) g .ok) refl
+  where
+    go : (b : Bool) → later masks (n + m) g .ok ≡ b → later masks (n + m) g .ok ≡ false
+    go true e = absurd-bool (sym (later-ok m (later masks n g) (ap (λ (x : MaskGen). x .ok) (later-add masks n m g) ∙ e)) ∙ h)
+    go false e = e
+
+-- ---- zero encodings by polynomials: how many one of 2 ^ h shares takes
+unfoldable pub polysIn : ℕ → ℕ
+polysIn zero = 0
+polysIn (suc h) = polysIn h + polysIn h + 2 ^ h
+
+zeroAfter-later : (h : ℕ) (g : MaskGen) → zeroAfter masks h g ≡ later masks (polysIn h) g
+unfolding zeroAfter polysIn later
+zeroAfter-later zero g = refl
+zeroAfter-later (suc h) g =
+    ap (λ (x : MaskGen). later masks (2 ^ h) (zeroAfter masks h x)) (zeroAfter-later h g)
+    ∙ ap (later masks (2 ^ h)) (zeroAfter-later h (later masks (polysIn h) g) ∙ later-add masks (polysIn h) (polysIn h) g)
+    ∙ later-add masks (polysIn h + polysIn h) (2 ^ h) g
+
+pub skip-later : (d n : ℕ) (g : MaskGen) → skip masks d n g ≡ later masks (n * polysIn (orderIndex d)) g
+unfolding skip later
+skip-later d zero g = let e : 0 ≡ 0 * polysIn (orderIndex d) = omega arith in ap (λ (m : ℕ). later masks m g) e
+skip-later d (suc n) g =
+    let k = polysIn (orderIndex d) in
+    let e : n * k + k ≡ suc n * k = omega arith in
+    ap (zeroAfter masks (orderIndex d)) (skip-later d n g)
+    ∙ zeroAfter-later (orderIndex d) (later masks (n * k) g)
+    ∙ later-add masks (n * k) k g
+    ∙ ap (λ (m : ℕ). later masks m g) e
+
 -- fewer than 512 of the next 777 draws are kept: the generator runs dry
 pub few-dry : (g : MaskGen) → length (kept (bytesAhead g) 777) < 512 → maskNext g .ok ≡ false
 few-dry g h = go (g .ok) refl
@@ -279,3 +313,19 @@ module _ (seed : List ℕ) where
       let a : bytesAhead x ≡ bytesFrom (drawsBefore n) = ap bytesAhead (moved-by n h) ∙ ahead-moved (drawsBefore n) in
       let u = ap uniform a in
       (sym (ok-poly x h (uniform (bytesFrom (drawsBefore n))) u (used (bytesAhead x) 777) refl), ap (λ (g : MaskGen). g .ok) (sym (ok-next x h (uniform (bytesFrom (drawsBefore n))) u (used (bytesAhead x) 777) refl)))
+
+  all-from : (n : ℕ) → draws (length (bytesFrom n)) ≡ 777
+  unfolding bytesFrom
+  all-from n = rw length-table
+
+  -- polynomial n is not filled: the generator is dry behind it
+  pub seed-dry : (n m : ℕ) → n < m → length (kept (bytesFrom (drawsBefore n)) 777) < 512 → later masks m (maskStart seed) .ok ≡ false
+  seed-dry n m l h =
+      let e : suc n + (m - suc n) ≡ m = omega arith in
+      ap (λ (k : ℕ). later masks k (maskStart seed) .ok) (sym e) ∙ later-dry (suc n) (m - suc n) (maskStart seed) (next-dry (later masks n (maskStart seed) .ok) refl)
+    where
+      next-dry : (b : Bool) → later masks n (maskStart seed) .ok ≡ b → later masks (suc n) (maskStart seed) .ok ≡ false
+      next-dry true o =
+          let f : uniform (bytesFrom (drawsBefore n)) ≡ none = uniform-few (bytesFrom (drawsBefore n)) (rw (all-from (drawsBefore n)) h) in
+          mask-poly n o .1 ∙ none-filled (uniform (bytesFrom (drawsBefore n))) f
+      next-dry false o = ap (λ (k : ℕ). later masks k (maskStart seed) .ok) (sym (add-one n)) ∙ later-dry n 1 (maskStart seed) o

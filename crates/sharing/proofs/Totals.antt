@@ -43,6 +43,11 @@ module _ (G : Generator) where
   unfolding later
   later-more n g = ap (λ (k : ℕ). later G k g) (add-one n)
 
+  pub later-add : (n m : ℕ) (g : G .State) → later G m (later G n g) ≡ later G (n + m) g
+  unfolding later
+  later-add n zero g = ap (λ (k : ℕ). later G k g) (sym (add-zero n))
+  later-add n (suc m) g = ap (G .next) (later-add n m g) ∙ ap (λ (k : ℕ). later G k g) (sym (add-suc n m))
+
   pub polys-none : (g : G .State) → polys G 0 g ≡ []
   unfolding polys build
   polys-none g = refl

@@ -2,30 +2,36 @@
 use mathlib.Core.Path.{_≡_, refl, sym, ap, _∙_, fun-ext}
 use mathlib.Core.Bool.{Bool, true, false}
 use mathlib.Core.List.{List, [], _∷_}
+use mathlib.Core.Logic.{_⊎_, inl, inr}
 use mathlib.Core.Option.{Option, some, none}
 use Prim.Native.Nat.{ℕ, zero, suc, _+_, _*_, _≤_, _<_}
 use native.Mathlib.Omega.{arith}
 use lib.IntN.{ℤ}
+use lib.ListN.{length}
 use Rattle.hash.specs.Lists.{pick}
+use Rattle.hash.specs.Params.{orderIndex}
 use Rattle.hash.specs.declared.params.Params.{Params}
 use Rattle.hash.specs.declared.params.Selected.{Selected}
 use Rattle.hash.proofs.Rows.{found}
 use Rattle.ring.specs.Words.{q}
 use Rattle.ring.specs.Round.{roundW, residues}
+use Rattle.ring.specs.Uniform.{kept}
 use Rattle.ring.proofs.Checks.{absurd-bool}
 use Rattle.sharing.specs.Blocks.{totals}
 use Rattle.sharing.specs.Encoding.{skip}
-use Rattle.sharing.specs.Masks.{masks}
+use Rattle.sharing.specs.Masks.{masks, maskStart}
 use Rattle.sharing.specs.declared.masks.MaskGen.{MaskGen}
-use Rattle.sharing.proofs.Carry.{skip-ok, skip-one, start-ok}
+use Rattle.sharing.proofs.Carry.{skip-ok, skip-one, start-ok, polysIn, skip-later, bytesFrom, drawsBefore, seed-dry}
 use Rattle.sharing.proofs.Totals.{skip-add}
 use Rattle.signature.specs.Bounds.{checkBounds}
 use Rattle.signature.specs.Challenge.{chalHash, chalPoly}
 use Rattle.signature.specs.Form.{Fields, write}
 use Rattle.signature.specs.Masked.{Noise, decoded, maskedNoise, maskedImage}
-use Rattle.signature.specs.Outcome.{Outcome, refusedOr, firstNo, foundIn}
+use Rattle.signature.specs.AttemptSteps.{hashOf}
+use Rattle.signature.specs.Outcome.{Outcome, answer, refusedOr, firstNo, foundIn}
 use Rattle.signature.specs.Sign.{Public, Attempted, made, over, stuck, dry, Coins, signedFields, wrote, finished, responded, challenged, concluded, ended, refreshedKey, refreshedNoise, refreshedResponse, attempted, noiseAt, maskAt, signFrom}
 use Rattle.signature.specs.SignCalls.{Key, signChecks, attemptsOf, signBy, signOf}
+use Rattle.signature.proofs.Attempts.{commitmentFills, attempt-dry, attempt-stuck, attempt-late, sign-dry}
 use Rattle.theorems.specs.Unit.{UnitCall, signUnit, recordOf, RunsDry, encodingsIn, masksFillAt}
 
 -- ---- an attempt and a call that do not run dry: where commitment and response are there, they decide
@@ -96,19 +102,26 @@ module _ (p : Params) (P : Public) where
     abbrev encodings : ℕ
     encodings = p .l + (p .l + p .k) * N .reps + 3 * p .l
 
-    -- the generator behind line 15, whatever the challenge
-    last-next : (c : List ℕ) → refreshedResponse p N g (P .matrix) s c .next ≡ skip masks (p .shares) encodings g
-    unfolding refreshedResponse refreshedNoise refreshedKey maskedImage maskedNoise
-    last-next c =
+    -- the generator behind line 7, and behind line 15, whatever the challenge
+    image-next : maskedImage p N g (P .matrix) .next ≡ skip masks (p .shares) (p .l + (p .l + p .k) * N .reps) g
+    unfolding maskedImage maskedNoise
+    image-next =
         let d = p .shares in
         let r = N .reps in
-        let n : p .l + p .l * r + p .k * r + p .l + p .l + p .l ≡ encodings = omega arith in
-        ap (λ (h : MaskGen). skip masks d (p .l) (skip masks d (p .l) (skip masks d (p .l) (skip masks d (p .k * r) h)))) (skip-add masks d (p .l) (p .l * r) g)
-        ∙ ap (λ (h : MaskGen). skip masks d (p .l) (skip masks d (p .l) (skip masks d (p .l) h))) (skip-add masks d (p .l + p .l * r) (p .k * r) g)
-        ∙ ap (λ (h : MaskGen). skip masks d (p .l) (skip masks d (p .l) h)) (skip-add masks d (p .l + p .l * r + p .k * r) (p .l) g)
-        ∙ ap (skip masks d (p .l)) (skip-add masks d (p .l + p .l * r + p .k * r + p .l) (p .l) g)
-        ∙ skip-add masks d (p .l + p .l * r + p .k * r + p .l + p .l) (p .l) g
-        ∙ ap (λ (m : ℕ). skip masks d m g) n
+        let n : p .l + p .l * r + p .k * r ≡ p .l + (p .l + p .k) * r = omega arith in
+        ap (skip masks d (p .k * r)) (skip-add masks d (p .l) (p .l * r) g) ∙ skip-add masks d (p .l + p .l * r) (p .k * r) g ∙ ap (λ (m : ℕ). skip masks d m g) n
+
+    last-next : (c : List ℕ) → refreshedResponse p N g (P .matrix) s c .next ≡ skip masks (p .shares) encodings g
+    unfolding refreshedResponse refreshedNoise refreshedKey
+    last-next c =
+        let d = p .shares in
+        let m = p .l + (p .l + p .k) * N .reps in
+        let n : m + p .l + p .l + p .l ≡ encodings = omega arith in
+        ap (λ (h : MaskGen). skip masks d (p .l) (skip masks d (p .l) (skip masks d (p .l) h))) image-next
+        ∙ ap (λ (h : MaskGen). skip masks d (p .l) (skip masks d (p .l) h)) (skip-add masks d m (p .l) g)
+        ∙ ap (skip masks d (p .l)) (skip-add masks d (m + p .l) (p .l) g)
+        ∙ skip-add masks d (m + p .l + p .l) (p .l) g
+        ∙ ap (λ (k : ℕ). skip masks d k g) n
 
     module _ (fill : skip masks (p .shares) encodings g .ok ≡ true) where
       response-fills : (c : List ℕ) → refreshedResponse p N g (P .matrix) s c .next .ok ≡ true
@@ -228,3 +241,47 @@ one-share-full u p is one h =
     absurd-bool
     (sym (ap (λ (g : MaskGen). g .ok) (ap (λ (k : ℕ). skip masks k n (maskAt (u .coins) (d .0))) e ∙ skip-one n (maskAt (u .coins) (d .0))) ∙ start-ok _)
     ∙ d .1 .unfilled)
+
+-- ---- from the stream of a mask seed to 20 at its step
+
+-- mask polynomial n of a seed does not fill: of the 777 draws behind those that the polynomials before it use fewer than 512 are below q
+abbrev pub Unfilled : List ℕ → ℕ → Type 0
+Unfilled seed n = length (kept (bytesFrom seed (drawsBefore seed n)) 777) < 512
+
+-- how many mask polynomials an attempt draws before the challenge (lines 4, 5 and 7), and in all (12, 13 and 15 too)
+abbrev pub masksBefore : Params → Noise → ℕ
+masksBefore p N = (p .l + (p .l + p .k) * N .reps) * polysIn (orderIndex (p .shares))
+
+abbrev pub masksInAll : Params → Noise → ℕ
+masksInAll p N = (p .l + (p .l + p .k) * N .reps + 3 * p .l) * polysIn (orderIndex (p .shares))
+
+module _ (p : Params) (P : Public) (N : Noise) (seed s : List ℕ) (n : ℕ) (few : Unfilled seed n) where
+  abbrev g : MaskGen
+  g = maskStart seed
+
+  encodings-dry : (m : ℕ) → n < m * polysIn (orderIndex (p .shares)) → skip masks (p .shares) m g .ok ≡ false
+  encodings-dry m l = ap (λ (h : MaskGen). h .ok) (skip-later (p .shares) m g) ∙ seed-dry seed n (m * polysIn (orderIndex (p .shares))) l few
+
+  -- Drawn before the challenge: the attempt ends with 20, whatever the challenge.
+  pub dry-before : n < masksBefore p N → attempted p P N g s ≡ dry
+  dry-before l =
+      attempt-dry p P N g s
+      (ap (λ (h : MaskGen). h .ok) (image-next p P N g s) ∙ encodings-dry (p .l + (p .l + p .k) * N .reps) l)
+
+  -- Drawn anywhere in it: with 20, or with 11 where the challenge does not fill.
+  pub dry-behind : n < masksInAll p N → (attempted p P N g s ≡ dry) ⊎ (attempted p P N g s ≡ stuck)
+  dry-behind l = go (commitmentFills p P N g s) refl (chalPoly p (hashOf p N g (P .matrix) (P .mu))) refl
+    where
+      go : (b : Bool) → commitmentFills p P N g s ≡ b → (o : Option (List ℤ)) → chalPoly p (hashOf p N g (P .matrix) (P .mu)) ≡ o
+          → (attempted p P N g s ≡ dry) ⊎ (attempted p P N g s ≡ stuck)
+      go false f o e = inl (attempt-dry p P N g s f)
+      go true f none e = inr (attempt-stuck p P N g s f e)
+      go true f (some c) e =
+          inl
+          (attempt-late p P N g s f c e
+          (ap (λ (h : MaskGen). h .ok) (last-next p P N g s (residues q c)) ∙ encodings-dry (p .l + (p .l + p .k) * N .reps + 3 * p .l) l))
+
+-- A dry attempt ends the call with 20 and is reported, whatever attempts are left.
+pub dry-ends : (p : Params) (P : Public) (T : Coins) (left a : ℕ) (s : List ℕ) → attempted p P (noiseAt p T a) (maskAt T a) s ≡ dry
+    → signFrom p P T (suc left) a s ≡ answer 20 (a + 1) []
+dry-ends p P T left a s e = sign-dry p P T (suc left) left a s refl e

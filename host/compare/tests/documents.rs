@@ -73,7 +73,7 @@ fn trace_names_what_is_there() {
 #[test]
 fn statement_quotes_the_theorems() {
     let statement = text("docs/STATEMENT.md");
-    let theorems = ["Demand3", "Undigested"].map(|name| text(&format!("crates/theorems/proofs/{name}.antt"))).concat();
+    let theorems = ["Demand3", "Dry", "Undigested"].map(|name| text(&format!("crates/theorems/proofs/{name}.antt"))).concat();
     let quotes: Vec<&str> = statement.lines().filter_map(|line| line.strip_prefix("    ")).collect();
     assert!(quotes.len() >= 5, "the theorems are not quoted");
     for quote in quotes {

@@ -115,7 +115,7 @@ fn advice(refusal: Refusal, doing: Doing) -> &'static str {
 mod tests {
     use super::*;
 
-    /// No seeds are known that get 20, so no session meets it.
+    /// No seeds are known that get 20, so no run of the tool meets it.
     #[test]
     fn masks_that_do_not_fill() {
         let refusal = Refusal::MasksNotFilled;
