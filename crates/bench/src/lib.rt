@@ -88,18 +88,19 @@ pub extern "C" fn bench_sample_q(header: &[u8; 8], seed: &[u8], out: &mut [u64; 
     s.ok
 }
 
-// Polynomial number n of a seed's mask generator, from 0 on. Where it or one before it runs dry it is zero, and the answer is false.
+// Polynomial number n of a seed's mask generator, from 0 on. Where it or one before it runs dry it is zero, and the answer is false. One call of
+// `fill`, as the unit has it, so that it is compiled as there.
 #[no_mangle]
-pub extern "C" fn bench_masks(seed: &[u8], n: u64, out: &mut [u64; 512]) -> bool
+pub extern "C" fn bench_masks(seed: &[u8], n: u32, out: &mut [u64; 512]) -> bool
     ensures { λ r. ⌜ (r ≡ later masks (n + 1) (maskStart (now (seed .entry))) .ok)
         × (now (out .exit) ≡ maskPoly (later masks n (maskStart (now (seed .entry))))) ⌝ }
 {
+    let m = n as u64 + 1;
     let mut g = sharing::masks::start(seed);
-    for i in 0..n {
+    for i in 0..m {
         g = sharing::masks::fill(out, g);
     }
-    let e = sharing::masks::fill(out, g);
-    e.ok
+    g.ok
 }
 
 // CheckBounds of any hint and response under any limits, settled early.

@@ -12,7 +12,7 @@ use native.Mathlib.Omega.{arith}
 use borrow.Author.Tests.{lt-ltb, le-ltb, le-leb, lt-leb, eq-eqb, ne-eqb}
 use lib.Dec.{ltb, leb}
 use lib.ListN.{length, getD, take, drop, set, replicate, length-append, length-set, length-take}
-use lib.Seq.{take-at, take-all, take-suc-set, length-take-le, take-append-le, getD-drop}
+use lib.Seq.{take-at, take-all, take-set-le, take-suc-set, length-take-le, take-append-le, getD-drop}
 use Rattle.hash.specs.Lists.{table, pick}
 use Rattle.hash.specs.Endian.{le}
 use Rattle.hash.specs.Keccak.{State, keccakF}
@@ -81,6 +81,12 @@ module _ (s p a : List ℕ) (i at d : ℕ) (v : Front s p i a at) (x : d ≡ dra
   front-left l =
       let z : p ++ kept s (i + 1) ≡ p ++ kept s i = rw (add-one, kept, ← x, le-ltb d q l, append-nil) in
       record { long = v .long; room = v .room; count = rw z (v .count); front = rw z (v .front) }
+
+  -- .. or stands behind those that are kept, where the next one goes
+  pub front-over : q ≤ d → Front s p (i + 1) (set a at d) at
+  front-over l =
+      let w = front-left l in
+      record { long = length-set a at d ∙ v .long; room = w .room; count = w .count; front = take-set-le at a at d (omega arith) ∙ w .front }
 
 -- a is full, or every draw is read
 module _ (s a₀ a : List ℕ) (k i at : ℕ) (v : Front s (take k a₀) i a at) where

@@ -5,7 +5,7 @@ use Prim.Native.Nat.{ℕ, zero, suc, _+_, _-_, _*_, _/_, _%_, _^_, _<_, _≤_}
 use native.Mathlib.Nat.{zero-add, add-zero, add-mul, mul-assoc, mul-mod-left, add-mul-div-right, add-mul-mod-self-right}
 use native.Mathlib.Decide.{decLt}
 use native.Mathlib.Omega.{arith}
-use lib.Bits.{bitOr, or-shifted-r}
+use lib.Bits.{bitXor, xor-comm, xor-shifted}
 use lib.Dec.{lit<}
 use lib.ListN.{getD, length-map}
 use lib.Pow.{pow-add, pow-pos, split, shl-shr, shr-shr, shr-lt, mod-pow-add, mod-mod-pow}
@@ -89,7 +89,7 @@ two-shifts y s t e h =
     ∙ ap (λ (n : ℕ). n * 2 ^ t) (ap (λ (n : ℕ). y % 2 ^ n % 2 ^ s) (sym o) ∙ mod-mod-pow y (63 - s) s)
 
 pub draw-shifted : (x y s : ℕ) → x < 2 ^ 64 → s ≤ 56
-    → bitOr (x / 2 ^ s) (y * 2 % 2 ^ 64 * 2 ^ (63 - s) % 2 ^ 64) % 2 ^ 49 ≡ (x + y * 2 ^ 64) / 2 ^ s % 2 ^ 49
+    → bitXor (x / 2 ^ s) (y * 2 % 2 ^ 64 * 2 ^ (63 - s) % 2 ^ 64) % 2 ^ 49 ≡ (x + y * 2 ^ 64) / 2 ^ s % 2 ^ 49
 draw-shifted x y s h l =
     let t = 64 - s in
     let a = x / 2 ^ s in
@@ -100,7 +100,7 @@ draw-shifted x y s h l =
     let q : 64 ≡ t + s = omega arith in
     let r : 2 ^ 64 ≡ 2 ^ (t + s) = ap (λ (n : ℕ). 2 ^ n) q in
     let f : a < 2 ^ t = shr-lt t s (rw r at h) in
-    let o : bitOr a (y * 2 % 2 ^ 64 * 2 ^ (63 - s) % 2 ^ 64) ≡ c + a = ap (bitOr a) (two-shifts y s t e (omega arith)) ∙ or-shifted-r (y % 2 ^ s) t a f in
+    let o : bitXor a (y * 2 % 2 ^ 64 * 2 ^ (63 - s) % 2 ^ 64) ≡ c + a = ap (bitXor a) (two-shifts y s t e (omega arith)) ∙ xor-comm a c ∙ xor-shifted (y % 2 ^ s) t a f in
     let m : y * 2 ^ t ≡ b * 2 ^ 64 + c =
     ap (λ (n : ℕ). n * 2 ^ t) (sym (split y s)) ∙ add-mul (b * 2 ^ s) (y % 2 ^ s) (2 ^ t) ∙ ap (λ (n : ℕ). n + c) (mul-assoc b (2 ^ s) (2 ^ t) ∙ ap (λ (n : ℕ). b * n) (sym p)) in
     let d : (x + y * 2 ^ 64) / 2 ^ s ≡ a + y * 2 ^ t =

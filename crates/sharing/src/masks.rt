@@ -105,7 +105,8 @@ fn settled(g: MaskGen) -> MaskGen
     }
 }
 
-// Lanes k and k + 1. No index here is computed, so that the compiler holds lanes and not an array, which it would copy for each draw.
+// Lanes k and k + 1. No index here is computed, so that the compiler holds lanes and not an array, which it would copy for each draw. The last arm
+// is met by no k.
 fn lanes_from(l: [u64; 25], k: usize) -> Neighbours
     requires { ⌜ k ≤ 16 ⌝ }
     ensures { λ r. ⌜ r ≡ record { low = getD l k 0; high = getD l (k + 1) 0 } ⌝ }
@@ -175,20 +176,21 @@ fn lanes_from(l: [u64; 25], k: usize) -> Neighbours
             low: l[15],
             high: l[16],
         },
-        _ => Neighbours {
+        16 => Neighbours {
             low: l[16],
             high: l[17],
         },
+        _ => Neighbours { low: 0, high: 0 },
     }
 }
 
-// The 49 bits from byte r on of two lanes.
+// The 49 bits from byte r on of two lanes. With an or it would be compiled to one shift over both, which is slower on some processors.
 fn draw_bits(x: u64, y: u64, r: usize) -> u64
     requires { ⌜ r < 8 ⌝ }
     ensures { λ d. ⌜ d ≡ (x + y * 2 ^ 64) / 2 ^ (8 * r) % 2 ^ 49 ⌝ }
 {
     let s = 8 * r;
-    (x >> s | y << 1 << (63 - s)) % 0x2_0000_0000_0000
+    (x >> s ^ y << 1 << (63 - s)) % 0x2_0000_0000_0000
 }
 
 // A draw, on values: the seven bytes at the place; with the last bytes of a block the next block.
@@ -197,19 +199,20 @@ fn step(g: MaskGen) -> Drawn
 {
     let l = g.lanes;
     let ok = g.ok;
-    let at = least(g.at, 135);
-    if at < 129 {
-        let n = lanes_from(l, at / 8);
-        let word = draw_bits(n.low, n.high, at % 8);
+    let place = g.at;
+    if place < 129 {
+        let n = lanes_from(l, place / 8);
+        let word = draw_bits(n.low, n.high, place % 8);
         return Drawn {
             word: word,
             next: MaskGen {
                 lanes: l,
-                at: at + 7,
+                at: place + 7,
                 ok: ok,
             },
         };
     }
+    let at = least(place, 135);
     let s = hash::keccak::permute(planes(l));
     let word = draw_bits(l[16], s[0][0], at % 8);
     Drawn {
@@ -248,7 +251,8 @@ fn dried(g: MaskGen) -> MaskGen
     }
 }
 
-// The next polynomial into p, and the generator behind it: draws below q until there are 512, at most 777 draws. Else p is zero and the generator dry.
+// The next polynomial into p, and the generator behind it: draws below q until there are 512, at most 777 draws. Else p is zero and the generator
+// dry. A draw is put where the next word goes, and one of q or more is written over: so no jump hangs on it.
 pub fn fill(p: &mut [u64], g: MaskGen) -> MaskGen
     requires { ⌜ length (now p) ≡ 512 ⌝ }
     ensures { λ r. ⌜ (now (p .exit) ≡ maskPoly g) × (r ≡ maskNext g) ⌝ }
@@ -269,8 +273,8 @@ pub fn fill(p: &mut [u64], g: MaskGen) -> MaskGen
         h = x.next;
         i += 1;
         let w = x.word;
+        p[k] = w;
         if w < Q {
-            p[k] = w;
             k += 1;
         }
     }

@@ -13,7 +13,7 @@ mod raw {
         pub fn bench_ntt(f: *mut u64) -> bool;
         pub fn bench_product(f: *mut u64, g: *const u64) -> bool;
         pub fn bench_sample_q(header: *const u8, seed: *const u8, seed_len: usize, out: *mut u64) -> bool;
-        pub fn bench_masks(seed: *const u8, seed_len: usize, n: u64, out: *mut u64) -> bool;
+        pub fn bench_masks(seed: *const u8, seed_len: usize, n: u32, out: *mut u64) -> bool;
         pub fn bench_check_bounds(
             hint: *const i64,
             hint_len: usize,
@@ -65,7 +65,7 @@ pub fn sample_q(header: &[u8; 8], seed: &[u8]) -> Option<Poly> {
 }
 
 /// Polynomial number `n`, from 0, of a seed's mask generator; false, and zero, where it or one before it did not fill.
-pub fn masks(seed: &[u8], n: u64, poly: &mut Poly) -> bool {
+pub fn masks(seed: &[u8], n: u32, poly: &mut Poly) -> bool {
     unsafe { raw::bench_masks(seed.as_ptr(), seed.len(), n, poly.as_mut_ptr()) }
 }
 

@@ -157,7 +157,7 @@ fn the_generator_of_the_proved_code() {
         assert_eq!(expected.len(), 101);
         for (n, expected) in expected.iter().enumerate() {
             let mut poly = [u64::MAX; N];
-            assert!(unit::masks(&seed, n as u64, &mut poly));
+            assert!(unit::masks(&seed, n as u32, &mut poly));
             assert_eq!(poly, *expected, "polynomial {n}");
         }
     }

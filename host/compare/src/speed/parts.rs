@@ -131,7 +131,7 @@ fn masks(turns: Turns) -> Best {
     const N: usize = 100;
     let (mut x, mut y) = ([0; ring::N], [0; ring::N]);
     let best = turns.best(
-        || assert!(unit::masks(black_box(&MASK_SEED), N as u64 - 1, &mut x)),
+        || assert!(unit::masks(black_box(&MASK_SEED), N as u32 - 1, &mut x)),
         || {
             let mut masks = MaskGenerator::new(Masks::Seed(black_box(&MASK_SEED)));
             for _ in 0..N {

@@ -3,7 +3,7 @@ use mathlib.Core.Bool.{false}
 use mathlib.Core.List.{[]}
 use Prim.Native.Nat.{_-_, _≤_, _<_}
 use native.Mathlib.Omega.{arith}
-use Rattle.ring.proofs.Draws.{Front, front-none, front-kept, front-left}
+use Rattle.ring.proofs.Draws.{Front, front-none, front-kept, front-over}
 use Rattle.hash.specs.Lists.{zeros}
 use Rattle.sharing.specs.Masks.{bytesAhead, maskMoved, flagged, used}
 use Rattle.sharing.proofs.Carry.{moved-none, used-none, draw-more, dry-poly, filled-poly, unfilled-poly}
@@ -55,7 +55,7 @@ loop-again-2 c =
     let i : l .loop .i < 777 = omega (arith, v .0, c .before .before .before .if2 .left) in
     let k = c .before .before .before .before .loop-test .taken in
     let t = draw-more (l .before .settled .result) (l .loop .h) _ (l .loop .p) (l .loop .i) (l .loop .k) (v .1) (c .before .before .draw-value .ensures) i (v .3) k in
-    (omega (arith, i), t .1, t .2, front-left _ [] (l .loop .p) (l .loop .i) (l .loop .k) _ (v .3) (t .0) (c .if3 .left))
+    (omega (arith, i), t .1, t .2, front-over _ [] (l .loop .p) (l .loop .i) (l .loop .k) _ (v .3) (t .0) (c .if3 .left))
 
 returns-3 : tie.Need-returns-3 Inv-loop μ-loop
 returns-3 c =
