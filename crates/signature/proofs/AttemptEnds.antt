@@ -47,9 +47,9 @@ told-over dry r xs ys f e = absurd f
 
 -- ---- one attempt that runs dry before the challenge: x is the generator behind line 7, ys the work buffer
 
-pub ended-dry : (p : Params) (P : Public) (N : Noise) (g x : MaskGen) (s ys : List ℕ) → Committed p N g (P .matrix) s x ys → x .ok ≡ false
+pub ended-dry-before : (p : Params) (P : Public) (N : Noise) (g x : MaskGen) (s ys : List ℕ) → Committed p N g (P .matrix) s x ys → x .ok ≡ false
     → (xs : List ℕ) → EndedAs p P N g s AttemptEnd.Dry xs xs ys
-ended-dry p P N g x s ys u e xs =
+ended-dry-before p P N g x s ys u e xs =
     let f : commitmentFills p P N g s ≡ false = ap (λ (h : MaskGen). h .ok) (sym (u .next)) ∙ e in
     record { told = (attempt-dry p P N g s f, refl); held = (λ h. u .begun, λ h. absurd-bool (sym h ∙ f)) }
 
@@ -75,8 +75,8 @@ module _ (p : Params) (P : Public) (N : Noise) (g : MaskGen) (s hash ys : List �
       shares-spent : Spent p P N g s ys
       shares-spent = record { key = left-key p P N g s hash ys o u ok; shares = u .shares; row = u .row }
 
-      pub ended-late : o .full ≡ false → (xs : List ℕ) → EndedAs p P N g s AttemptEnd.Dry xs xs ys
-      ended-late e xs =
+      pub ended-dry-behind : o .full ≡ false → (xs : List ℕ) → EndedAs p P N g s AttemptEnd.Dry xs xs ys
+      ended-dry-behind e xs =
           record { told = (left-dry p P N g s hash ys o u ok fills e, refl); held = (λ h. absurd-bool (sym fills ∙ h), λ h. shares-spent) }
 
       -- H is the challenge hash as lines 17 to 20 read it, r their answer, xs and zs the signature's buffer before and after

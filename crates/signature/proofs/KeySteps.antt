@@ -88,10 +88,10 @@ module _ (p : Params) (power : p .shares ≡ 2 ^ orderIndex (p .shares)) (coins 
   rows-are M x h f = image-is p (noiseOf p coins) g x power f M h
 
   -- check 20: the generator behind line 6 tells, whatever the matrix
-  masks-are : (A : List ℕ) (x y : MaskGen) → x ≡ maskedNoise p (noiseOf p coins) g .next → y ≡ skip masks (p .shares) (p .k * p .rep) x
+  key-masks-are : (A : List ℕ) (x y : MaskGen) → x ≡ maskedNoise p (noiseOf p coins) g .next → y ≡ skip masks (p .shares) (p .k * p .rep) x
       → y .ok ≡ keyMasksFill p coins g A
   unfolding keyMasksFill maskedImage seeded
-  masks-are A x y e f = ap (λ (h : MaskGen). h .ok) (f ∙ ap (skip masks (p .shares) (p .k * p .rep)) e)
+  key-masks-are A x y e f = ap (λ (h : MaskGen). h .ok) (f ∙ ap (skip masks (p .shares) (p .k * p .rep)) e)
 
   vector-is : (A W : List ℕ) → W ≡ maskedImage p (noiseOf p coins) g A .shares → roundT (totals (p .k) (p .shares) W) ≡ keyVector p coins g A
   unfolding keyVector
@@ -137,7 +137,7 @@ module _ (p : Params) (power : p .shares ≡ 2 ^ orderIndex (p .shares)) (coins 
         → (r ≡ firstNo (keygenFills p seed coins shares mask))
         × ((A X : List ℕ) → matrix p seed ≡ some A → fullShareOf p shares coins mask ≡ some X → Generated p coins g A X s₃)
     made-parts y r hy e =
-        let full-mask = masks-are (heldOr (matrix p seed) []) x y hx hy in
+        let full-mask = key-masks-are (heldOr (matrix p seed) []) x y hx hy in
         (e ∙ (λ i. firstNo ((10, key-filled i) ∷ (20, full-mask i) ∷ [])), key-made)
 
 -- ---- the calls of `make_parts`, one behind the other: s₀ is the work buffer behind `clear`, the others as above; s stands at `at`, t at `to`

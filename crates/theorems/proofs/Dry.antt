@@ -103,21 +103,21 @@ module _ (p : Params) (P : Public) where
     encodings = p .l + (p .l + p .k) * N .reps + 3 * p .l
 
     -- the generator behind line 7, and behind line 15, whatever the challenge
-    image-next : maskedImage p N g (P .matrix) .next ≡ skip masks (p .shares) (p .l + (p .l + p .k) * N .reps) g
+    commitment-next : maskedImage p N g (P .matrix) .next ≡ skip masks (p .shares) (p .l + (p .l + p .k) * N .reps) g
     unfolding maskedImage maskedNoise
-    image-next =
+    commitment-next =
         let d = p .shares in
         let r = N .reps in
         let n : p .l + p .l * r + p .k * r ≡ p .l + (p .l + p .k) * r = omega arith in
         ap (skip masks d (p .k * r)) (skip-add masks d (p .l) (p .l * r) g) ∙ skip-add masks d (p .l + p .l * r) (p .k * r) g ∙ ap (λ (m : ℕ). skip masks d m g) n
 
-    last-next : (c : List ℕ) → refreshedResponse p N g (P .matrix) s c .next ≡ skip masks (p .shares) encodings g
+    response-next : (c : List ℕ) → refreshedResponse p N g (P .matrix) s c .next ≡ skip masks (p .shares) encodings g
     unfolding refreshedResponse refreshedNoise refreshedKey
-    last-next c =
+    response-next c =
         let d = p .shares in
         let m = p .l + (p .l + p .k) * N .reps in
         let n : m + p .l + p .l + p .l ≡ encodings = omega arith in
-        ap (λ (h : MaskGen). skip masks d (p .l) (skip masks d (p .l) (skip masks d (p .l) h))) image-next
+        ap (λ (h : MaskGen). skip masks d (p .l) (skip masks d (p .l) (skip masks d (p .l) h))) commitment-next
         ∙ ap (λ (h : MaskGen). skip masks d (p .l) (skip masks d (p .l) h)) (skip-add masks d m (p .l) g)
         ∙ ap (skip masks d (p .l)) (skip-add masks d (m + p .l) (p .l) g)
         ∙ skip-add masks d (m + p .l + p .l) (p .l) g
@@ -125,7 +125,7 @@ module _ (p : Params) (P : Public) where
 
     module _ (fill : skip masks (p .shares) encodings g .ok ≡ true) where
       response-fills : (c : List ℕ) → refreshedResponse p N g (P .matrix) s c .next .ok ≡ true
-      response-fills c = ap (λ (h : MaskGen). h .ok) (last-next c) ∙ fill
+      response-fills c = ap (λ (h : MaskGen). h .ok) (response-next c) ∙ fill
 
       commitment-fills : maskedImage p N g (P .matrix) .next .ok ≡ true
       unfolding refreshedResponse refreshedNoise refreshedKey
@@ -161,14 +161,14 @@ module _ (p : Params) (P : Public) (T : Coins) where
     pub unfilled : skip masks (p .shares) (p .l + (p .l + p .k) * noiseAt p T b .reps + 3 * p .l) (maskAt T b) .ok ≡ false
 
   -- by the end of attempt number a + 1; A is what those behind it give
-  ended-dry : (left a : ℕ) (s : List ℕ) (t : Attempted) (A : Outcome) → attempted p P (noiseAt p T a) (maskAt T a) s ≡ t
+  ran-ended : (left a : ℕ) (s : List ℕ) (t : Attempted) (A : Outcome) → attempted p P (noiseAt p T a) (maskAt T a) s ≡ t
       → (A .status ≡ 20 → (b : ℕ) × Ran left (suc a) A b) → ended a t A .status ≡ 20 → (b : ℕ) × Ran (suc left) a (ended a t A) b
-  ended-dry left a s (made b) A f g h = absurd (omega arith)
-  ended-dry left a s over A f g h =
+  ran-ended left a s (made b) A f g h = absurd (omega arith)
+  ran-ended left a s over A f g h =
       let r = g h in
       (r .0, record { from = omega (arith, r .1 .from); allowed = omega (arith, r .1 .allowed); reported = r .1 .reported; unfilled = r .1 .unfilled })
-  ended-dry left a s stuck A f g h = absurd (omega arith)
-  ended-dry left a s dry A f g h = (
+  ran-ended left a s stuck A f g h = absurd (omega arith)
+  ran-ended left a s dry A f g h = (
     a,
     record {
       from = omega arith;
@@ -183,7 +183,7 @@ module _ (p : Params) (P : Public) (T : Coins) where
   ran-dry zero a s e = absurd (omega arith)
   ran-dry (suc left) a s e =
       let t = refreshedKey p (noiseAt p T a) (maskAt T a) (P .matrix) s .shares in
-      ended-dry left a s (attempted p P (noiseAt p T a) (maskAt T a) s) (signFrom p P T left (suc a) t) refl (ran-dry left (suc a) t) e
+      ran-ended left a s (attempted p P (noiseAt p T a) (maskAt T a) s) (signFrom p P T left (suc a) t) refl (ran-dry left (suc a) t) e
 
 -- no check before the attempts has a number above 10
 LowNumbers : List (ℕ × Bool) → Type 0
@@ -266,7 +266,7 @@ module _ (p : Params) (P : Public) (N : Noise) (seed s : List ℕ) (n : ℕ) (fe
   pub dry-before : n < masksBefore p N → attempted p P N g s ≡ dry
   dry-before l =
       attempt-dry p P N g s
-      (ap (λ (h : MaskGen). h .ok) (image-next p P N g s) ∙ encodings-dry (p .l + (p .l + p .k) * N .reps) l)
+      (ap (λ (h : MaskGen). h .ok) (commitment-next p P N g s) ∙ encodings-dry (p .l + (p .l + p .k) * N .reps) l)
 
   -- Drawn anywhere in it: with 20, or with 11 where the challenge does not fill.
   pub dry-behind : n < masksInAll p N → (attempted p P N g s ≡ dry) ⊎ (attempted p P N g s ≡ stuck)
@@ -279,7 +279,7 @@ module _ (p : Params) (P : Public) (N : Noise) (seed s : List ℕ) (n : ℕ) (fe
       go true f (some c) e =
           inl
           (attempt-late p P N g s f c e
-          (ap (λ (h : MaskGen). h .ok) (last-next p P N g s (residues q c)) ∙ encodings-dry (p .l + (p .l + p .k) * N .reps + 3 * p .l) l))
+          (ap (λ (h : MaskGen). h .ok) (response-next p P N g s (residues q c)) ∙ encodings-dry (p .l + (p .l + p .k) * N .reps + 3 * p .l) l))
 
 -- A dry attempt ends the call with 20 and is reported, whatever attempts are left.
 pub dry-ends : (p : Params) (P : Public) (T : Coins) (left a : ℕ) (s : List ℕ) → attempted p P (noiseAt p T a) (maskAt T a) s ≡ dry

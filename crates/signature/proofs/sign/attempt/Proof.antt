@@ -9,7 +9,7 @@ use borrow.Author.Tests.{not-true, not-false}
 use borrow.Rule.Slice.PartMut.{mid-len}
 use Rattle.sharing.specs.declared.masks.MaskGen.{MaskGen}
 use Rattle.signature.specs.Sign.{publicBy, noiseAt, maskAt}
-use Rattle.signature.proofs.AttemptEnds.{hash-long, commitment-low, ended-dry, ended-stuck, ended-late, ended-made, ended-over}
+use Rattle.signature.proofs.AttemptEnds.{hash-long, commitment-low, ended-dry-before, ended-stuck, ended-dry-behind, ended-made, ended-over}
 use Rattle.signature.proofs.Fronts.{front-in, front-is}
 use Rattle.ring.specs.Rns.{wordsOf}
 use borrow.Author.Needs.{needs}
@@ -26,7 +26,7 @@ returns c =
     let s = keyIn p (b .work .now) in
     let P = publicBy p (b .vk .now) (b .mu .now) (matrixIn p (wordsOf (b .a .now))) in
     let z = c .before .before .before .before .commit .ensures in
-    ((z .0, z .1), ended-dry p P N g _ s _ (z .2) (not-true _ (c .if1 .taken)) (b .out .now))
+    ((z .0, z .1), ended-dry-before p P N g _ s _ (z .2) (not-true _ (c .if1 .taken)) (b .out .now))
 
 part-hash-end : tie.Need-part-hash-end
 part-hash-end c = omega (arith, c .before .before .before .before .before .before .before .before .before .before .before .before .before .before .before .before .pre .0 .0 .hash-low)
@@ -68,7 +68,7 @@ returns-3 c =
     let u = v .1 N g (matrixIn p (wordsOf (b .a .now))) s (z .2) in
     let full = ap (λ (h : MaskGen). h .ok) (sym (z .2 .next)) ∙ not-false _ (c .before .before .before .before .before .before .before .before .before .before .before .if1 .left) in
     let ok = not-false _ (c .before .before .if2 .left) in
-    ((v .0 .0 ∙ z .0, v .0 .1), ended-late p P N g s _ _ _ u full ok (not-true _ (c .if3 .taken)) (b .out .now))
+    ((v .0 .0 ∙ z .0, v .0 .1), ended-dry-behind p P N g s _ _ _ u full ok (not-true _ (c .if3 .taken)) (b .out .now))
 
 part-finish-end : tie.Need-part-finish-end
 part-finish-end c =
