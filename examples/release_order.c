@@ -1,7 +1,8 @@
 /*
  * A release order, signed and verified.
  *
- * A newcomer's tour of raccoon.h: make a key, expand it, sign an order, verify it, and see what the verifier says when a byte is changed.
+ * A newcomer's tour of raccoon.h: ask what signing takes, make a key, expand it, sign an order, verify it, and see what the verifier says when a
+ * byte is changed.
  *
  *     gcc -std=c99 -Wall -Wextra -Werror -Iinclude examples/release_order.c target/staticlib/libcapi.a -o release_order
  */
@@ -91,10 +92,27 @@ static void verdict(const char *what, const char *order, size_t signature_length
     }
 }
 
+/*
+ * Asks the unit what signing takes, and compares our arrays with that: a header that is not of this library is found before a seed is drawn. A
+ * program that learns set and share count only when it runs allocates by these numbers.
+ */
+static void check_lengths(void)
+{
+    struct raccoon_signing_lengths lengths = raccoon_lengths(SET, SHARES, ATTEMPTS);
+    expect_ok("raccoon_lengths", lengths.status);
+    if (lengths.noise_seed_bytes != sizeof noise_seeds || lengths.mask_seed_bytes != sizeof mask_seeds || lengths.work_words != WORDS(work)) {
+        fprintf(stderr, "raccoon.h is not of this library\n");
+        exit(1);
+    }
+    printf("signing takes %zu bytes of noise seeds, %zu of mask seeds, %zu words of work\n", sizeof noise_seeds, sizeof mask_seeds, WORDS(work));
+}
+
 int main(void)
 {
     char order[] = "Release order 17: gate 3, from 06:00 to 06:30.";
     uint8_t mask_seed[RACCOON_MASK_SEED_BYTES];
+
+    check_lengths();
 
     /* 1. Make a key. Its front is the public key, which everyone may have. The rest is secret. */
     fill_random(keygen_seeds, sizeof keygen_seeds);

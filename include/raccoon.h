@@ -3,7 +3,7 @@
  *
  * What holds for every call:
  *
- *  - A buffer is lent as a pointer and a length. Lengths count elements: bytes (uint8_t, int8_t) or words (uint64_t). Every pointer must
+ *  - A buffer is lent as a pointer and a length. Lengths count elements: bytes (uint8_t, int8_t) or words (uint64_t, int64_t). Every pointer must
  *    lead to that many elements, aligned for their type; with length 0 it is not followed and may be NULL. A buffer that a call writes must
  *    not overlap any other buffer of that call. These are all the duties of a caller: contents, lengths and numbers may be of any kind.
  *  - A call puts its checks in the order named with it. The first check whose answer is no decides: its number is the status. 0 is yes to
@@ -51,7 +51,8 @@ enum raccoon_status {
 
 /* ---- Sizes ----
  *
- * Each macro is a constant expression where its arguments are. For sets and share counts outside the lists above they mean nothing.
+ * Each macro is a constant expression where its arguments are, as a static array needs it. For sets and share counts outside the lists above
+ * they mean nothing. What a signing call takes, raccoon_lengths tells too, from numbers of any kind.
  *
  *   set   k  l   public key   expanded key   signature   a seed
  *                     bytes          bytes       bytes    bytes
@@ -171,6 +172,25 @@ uint32_t raccoon_refresh_key(uint32_t set, uint32_t shares, const uint8_t *bytes
 /* ---- Signing ---- */
 
 /*
+ * What a signing call from seeds takes, for all its attempts. With a refusal the three numbers are 0.
+ */
+struct raccoon_signing_lengths {
+    uint32_t status;
+    uint64_t noise_seed_bytes; /* attempts x RACCOON_NOISE_SEED_BYTES(set, shares) */
+    uint64_t mask_seed_bytes;  /* attempts x RACCOON_MASK_SEED_BYTES */
+    uint64_t work_words;       /* RACCOON_WORK_WORDS(set, shares) */
+};
+
+/*
+ * Tells what raccoon_sign, raccoon_sign_expanded and raccoon_kat_sign take of this set, share count and number of attempts.  Checks 1, 2, 6.
+ *
+ * A signing call with just these lengths, and RACCOON_SIGNATURE_BYTES(set) for the signature, passes checks 7 and 8. With any other length of
+ * one of the four it does not. Mask seeds and work buffer are the same with explicit noise; key generation takes the same work buffer, and for
+ * its noise seeds what one attempt takes.
+ */
+struct raccoon_signing_lengths raccoon_lengths(uint32_t set, uint32_t shares, uint32_t attempts);
+
+/*
  * What signing returns. attempts is, with status 0, the number of the first attempt that passed (from 1); with 12 all allowed attempts; with
  * 11 and 20 the attempt that met it; with any other status 0.
  */
@@ -242,6 +262,28 @@ struct raccoon_signed raccoon_sign_expanded_explicit(uint32_t set, uint32_t shar
  */
 uint32_t raccoon_verify(uint32_t set, const uint8_t *public_key, size_t public_key_len, const uint8_t *message, size_t message_len,
                         const uint8_t *signature, size_t signature_len);
+
+/* ---- The length of a signature ---- */
+
+/* How many bits a signature has before it is filled with zeros. With a refusal the number is 0. */
+struct raccoon_bits {
+    uint32_t status;
+    uint64_t bits;
+};
+
+/*
+ * Counts the bits that the writer makes of a challenge hash of the set, a hint and a response.  Checks 1, 13, here: are hint and response
+ * exactly k and l polynomials long? Writes nothing.
+ *
+ * Reads   hint        RACCOON_N x RACCOON_K(set) signed bytes of any value
+ *         response    RACCOON_N x RACCOON_L(set) signed words of any value
+ *
+ * The number is exact, whatever the values. The largest, at set 256 with all values the least of their types, is 30065521152.
+ *
+ * The writer gives a signature exactly where the number is not above 8 x RACCOON_SIGNATURE_BYTES(set), and fills what is left with zeros. An
+ * attempt that passes the bounds is over for its length exactly where it is above. Whether fields pass the bounds is not asked here.
+ */
+struct raccoon_bits raccoon_signature_bits(uint32_t set, const int8_t *hint, size_t hint_len, const int64_t *response, size_t response_len);
 
 /* ---- The samplers over lent bytes ---- */
 

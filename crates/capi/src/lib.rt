@@ -1,5 +1,6 @@
 // The unit's calls for C: one export for each call of paper 01, with the contract of the function behind it.
 ghost use mathlib.Core.Path.{_≡_};
+ghost use Prim.Native.Nat.{_≤_};
 ghost use Rattle.hash.specs.declared.params.Edition.{Edition};
 ghost use Rattle.ring.specs.Uniform.{sampledOf};
 ghost use Rattle.signature.specs.Challenge.{sampledChallenge};
@@ -9,7 +10,11 @@ ghost use Rattle.signature.specs.Outcome.{outcome, signing};
 ghost use Rattle.signature.specs.Sign.{fromSeeds, fromNoise};
 ghost use Rattle.signature.specs.SignCalls.{packed, expanded, signCall};
 ghost use Rattle.signature.specs.Verify.{verifyCall};
+ghost use Rattle.sizes.specs.Count.{signatureBitsCall};
+ghost use Rattle.sizes.specs.Lengths.{lengthsCall};
 use signature::sign::Signed;
+use sizes::count::CountedBits;
+use sizes::lengths::SigningLengths;
 
 // Key generation (01: key making): checks 1, 2, 7, 8 and 10.
 #[no_mangle]
@@ -349,4 +354,21 @@ pub extern "C" fn raccoon_sample_challenge(
     ensures { λ r. ⌜ (r, now («signed_bytes_out» .exit)) ≡ sampledChallenge set (now (bytes .entry)) (now («signed_bytes_out» .entry)) ⌝ }
 {
     signature::challenge::sample_challenge(set as u64, bytes, signed_bytes_out)
+}
+
+// What a signing call takes (02, #103): checks 1, 2 and 6. Status, bytes of noise seeds and mask seeds, words of the work buffer.
+#[no_mangle]
+pub extern "C" fn raccoon_lengths(set: u32, shares: u32, attempts: u32) -> SigningLengths
+    ensures { λ r. ⌜ r ≡ lengthsCall set shares attempts ⌝ }
+{
+    sizes::lengths::lengths(set as u64, shares as u64, attempts as u64)
+}
+
+// How many bits the fields of a signature take (02, #103): checks 1 and 13. Status and bits.
+#[no_mangle]
+pub extern "C" fn raccoon_signature_bits(set: u32, hint: &[i8], response: &[i64]) -> CountedBits
+    ensures { λ r. ⌜ r ≡ signatureBitsCall set (now (hint .entry)) (now (response .entry)) ⌝ }
+    ensures { λ r. ⌜ r .bits ≤ 30065521152 ⌝ }
+{
+    sizes::count::signature_bits(set as u64, hint, response)
 }

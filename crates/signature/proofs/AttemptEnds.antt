@@ -50,7 +50,7 @@ told-over dry r xs ys f e = absurd f
 pub ended-dry-before : (p : Params) (P : Public) (N : Noise) (g x : MaskGen) (s ys : List ℕ) → Committed p N g (P .matrix) s x ys → x .ok ≡ false
     → (xs : List ℕ) → EndedAs p P N g s AttemptEnd.Dry xs xs ys
 ended-dry-before p P N g x s ys u e xs =
-    let f : commitmentFills p P N g s ≡ false = ap (λ (h : MaskGen). h .ok) (sym (u .next)) ∙ e in
+    let f : commitmentFills p P N g ≡ false = ap (λ (h : MaskGen). h .ok) (sym (u .next)) ∙ e in
     record { told = (attempt-dry p P N g s f, refl); held = (λ h. u .begun, λ h. absurd-bool (sym h ∙ f)) }
 
 -- ---- one attempt behind it: o is the reply, ys the work buffer behind line 16
@@ -66,7 +66,7 @@ module _ (p : Params) (P : Public) (N : Noise) (g : MaskGen) (s hash ys : List �
       let w = commitmentOf p N g (P .matrix) in
       subst (Below 31) (sym (u .commitment)) (rounded-residues 44 31 (length w) (lit< tt) w refl .low)
 
-  module _ (fills : commitmentFills p P N g s ≡ true) where
+  module _ (fills : commitmentFills p P N g ≡ true) where
     pub ended-stuck : o .challenge .ok ≡ false → (xs : List ℕ) → EndedAs p P N g s AttemptEnd.Stuck xs xs ys
     ended-stuck e xs = record { told = (left-stuck p P N g s hash ys o u fills e, refl); held = left-idle p P N g s hash ys o u e }
 

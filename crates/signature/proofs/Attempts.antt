@@ -155,11 +155,11 @@ abbrev pub fieldsFor : Params → Public → Noise → MaskGen → List ℕ → 
 fieldsFor p P N g s c =
     signedFields p P (roundW (commitmentOf p N g (P .matrix))) (hashOf p N g (P .matrix) (P .mu)) (totals (p .l) (p .shares) (refreshedResponse p N g (P .matrix) s (residues q c) .shares)) c
 
-module _ (p : Params) (P : Public) (N : Noise) (g : MaskGen) (s : List ℕ) where
-  -- did the masks fill before the challenge; with the challenge polynomial c, behind it?
-  abbrev pub commitmentFills : Bool
-  commitmentFills = maskedImage p N g (P .matrix) .next .ok
+-- did the masks fill before the challenge; with the challenge polynomial c, behind it?
+abbrev pub commitmentFills : Params → Public → Noise → MaskGen → Bool
+commitmentFills p P N g = maskedImage p N g (P .matrix) .next .ok
 
+module _ (p : Params) (P : Public) (N : Noise) (g : MaskGen) (s : List ℕ) where
   abbrev pub responseFills : List ℤ → Bool
   responseFills c = refreshedResponse p N g (P .matrix) s (residues q c) .next .ok
 
@@ -170,11 +170,11 @@ module _ (p : Params) (P : Public) (N : Noise) (g : MaskGen) (s : List ℕ) wher
   at-challenge o = challenged p P (roundW (commitmentOf p N g (P .matrix))) (hashOf p N g (P .matrix) (P .mu)) zs o
 
   -- check 20 before the challenge
-  pub attempt-dry : commitmentFills ≡ false → attempted p P N g s ≡ dry
+  pub attempt-dry : commitmentFills p P N g ≡ false → attempted p P N g s ≡ dry
   unfolding attempted concluded
   attempt-dry e = ap (λ (b : Bool). concluded p P (pick b (some (commitmentOf p N g (P .matrix))) none) zs) e
 
-  module _ (filled : commitmentFills ≡ true) where
+  module _ (filled : commitmentFills p P N g ≡ true) where
     attempt-asks : attempted p P N g s ≡ at-challenge (chalPoly p (hashOf p N g (P .matrix) (P .mu)))
     unfolding attempted concluded
     attempt-asks = ap (λ (b : Bool). concluded p P (pick b (some (commitmentOf p N g (P .matrix))) none) zs) filled
@@ -212,7 +212,7 @@ module _ (p : Params) (P : Public) (N : Noise) (g : MaskGen) (s hash ys : List �
   chal-there : o .challenge .ok ≡ false → chalPoly p (hashOf p N g (P .matrix) (P .mu)) ≡ none
   chal-there e = chal-none (chalPoly p (hashOf p N g (P .matrix) (P .mu))) (sym (ap (λ (x : Challenged). x .ok) (u .challenge-is)) ∙ e)
 
-  pub left-stuck : commitmentFills p P N g s ≡ true → o .challenge .ok ≡ false → attempted p P N g s ≡ stuck
+  pub left-stuck : commitmentFills p P N g ≡ true → o .challenge .ok ≡ false → attempted p P N g s ≡ stuck
   left-stuck f e = attempt-stuck p P N g s f (chal-there e)
 
   pub left-idle : o .challenge .ok ≡ false → Begun p N g s ys
@@ -224,11 +224,11 @@ module _ (p : Params) (P : Public) (N : Noise) (g : MaskGen) (s hash ys : List �
         chal-some (chalPoly p (hashOf p N g (P .matrix) (P .mu))) (sym (ap (λ (x : Challenged). x .ok) (u .challenge-is)) ∙ e)
         ∙ ap (λ (x : Challenged). some (x .poly)) (sym (u .challenge-is))
 
-    pub left-dry : commitmentFills p P N g s ≡ true → o .full ≡ false → attempted p P N g s ≡ dry
+    pub left-dry : commitmentFills p P N g ≡ true → o .full ≡ false → attempted p P N g s ≡ dry
     left-dry f d = attempt-late p P N g s f (o .challenge .poly) chal-is (sym (u .masks-are (o .challenge .poly) chal-is) ∙ d)
 
     -- what is left to do is lines 17 to 20
-    pub left-on : commitmentFills p P N g s ≡ true → o .full ≡ true
+    pub left-on : commitmentFills p P N g ≡ true → o .full ≡ true
         → attempted p P N g s
         ≡ finished p (signedFields p P (span ys (atT (p .l) (p .shares)) (p .k * 512)) hash (span ys (atX (p .k) (p .l) (p .shares)) (p .l * 512)) (o .challenge .poly))
     left-on f d =

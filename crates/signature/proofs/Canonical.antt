@@ -10,12 +10,12 @@ use lib.Dec.{lit<, leb}
 use lib.IntN.{ℤ}
 use lib.ListN.{length, getD, take, drop, replicate, length-append, length-replicate, take-append-drop}
 use lib.Seq.{take-at, drop-at, length-take-le}
-use borrow.Author.Tests.{le-leb, lt-leb, leb-true}
+use borrow.Author.Tests.{le-leb, lt-leb, leb-true, leb-false}
 use Rattle.hash.specs.Lists.{pick, Bytes}
 use Rattle.hash.specs.declared.params.Params.{Params}
 use Rattle.signature.specs.Bits.{bitsOf, valOf, bitString, chop}
-use Rattle.signature.specs.Code.{code, codes, codesBits}
-use Rattle.signature.specs.Form.{Fields, hashBytes, formBits, bitCount, withFill, write, readBoth, read}
+use Rattle.signature.specs.Code.{code, codes}
+use Rattle.signature.specs.Form.{Fields, hashBytes, formBits, signatureBits, bitCount, withFill, write, readBoth, read}
 use Rattle.signature.specs.AnswerSteps.{fieldsOf, allZero}
 use Rattle.signature.proofs.Strings.{Bits, bits-drop, bits-join, fields-bits, length-bits, length-fields}
 use Rattle.signature.proofs.Packing.{val-bits, chop-fields, fields-append, length-chop, fields-chop, bytes-lt}
@@ -58,7 +58,7 @@ chop-front w (x ∷ xs) r h =
 -- ---- the writer
 
 -- the count, as the code makes it
-pub count-is : (c : List ℕ) (h z : List ℤ) → 8 * length c + (codesBits 0 h + codesBits 40 z) ≡ bitCount (fieldsOf c h z)
+pub count-is : (c : List ℕ) (h z : List ℤ) → signatureBits (length c) h z ≡ bitCount (fieldsOf c h z)
 unfolding bitCount
 count-is c h z = refl
 
@@ -70,6 +70,16 @@ module _ (p : Params) (f : Fields) where
   pub write-none : 8 * p .«sig_bytes» < bitCount f → write p f ≡ none
   unfolding write
   write-none h = rw (lt-leb _ _ h)
+
+  -- none only there
+  pub none-long : write p f ≡ none → 8 * p .«sig_bytes» < bitCount f
+  unfolding write
+  none-long e = go (leb (bitCount f) (8 * p .«sig_bytes»)) refl e
+    where
+      go : (d : Bool) → leb (bitCount f) (8 * p .«sig_bytes») ≡ d → pick d (some (chop 8 (p .«sig_bytes») (withFill f (p .«sig_bytes»)))) none ≡ none
+          → 8 * p .«sig_bytes» < bitCount f
+      go true d e = let x : _≡_ {A = ℕ} 0 1 = cc in absurd (omega arith)
+      go false d e = leb-false (bitCount f) (8 * p .«sig_bytes») d
 
 module _ (p : Params) (f : Fields) (b : List ℕ) where
   pub write-some : write p f ≡ some b → (bitCount f ≤ 8 * p .«sig_bytes») × (b ≡ chop 8 (p .«sig_bytes») (withFill f (p .«sig_bytes»)))
@@ -212,6 +222,10 @@ module _ (p : Params) (b : List ℕ) (f : Fields) (size : hashBytes p ≤ length
 pub read-canonical : (p : Params) (b : List ℕ) (f : Fields) → Bytes b → length b ≡ p .«sig_bytes» → hashBytes p ≤ length b → read p b ≡ some f
     → (allZero (drop (bitCount f) (bitString 8 b)) ≡ true → write p f ≡ some b) × (write p f ≡ some b → allZero (drop (bitCount f) (bitString 8 b)) ≡ true)
 read-canonical p b f byte long size e = let r = read-found p b f e in (zero-canonical p b f size r long byte, canonical-zero p b f size r long)
+
+-- fields that were read take no more bits than were there (02, #103)
+pub read-fits : (p : Params) (b : List ℕ) (f : Fields) → hashBytes p ≤ length b → read p b ≡ some f → bitCount f ≤ 8 * length b
+read-fits p b f size e = omega (arith, counted p b f size (read-found p b f e))
 
 -- what is read has the set's sizes
 bytes-take : (n : ℕ) (xs : List ℕ) → Bytes xs → Bytes (take n xs)

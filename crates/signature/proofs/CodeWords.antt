@@ -3,13 +3,13 @@ use Prim.Native.Nat.{ℕ, zero, suc, _+_, _*_, _-_, _/_, _%_, _^_, _≤_, _<_}
 use mathlib.Core.Path.{_≡_, refl, sym, ap, _∙_}
 use mathlib.Core.List.{List, _∷_, _++_}
 use native.Mathlib.Omega.{arith}
-use native.Mathlib.Nat.{mod-lt, mod-eq-of-lt, pow-suc, mul-assoc, mul-comm, add-mul, one-mul}
+use native.Mathlib.Nat.{mod-eq-of-lt, pow-suc, mul-assoc, mul-comm, add-mul, one-mul}
 use lib.Dec.{lit<}
 use lib.IntN.{ℤ, pos, negsuc, natAbs}
 use lib.ListN.{length, getD, take, replicate, length-replicate}
 use lib.Arith.{digits-lt}
 use lib.Seq.{sets}
-use lib.Pow.{shl-exact, ones-lt, pow-pos, pow-add, pow-mono, split}
+use lib.Pow.{shl-exact, ones-lt, pow-pos, pow-add, pow-mono}
 use Rattle.signature.specs.Bits.{bitsOf, valOf}
 use Rattle.signature.specs.Code.{signs, negOf, codeOf, code, codes, codeBits}
 use Rattle.signature.proofs.Strings.{length-bits, sets-append, bits-val, val-lt, bits-cat}
@@ -136,11 +136,3 @@ module _ (w : ℕ) (zs : List ℤ) (i : ℕ) (h : i < length zs) (z : ℤ) (is-z
 
   pub turn-slow : (B′ B″ : List ℕ) → B′ ≡ sets B p (bitsOf have held) → B″ ≡ sets B′ (p + have) (code w z) → B″ ≡ sets F at (codes w (take (i + 1) zs))
   turn-slow B′ B″ e f = after-held B″ (f ∙ ap (λ (l : List ℕ). sets l (p + have) (code w z)) e)
-
--- a code that lies in 2 ^ 20 bits is that of a number below 2 ^ 62
-pub mag-room : (w : ℕ) (z : ℤ) → w ≤ 40 → length (code w z) < 2 ^ 20 → natAbs z < 2 ^ 62
-mag-room w z h l =
-    let m = natAbs z in
-    let e = code-length w m (negOf z) in
-    let q : m / 2 ^ w < 2 ^ 20 = omega arith in
-    omega (arith, split m w, digits-lt q (mod-lt m (pow-pos w)), pow-add 2 20 w, pow-mono {i = 20 + w} {j = 60} (omega arith))

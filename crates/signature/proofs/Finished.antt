@@ -23,10 +23,12 @@ use Rattle.signature.proofs.Centred.{length-centred, centred-low}
 
 -- the numbers of hint and response are small, so that they can be measured, counted and written
 module _ (w y : List ℕ) {h : List ℤ} (e : h ≡ hintOf w y) where
-  pub hint-small : Below 31 w → (i : ℕ) → natAbs (getD h i (pos 0)) < 2 ^ 50
+  pub hint-low : Below 31 w → (i : ℕ) → natAbs (getD h i (pos 0)) ≤ 31
   unfolding hintOf
-  hint-small b i =
-      rw e (omega (arith, centred-low 31 (zipTo sub31 w (roundW y)) (below-zip 31 sub31 (λ (u v : ℕ). mod-lt (u + (31 - v)) (lit< tt)) w (roundW y) b) i))
+  hint-low b i = rw e (centred-low 31 (zipTo sub31 w (roundW y)) (below-zip 31 sub31 (λ (u v : ℕ). mod-lt (u + (31 - v)) (lit< tt)) w (roundW y) b) i)
+
+  pub hint-small : Below 31 w → (i : ℕ) → natAbs (getD h i (pos 0)) < 2 ^ 50
+  hint-small b i = omega (arith, hint-low b i)
 
   pub hint-length : length h ≡ length w
   unfolding hintOf

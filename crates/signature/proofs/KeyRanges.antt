@@ -1,9 +1,9 @@
 -- The ranges of the parameters, and the sizes of key generation below 2^32.
-use Prim.Native.Nat.{ℕ, _+_, _-_, _*_, _/_, _^_, _≤_, _<_}
-use mathlib.Core.Path.{_≡_, sym, ap}
+use Prim.Native.Nat.{_+_, _-_, _*_, _/_, _^_, _≤_, _<_}
 use native.Mathlib.Omega.{arith}
 use native.Mathlib.Nat.{mul-le-mul}
 use Rattle.hash.specs.declared.params.Params.{Params}
+use Rattle.sharing.specs.Noise.{noiseBytes}
 use Rattle.sharing.proofs.NoisePlaces.{noise-bytes}
 use Rattle.signature.specs.Keys.{keygenBytes}
 use Rattle.signature.specs.Table.{Tabled}
@@ -25,26 +25,11 @@ module _ (p : Params) (r : Tabled p) where
   share-seeds-le : (p .shares - 1) * (p .kappa / 8) ≤ 1024
   share-seeds-le = let b : p .shares - 1 ≤ 32 = omega (arith, r .shares-low) in omega (arith, mul-le-mul b seed-le)
 
-  pub shares-fit : (p .l + p .k) * p .shares < 2 ^ 64
-  shares-fit = omega (arith, shares-le)
+  pub front-fit : p .kappa / 8 + noiseBytes p < 2 ^ 64
+  front-fit = omega (arith, noise-bytes p, noise-le, seed-le)
 
-  pub seeds-fit : (p .l + p .k) * p .shares * p .rep < 2 ^ 64
-  seeds-fit = omega (arith, seeds-le)
-
-  pub noise-fit : (p .l + p .k) * p .shares * p .rep * (p .kappa / 8) < 2 ^ 64
-  noise-fit = omega (arith, noise-le)
-
-  pub front-fit : p .kappa / 8 + (p .l + p .k) * p .shares * p .rep * (p .kappa / 8) < 2 ^ 64
-  front-fit = omega (arith, noise-le, seed-le)
-
-  pub share-seeds-fit : (p .shares - 1) * (p .kappa / 8) < 2 ^ 64
-  share-seeds-fit = omega (arith, share-seeds-le)
-
-  pub bytes-fit : p .kappa / 8 + (p .l + p .k) * p .shares * p .rep * (p .kappa / 8) + (p .shares - 1) * (p .kappa / 8) < 2 ^ 64
-  bytes-fit = omega (arith, noise-le, seed-le, share-seeds-le)
-
-  pub bytes-are : p .kappa / 8 + (p .l + p .k) * p .shares * p .rep * (p .kappa / 8) + (p .shares - 1) * (p .kappa / 8) ≡ keygenBytes p
-  bytes-are = ap (λ (n : ℕ). p .kappa / 8 + n + (p .shares - 1) * (p .kappa / 8)) (sym (noise-bytes p))
+  pub bytes-fit : keygenBytes p < 2 ^ 64
+  bytes-fit = omega (arith, noise-bytes p, noise-le, seed-le, share-seeds-le)
 
   columns-le : 2 * p .l * p .shares ≤ 448
   columns-le = let a : 2 * p .l ≤ 14 = omega (arith, r .columns-low) in omega (arith, mul-le-mul a (r .shares-low))

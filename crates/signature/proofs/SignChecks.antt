@@ -2,7 +2,7 @@
 use mathlib.Core.Path.{_≡_, refl, sym, ap, _∙_}
 use mathlib.Core.Bool.{Bool, true, false}
 use mathlib.Core.List.{List, [], _∷_, _++_}
-use Prim.Native.Nat.{ℕ, _+_, _*_, _/_, _≤_}
+use Prim.Native.Nat.{ℕ, _+_, _*_, _≤_}
 use borrow.Author.Tests.{leb-true, eq-eqb, ne-eqb}
 use lib.Dec.{eqb, leb}
 use lib.ListN.{length}
@@ -11,7 +11,6 @@ use Rattle.hash.specs.declared.params.Selected.{Selected}
 use Rattle.ring.specs.Words.{q, allBelow}
 use Rattle.ring.proofs.Checks.{absurd-bool, asked, no-before, yes-before, yes-both, both-true, left-no, right-no, both-last}
 use Rattle.sharing.specs.Noise.{noiseBytes}
-use Rattle.sharing.proofs.NoisePlaces.{noise-bytes}
 use Rattle.signature.specs.AttemptSteps.{coinsOf}
 use Rattle.signature.specs.Checks.{firstNo, both, attemptsAllowed, signBuffersSized, messageSized, workWords, keySized, keyGood, sharesGood, keyChecks}
 use Rattle.signature.specs.Keys.{vkSeed, publicOf, sharesOf}
@@ -53,11 +52,8 @@ module _ (p : Params) (n : ℕ) (seeds noise masks : List ℕ) where
         ∙ ap (both (allBelow q noise)) (eq-eqb (length masks) (n * 32) m) ∙ both-last (allBelow q noise))
     coins-words false e h = absurd-bool (sym e)
 
-    pub coins-seeds : (x : Bool) → x ≡ false
-        → eqb (length seeds) (n * ((p .l + p .k) * p .shares * p .rep * (p .kappa / 8))) ≡ coinsGood p n (coinsOf x seeds noise masks)
-    coins-seeds false e =
-        let a = eqb (length seeds) (n * noiseBytes p) in
-        ap (λ (x : ℕ). eqb (length seeds) (n * x)) (sym (noise-bytes p)) ∙ sym (ap (both a) (eq-eqb (length masks) (n * 32) m) ∙ both-last a)
+    pub coins-seeds : (x : Bool) → x ≡ false → eqb (length seeds) (n * noiseBytes p) ≡ coinsGood p n (coinsOf x seeds noise masks)
+    coins-seeds false e = let a = eqb (length seeds) (n * noiseBytes p) in sym (ap (both a) (eq-eqb (length masks) (n * 32) m) ∙ both-last a)
     coins-seeds true e = absurd-bool e
 
 -- ---- what passing gives

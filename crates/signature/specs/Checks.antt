@@ -68,11 +68,18 @@ maskSeedSized mask = eqb (length mask) 32
 abbrev pub keygenSeedsSized : Params → List ℕ → List ℕ → Bool
 keygenSeedsSized p seeds mask = both (eqb (length seeds) (keygenBytes p)) (maskSeedSized mask)
 
+-- .. of n attempts (02, #103 tells these beforehand)
+abbrev pub noiseSeedBytes : Params → ℕ → ℕ
+noiseSeedBytes p n = n * noiseBytes p
+
+abbrev pub maskSeedBytes : ℕ → ℕ
+maskSeedBytes n = n * 32
+
 abbrev pub signSeedsSized : Params → ℕ → List ℕ → List ℕ → Bool
-signSeedsSized p n noise masks = both (eqb (length noise) (n * noiseBytes p)) (eqb (length masks) (n * 32))
+signSeedsSized p n noise masks = both (eqb (length noise) (noiseSeedBytes p n)) (eqb (length masks) (maskSeedBytes n))
 
 abbrev pub signNoiseGood : Params → ℕ → List ℕ → List ℕ → Bool
-signNoiseGood p n noise masks = both (eqb (length noise) (n * ((p .l + p .k) * p .shares * 512))) (both (allBelow q noise) (eqb (length masks) (n * 32)))
+signNoiseGood p n noise masks = both (eqb (length noise) (n * ((p .l + p .k) * p .shares * 512))) (both (allBelow q noise) (eqb (length masks) (maskSeedBytes n)))
 
 -- 8. Is each result buffer exactly its size, and the work buffer exactly 512 (2 l d + 4 d + 2 k + 8) words? (Samplers: polynomialSized.)
 abbrev pub workWords : Params → ℕ

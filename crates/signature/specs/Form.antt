@@ -20,12 +20,16 @@ pub record Fields : Type 0 where
 abbrev pub hashBytes : Params → ℕ
 hashBytes p = p .kappa / 4
 
--- the bits of the fields, and their number counted without making them
+-- the bits of the fields
 unfoldable pub formBits : Fields → List ℕ
 formBits f = bitString 8 (f .hash) ++ (codes 0 (f .hint) ++ codes 40 (f .response))
 
+-- their number, counted without making them: of a hash of n bytes, a hint and a response (02, #103); of fields
+abbrev pub signatureBits : ℕ → List ℤ → List ℤ → ℕ
+signatureBits n h z = 8 * n + (codesBits 0 h + codesBits 40 z)
+
 unfoldable pub bitCount : Fields → ℕ
-bitCount f = 8 * length (f .hash) + (codesBits 0 (f .hint) + codesBits 40 (f .response))
+bitCount f = signatureBits (length (f .hash)) (f .hint) (f .response)
 
 -- the bits with zero fill, to n bytes
 abbrev pub withFill : Fields → ℕ → List ℕ

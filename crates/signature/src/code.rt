@@ -26,12 +26,10 @@ pub enum Next {
     No,
 }
 
-// How many bits the code of z takes.
-pub(crate) fn code_bits(w: usize, z: i64) -> usize
-    requires { ⌜ natAbs z < 2 ^ 62 ⌝ }
+// How many bits the code of z takes, for any z, the smallest too.
+pub fn code_bits(w: usize, z: i64) -> usize
     requires { ⌜ w ≤ 40 ⌝ }
     ensures { λ r. ⌜ r ≡ codeBits w z ⌝ }
-    ensures { λ r. ⌜ r < natAbs z + 64 ⌝ }
 {
     let m = int::mag(z);
     if m == 0 {

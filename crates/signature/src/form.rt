@@ -5,8 +5,7 @@ ghost use Prim.Native.Nat.{ℕ, _+_, _-_, _*_, _^_, _<_, _≤_};
 ghost use lib.IntN.{pos, natAbs};
 ghost use lib.ListN.{length, getD, drop, replicate};
 ghost use Rattle.signature.specs.Bits.{bitString, chop};
-ghost use Rattle.signature.specs.Code.{codesBits};
-ghost use Rattle.signature.specs.Form.{bitCount, withFill, readBoth};
+ghost use Rattle.signature.specs.Form.{signatureBits, bitCount, withFill, readBoth};
 ghost use Rattle.signature.specs.AnswerSteps.{fieldsOf, allZero, ReadOf};
 use crate::bits;
 use crate::code;
@@ -19,7 +18,7 @@ pub(crate) fn bit_count(hash_bytes: usize, hint: &[i64], response: &[i64]) -> us
     requires { ⌜ length (now hint) ≤ 4608 ⌝ }
     requires { ⌜ ((i : ℕ) → natAbs (getD (now response) i (pos 0)) < 2 ^ 50) ⌝ }
     requires { ⌜ length (now response) ≤ 4608 ⌝ }
-    ensures { λ r. ⌜ r ≡ 8 * «hash_bytes» + (codesBits 0 (now (hint .entry)) + codesBits 40 (now (response .entry))) ⌝ }
+    ensures { λ r. ⌜ r ≡ signatureBits «hash_bytes» (now (hint .entry)) (now (response .entry)) ⌝ }
 {
     8 * hash_bytes + (code::codes_bits(0, hint) + code::codes_bits(40, response))
 }

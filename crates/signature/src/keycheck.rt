@@ -5,12 +5,14 @@ ghost use Prim.Native.Nat.{_+_, _*_, _≤_};
 ghost use lib.ListN.{length, take, drop};
 ghost use Rattle.ring.specs.Words.{q, allBelow};
 ghost use Rattle.signature.specs.Bits.{repack};
-ghost use Rattle.signature.specs.Checks.{firstNo, expandedKeySized, workWords, keygenSeedsSized, keygenBuffersSized, keyChecks};
+ghost use Rattle.signature.specs.Checks.{firstNo, expandedKeySized, keygenSeedsSized, keygenBuffersSized, keyChecks};
 ghost use Rattle.signature.specs.ExpandSteps.{partBytes};
 ghost use Rattle.signature.specs.ExpandedKey.{expandedIn};
 ghost use Rattle.signature.specs.Keys.{packed, expanded, fullShare, keygenBytes};
 ghost use Rattle.signature.specs.Table.{Tabled};
 use crate::bits::unpack;
+use crate::lengths::noise_seed_bytes;
+use crate::lengths::work_words;
 use hash::params::Params;
 use ring::poly::Q;
 use ring::poly::all_below;
@@ -99,15 +101,7 @@ pub(crate) fn keygen_bytes(p: Params) -> usize
     ensures { λ r. ⌜ r ≡ keygenBytes p ⌝ }
 {
     let n = p.kappa / 8;
-    n + (p.l + p.k) * p.shares * p.rep * n + (p.shares - 1) * n
-}
-
-// The words of the work buffer: 512 (2 l d + 4 d + 2 k + 8).
-pub(crate) fn work_words(p: Params) -> usize
-    requires { ⌜ Tabled p ⌝ }
-    ensures { λ r. ⌜ r ≡ workWords p ⌝ }
-{
-    512 * (2 * p.l * p.shares + 4 * p.shares + 2 * p.k + 8)
+    n + noise_seed_bytes(p, 1) + (p.shares - 1) * n
 }
 
 // The first no of key generation behind the look-up, but check 10, or 0.

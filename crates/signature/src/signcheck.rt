@@ -8,7 +8,9 @@ ghost use Rattle.signature.specs.SignSteps.{signNo};
 ghost use Rattle.signature.specs.Table.{Tabled};
 use crate::keycheck::expanded_no;
 use crate::keycheck::packed_no;
-use crate::keycheck::work_words;
+use crate::lengths::mask_seed_bytes;
+use crate::lengths::noise_seed_bytes;
+use crate::lengths::work_words;
 use hash::params::Params;
 use ring::poly::Q;
 use ring::poly::all_below;
@@ -42,17 +44,17 @@ fn coins_good(
     requires { ⌜ Tabled p × (n ≤ 16) ⌝ }
     ensures { λ r. ⌜ r ≡ coinsGood p n (coinsLent explicit (seeds .entry) (noise .entry) (masks .entry)) ⌝ }
 {
-    if masks.len() != n * 32 {
+    if masks.len() != mask_seed_bytes(n) {
         return false;
     }
-    let c = (p.l + p.k) * p.shares;
     if explicit {
+        let c = (p.l + p.k) * p.shares;
         if noise.len() != n * (c * 512) {
             return false;
         }
         return all_below(noise, Q);
     }
-    seeds.len() == n * (c * p.rep * (p.kappa / 8))
+    seeds.len() == noise_seed_bytes(p, n)
 }
 
 // Checks 6 to 9.

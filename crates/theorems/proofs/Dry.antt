@@ -32,7 +32,7 @@ use Rattle.signature.specs.Outcome.{Outcome, answer, refusedOr, firstNo, foundI
 use Rattle.signature.specs.Sign.{Public, Attempted, made, over, stuck, dry, Coins, signedFields, wrote, finished, responded, challenged, concluded, ended, refreshedKey, refreshedNoise, refreshedResponse, attempted, noiseAt, maskAt, signFrom}
 use Rattle.signature.specs.SignCalls.{Key, signChecks, attemptsOf, signBy, signOf}
 use Rattle.signature.proofs.Attempts.{commitmentFills, attempt-dry, attempt-stuck, attempt-late, sign-dry}
-use Rattle.theorems.specs.Unit.{UnitCall, signUnit, recordOf, RunsDry, encodingsIn, masksFillAt}
+use Rattle.theorems.specs.Unit.{UnitCall, signUnit, recordOf, RunsDry, encodingsBefore, encodingsIn, masksFillAt}
 
 -- ---- an attempt and a call that do not run dry: where commitment and response are there, they decide
 
@@ -56,16 +56,11 @@ module _ (p : Params) (P : Public) where
     unfolding concluded
     asked-full w full = challenged-full (roundW w) (chalHash p (roundW w) (P .mu)) (chalPoly p (chalHash p (roundW w) (P .mu))) full
 
-    given-full : (o : Option (List ℕ)) (w : List ℕ) → ((x : List ℕ) → o ≡ some x → x ≡ w) → (concluded p P o z ≡ dry → ⊥)
+    pub concluded-full : (o : Option (List ℕ)) (w : List ℕ) → ((x : List ℕ) → o ≡ some x → x ≡ w) → (concluded p P o z ≡ dry → ⊥)
         → concluded p P o z ≡ concluded p P (some w) (λ (c : List ℕ). some (y c))
     unfolding concluded
-    given-full none w e full = absurd (full refl)
-    given-full (some x) w e full = asked-full x full ∙ ap (λ (v : List ℕ). concluded p P (some v) (λ (c : List ℕ). some (y c))) (e x refl)
-
-  pub concluded-full : (o : Option (List ℕ)) (z : List ℕ → Option (List ℕ)) (w : List ℕ) (y : List ℕ → List ℕ)
-      → ((x : List ℕ) → o ≡ some x → x ≡ w) → ((c x : List ℕ) → z c ≡ some x → x ≡ y c) → (concluded p P o z ≡ dry → ⊥)
-      → concluded p P o z ≡ concluded p P (some w) (λ (c : List ℕ). some (y c))
-  concluded-full o z w y eo ez full = given-full z y ez o w eo full
+    concluded-full none w e full = absurd (full refl)
+    concluded-full (some x) w e full = asked-full x full ∙ ap (λ (v : List ℕ). concluded p P (some v) (λ (c : List ℕ). some (y c))) (e x refl)
 
 pub ended-full : (a : ℕ) (t : Attempted) (A B : Outcome) → (ended a t A .status ≡ 20 → ⊥) → ((A .status ≡ 20 → ⊥) → A ≡ B) → ended a t A ≡ ended a t B
 ended-full a (made b) A B full e = refl
@@ -99,31 +94,28 @@ module _ (p : Params) (P : Public) where
   plain-full w y e = settled-full (roundW w) (chalHash p (roundW w) (P .mu)) y (chalPoly p (chalHash p (roundW w) (P .mu))) e
 
   module _ (N : Noise) (g : MaskGen) (s : List ℕ) where
-    abbrev encodings : ℕ
-    encodings = p .l + (p .l + p .k) * N .reps + 3 * p .l
-
     -- the generator behind line 7, and behind line 15, whatever the challenge
-    commitment-next : maskedImage p N g (P .matrix) .next ≡ skip masks (p .shares) (p .l + (p .l + p .k) * N .reps) g
+    commitment-next : maskedImage p N g (P .matrix) .next ≡ skip masks (p .shares) (encodingsBefore p N) g
     unfolding maskedImage maskedNoise
     commitment-next =
         let d = p .shares in
         let r = N .reps in
-        let n : p .l + p .l * r + p .k * r ≡ p .l + (p .l + p .k) * r = omega arith in
+        let n : p .l + p .l * r + p .k * r ≡ encodingsBefore p N = omega arith in
         ap (skip masks d (p .k * r)) (skip-add masks d (p .l) (p .l * r) g) ∙ skip-add masks d (p .l + p .l * r) (p .k * r) g ∙ ap (λ (m : ℕ). skip masks d m g) n
 
-    response-next : (c : List ℕ) → refreshedResponse p N g (P .matrix) s c .next ≡ skip masks (p .shares) encodings g
+    response-next : (c : List ℕ) → refreshedResponse p N g (P .matrix) s c .next ≡ skip masks (p .shares) (encodingsIn p N) g
     unfolding refreshedResponse refreshedNoise refreshedKey
     response-next c =
         let d = p .shares in
-        let m = p .l + (p .l + p .k) * N .reps in
-        let n : m + p .l + p .l + p .l ≡ encodings = omega arith in
+        let m = encodingsBefore p N in
+        let n : m + p .l + p .l + p .l ≡ encodingsIn p N = omega arith in
         ap (λ (h : MaskGen). skip masks d (p .l) (skip masks d (p .l) (skip masks d (p .l) h))) commitment-next
         ∙ ap (λ (h : MaskGen). skip masks d (p .l) (skip masks d (p .l) h)) (skip-add masks d m (p .l) g)
         ∙ ap (skip masks d (p .l)) (skip-add masks d (m + p .l) (p .l) g)
         ∙ skip-add masks d (m + p .l + p .l) (p .l) g
         ∙ ap (λ (k : ℕ). skip masks d k g) n
 
-    module _ (fill : skip masks (p .shares) encodings g .ok ≡ true) where
+    module _ (fill : skip masks (p .shares) (encodingsIn p N) g .ok ≡ true) where
       response-fills : (c : List ℕ) → refreshedResponse p N g (P .matrix) s c .next .ok ≡ true
       response-fills c = ap (λ (h : MaskGen). h .ok) (response-next c) ∙ fill
 
@@ -146,7 +138,7 @@ module _ (p : Params) (P : Public) where
           ∙ ap (concluded p P (some w)) (fun-ext (λ (c : List ℕ). ap (λ (b : Bool). pick b (some (y c)) none) (response-fills c))))
           ∙ e)
 
-    attempt-dry-at : attempted p P N g s ≡ dry → (b : Bool) → skip masks (p .shares) encodings g .ok ≡ b → b ≡ false
+    attempt-dry-at : attempted p P N g s ≡ dry → (b : Bool) → skip masks (p .shares) (encodingsIn p N) g .ok ≡ b → b ≡ false
     attempt-dry-at e true f = absurd (attempt-full f e)
     attempt-dry-at e false f = refl
 
@@ -158,7 +150,7 @@ module _ (p : Params) (P : Public) (T : Coins) where
     pub from : a ≤ b
     pub allowed : b < a + left
     pub reported : A .reported ≡ b + 1
-    pub unfilled : skip masks (p .shares) (p .l + (p .l + p .k) * noiseAt p T b .reps + 3 * p .l) (maskAt T b) .ok ≡ false
+    pub unfilled : skip masks (p .shares) (encodingsIn p (noiseAt p T b)) (maskAt T b) .ok ≡ false
 
   -- by the end of attempt number a + 1; A is what those behind it give
   ran-ended : (left a : ℕ) (s : List ℕ) (t : Attempted) (A : Outcome) → attempted p P (noiseAt p T a) (maskAt T a) s ≡ t
@@ -174,7 +166,7 @@ module _ (p : Params) (P : Public) (T : Coins) where
       from = omega arith;
       allowed = omega arith;
       reported = omega arith;
-      unfilled = attempt-dry-at p P (noiseAt p T a) (maskAt T a) s f (skip masks (p .shares) (encodings p P (noiseAt p T a) (maskAt T a) s) (maskAt T a) .ok) refl;
+      unfilled = attempt-dry-at p P (noiseAt p T a) (maskAt T a) s f (skip masks (p .shares) (encodingsIn p (noiseAt p T a)) (maskAt T a) .ok) refl;
     },
   )
 
@@ -236,7 +228,7 @@ pub one-share-full : (u : UnitCall) (p : Params) → recordOf u ≡ Selected.Fou
 unfolding masksFillAt maskAt
 one-share-full u p is one h =
     let d = dry-at u p is h in
-    let n = encodingsIn p u (d .0) in
+    let n = encodingsIn p (noiseAt p (u .coins) (d .0)) in
     let e : p .shares ≡ 1 = found (u .set) (u .shares) (u .edition) p is .shares-are ∙ one in
     absurd-bool
     (sym (ap (λ (g : MaskGen). g .ok) (ap (λ (k : ℕ). skip masks k n (maskAt (u .coins) (d .0))) e ∙ skip-one n (maskAt (u .coins) (d .0))) ∙ start-ok _)
@@ -250,10 +242,10 @@ Unfilled seed n = length (kept (bytesFrom seed (drawsBefore seed n)) 777) < 512
 
 -- how many mask polynomials an attempt draws before the challenge (lines 4, 5 and 7), and in all (12, 13 and 15 too)
 abbrev pub masksBefore : Params → Noise → ℕ
-masksBefore p N = (p .l + (p .l + p .k) * N .reps) * polysIn (orderIndex (p .shares))
+masksBefore p N = encodingsBefore p N * polysIn (orderIndex (p .shares))
 
 abbrev pub masksInAll : Params → Noise → ℕ
-masksInAll p N = (p .l + (p .l + p .k) * N .reps + 3 * p .l) * polysIn (orderIndex (p .shares))
+masksInAll p N = encodingsIn p N * polysIn (orderIndex (p .shares))
 
 module _ (p : Params) (P : Public) (N : Noise) (seed s : List ℕ) (n : ℕ) (few : Unfilled seed n) where
   abbrev g : MaskGen
@@ -266,20 +258,20 @@ module _ (p : Params) (P : Public) (N : Noise) (seed s : List ℕ) (n : ℕ) (fe
   pub dry-before : n < masksBefore p N → attempted p P N g s ≡ dry
   dry-before l =
       attempt-dry p P N g s
-      (ap (λ (h : MaskGen). h .ok) (commitment-next p P N g s) ∙ encodings-dry (p .l + (p .l + p .k) * N .reps) l)
+      (ap (λ (h : MaskGen). h .ok) (commitment-next p P N g s) ∙ encodings-dry (encodingsBefore p N) l)
 
   -- Drawn anywhere in it: with 20, or with 11 where the challenge does not fill.
   pub dry-behind : n < masksInAll p N → (attempted p P N g s ≡ dry) ⊎ (attempted p P N g s ≡ stuck)
-  dry-behind l = go (commitmentFills p P N g s) refl (chalPoly p (hashOf p N g (P .matrix) (P .mu))) refl
+  dry-behind l = go (commitmentFills p P N g) refl (chalPoly p (hashOf p N g (P .matrix) (P .mu))) refl
     where
-      go : (b : Bool) → commitmentFills p P N g s ≡ b → (o : Option (List ℤ)) → chalPoly p (hashOf p N g (P .matrix) (P .mu)) ≡ o
+      go : (b : Bool) → commitmentFills p P N g ≡ b → (o : Option (List ℤ)) → chalPoly p (hashOf p N g (P .matrix) (P .mu)) ≡ o
           → (attempted p P N g s ≡ dry) ⊎ (attempted p P N g s ≡ stuck)
       go false f o e = inl (attempt-dry p P N g s f)
       go true f none e = inr (attempt-stuck p P N g s f e)
       go true f (some c) e =
           inl
           (attempt-late p P N g s f c e
-          (ap (λ (h : MaskGen). h .ok) (response-next p P N g s (residues q c)) ∙ encodings-dry (p .l + (p .l + p .k) * N .reps + 3 * p .l) l))
+          (ap (λ (h : MaskGen). h .ok) (response-next p P N g s (residues q c)) ∙ encodings-dry (encodingsIn p N) l))
 
 -- A dry attempt ends the call with 20 and is reported, whatever attempts are left.
 pub dry-ends : (p : Params) (P : Public) (T : Coins) (left a : ℕ) (s : List ℕ) → attempted p P (noiseAt p T a) (maskAt T a) s ≡ dry

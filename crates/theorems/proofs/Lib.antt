@@ -15,3 +15,5 @@ pub mod Steps
 pub mod Undigested
 pub mod Witness
 pub mod Coins
+pub mod Lengths
+pub mod TooLong

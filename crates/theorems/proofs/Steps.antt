@@ -183,13 +183,13 @@ module _ (p : Params) (power : p .shares ≡ 2 ^ orderIndex (p .shares)) where
       → (attempted p P N g s ≡ dry → ⊥) → attempted p P N g s ≡ plainAttempt p P (totals l d s) (totalsOf p N)
   unfolding attempted plainAttempt
   attempt-collapses P N good g s ws full =
-      concluded-full p P (decoded k d (maskedImage p N g (P .matrix))) (λ (c : List ℕ). decoded l d (refreshedResponse p N g (P .matrix) s c))
-      (plainCommitment p (P .matrix) (totalsOf p N)) (plainResponse p (totals l d s) (totalsOf p N))
-      (λ (x : List ℕ) (o : decoded k d (maskedImage p N g (P .matrix)) ≡ some x).
-      sym (picked-some (maskedImage p N g (P .matrix) .next .ok) (totals k d (maskedImage p N g (P .matrix) .shares)) x o) ∙ w-totals N good g (P .matrix))
+      concluded-full p P (λ (c : List ℕ). decoded l d (refreshedResponse p N g (P .matrix) s c)) (plainResponse p (totals l d s) (totalsOf p N))
       (λ (c x : List ℕ) (o : decoded l d (refreshedResponse p N g (P .matrix) s c) ≡ some x).
       sym (picked-some (refreshedResponse p N g (P .matrix) s c .next .ok) (totals l d (refreshedResponse p N g (P .matrix) s c .shares)) x o)
       ∙ z-totals N good g (P .matrix) s ws c)
+      (decoded k d (maskedImage p N g (P .matrix))) (plainCommitment p (P .matrix) (totalsOf p N))
+      (λ (x : List ℕ) (o : decoded k d (maskedImage p N g (P .matrix)) ≡ some x).
+      sym (picked-some (maskedImage p N g (P .matrix) .next .ok) (totals k d (maskedImage p N g (P .matrix) .shares)) x o) ∙ w-totals N good g (P .matrix))
       full
 
   -- all attempts: the key's shares change from one to the next, their sums do not

@@ -18,6 +18,7 @@ use Rattle.sharing.specs.Noise.{sampleU, noiseHeader}
 use Rattle.signature.specs.Checks.{signBuffersSized}
 use Rattle.signature.specs.ExpandedKey.{ExpandedKey, vkIn, secretAt}
 use Rattle.signature.specs.Keys.{DigestTrue}
+use Rattle.signature.specs.Masked.{Noise}
 use Rattle.signature.specs.Outcome.{Outcome, foundIn}
 use Rattle.signature.specs.Sign.{Coins, noiseAt, maskAt}
 use Rattle.signature.specs.SignCalls.{Key, coinsGood, signOf, signCall}
@@ -60,13 +61,17 @@ TrueDigest u = (p : Params) → recordOf u ≡ Selected.Found p → DigestTrue p
 abbrev pub RunsDry : UnitCall → Type 0
 RunsDry u = signUnit u .status ≡ 20
 
--- did every mask polynomial of attempt a + 1 fill? It draws l zero encodings (line 4), one behind each repetition of the noise of l + k polynomials
--- (lines 5 and 7), and three times l (lines 12, 13 and 15), from its mask seed alone
-abbrev pub encodingsIn : Params → UnitCall → ℕ → ℕ
-encodingsIn p u a = p .l + (p .l + p .k) * noiseAt p (u .coins) a .reps + 3 * p .l
+-- how many zero encodings an attempt with noise N draws: before the challenge l (line 4) and one behind each repetition of the noise of l + k
+-- polynomials (lines 5 and 7); behind it three times l (lines 12, 13 and 15)
+abbrev pub encodingsBefore : Params → Noise → ℕ
+encodingsBefore p N = p .l + (p .l + p .k) * N .reps
 
+abbrev pub encodingsIn : Params → Noise → ℕ
+encodingsIn p N = encodingsBefore p N + 3 * p .l
+
+-- did every mask polynomial of attempt a + 1 fill? It draws them from its mask seed alone
 unfoldable pub masksFillAt : Params → UnitCall → ℕ → Bool
-masksFillAt p u a = skip masks (p .shares) (encodingsIn p u a) (maskAt (u .coins) a) .ok
+masksFillAt p u a = skip masks (p .shares) (encodingsIn p (noiseAt p (u .coins) a)) (maskAt (u .coins) a) .ok
 
 -- ---- the noise's sums, as 01 says them; the key's are `secretAt` (signature)
 

@@ -1,9 +1,9 @@
 //! A case: one call with all that it is lent. It is put to the unit and to the expectation, and the two answers are compared:
-//! status, attempts, every element of every buffer, the guards around them, and that what is lent to be read was only read.
+//! status, attempts, the numbers told, every element of every buffer, the guards around them, and that what is lent to be read was only read.
 
 use crate::layout::{digest_is_true, share_words, words_below_q};
 use crate::random::Random;
-use crate::unit::{Key, Signed, Signing};
+use crate::unit::{Bits, Key, Signed, Signing, SigningLengths};
 use crate::{expect, unit};
 use independent::raccoon::{Edition, Noise, Params};
 use independent::ring::N;
@@ -25,11 +25,13 @@ pub enum Kind {
     KatExpandKey,
     KatSign,
     KatVerify,
+    Lengths,
+    SignatureBits,
 }
 
 use Kind::*;
 
-pub const KINDS: [Kind; 14] = [
+pub const KINDS: [Kind; 16] = [
     Keygen,
     ExpandKey,
     RefreshKey,
@@ -44,6 +46,8 @@ pub const KINDS: [Kind; 14] = [
     KatExpandKey,
     KatSign,
     KatVerify,
+    Lengths,
+    SignatureBits,
 ];
 
 /// What has a length: first what is lent to be read, then what is lent to be written.
@@ -60,6 +64,8 @@ pub enum Field {
     /// Explicit noise.
     Noise,
     MaskSeeds,
+    Hint,
+    Response,
     ResultBytes,
     ResultWords,
     ResultSigns,
@@ -102,6 +108,8 @@ impl Kind {
             Verify | KatVerify => &[0, 1, 3, 4, 9, 13, 14, 15, 16],
             SampleUniform => &[0, 8, 10],
             SampleChallenge => &[0, 1, 8, 11],
+            Lengths => &[0, 1, 2, 6],
+            SignatureBits => &[0, 1, 13],
         }
     }
 
@@ -118,6 +126,8 @@ impl Kind {
             Verify | KatVerify => &[Key, Message, Signature],
             SampleUniform => &[Seeds, ResultWords],
             SampleChallenge => &[Seeds, ResultSigns],
+            Lengths => &[],
+            SignatureBits => &[Hint, Response],
         }
     }
 
@@ -141,6 +151,8 @@ impl Kind {
                     32
                 }
             }
+            (Field::Hint, _) => p.k * N,
+            (Field::Response, _) => p.l * N,
             (Field::ResultBytes, Keygen | KatKeygen) => p.sk_bytes(),
             (Field::ResultBytes, ExpandKey | KatExpandKey | RefreshKey) => p.expanded_bytes(),
             (Field::ResultBytes, _) => p.sig_bytes,
@@ -164,6 +176,8 @@ pub struct Inputs {
     pub seeds: Vec<u8>,
     pub noise: Vec<u64>,
     pub mask_seeds: Vec<u8>,
+    pub hint: Vec<i8>,
+    pub response: Vec<i64>,
 }
 
 /// So many elements before and behind each buffer are not lent. The number is odd, so that bytes stand at odd addresses.
@@ -188,6 +202,8 @@ fn lent<T>(guarded: &mut [T]) -> &mut [T] {
 pub struct Answer {
     pub status: u32,
     pub attempts: u32,
+    /// The lengths of a signing call, or the bits of a signature; else 0.
+    pub told: [u64; 3],
     pub buffers: Buffers,
 }
 
@@ -201,6 +217,8 @@ pub struct Calls {
     pub verify: fn(Edition, u32, &[u8], &[u8], &[u8]) -> u32,
     pub sample_uniform: fn(&[u8], &mut [u64]) -> u32,
     pub sample_challenge: fn(u32, &[u8], &mut [i8]) -> u32,
+    pub lengths: fn(u32, u32, u32) -> SigningLengths,
+    pub signature_bits: fn(u32, &[i8], &[i64]) -> Bits,
 }
 
 pub const UNIT: Calls = Calls {
@@ -211,6 +229,8 @@ pub const UNIT: Calls = Calls {
     verify: unit::verify,
     sample_uniform: unit::sample_uniform,
     sample_challenge: unit::sample_challenge,
+    lengths: unit::lengths,
+    signature_bits: unit::signature_bits,
 };
 
 pub const EXPECTED: Calls = Calls {
@@ -221,6 +241,8 @@ pub const EXPECTED: Calls = Calls {
     verify: expect::verify,
     sample_uniform: expect::sample_uniform,
     sample_challenge: expect::sample_challenge,
+    lengths: expect::lengths,
+    signature_bits: expect::signature_bits,
 };
 
 /// One call with all that it is lent.
@@ -266,6 +288,8 @@ impl Case {
             Field::Seeds => i.seeds.len(),
             Field::Noise => i.noise.len(),
             Field::MaskSeeds => i.mask_seeds.len(),
+            Field::Hint => i.hint.len(),
+            Field::Response => i.response.len(),
             Field::ResultBytes => b.bytes.len() - 2 * GUARD,
             Field::ResultWords => b.words.len() - 2 * GUARD,
             Field::ResultSigns => b.signs.len() - 2 * GUARD,
@@ -273,12 +297,14 @@ impl Case {
         }
     }
 
-    /// Gives a field another length. What an input gains is random, words below q; a buffer is filled anew.
+    /// Gives a field another length. What an input gains is random, words below q, coefficients of any size; a buffer is filled anew.
     pub fn resize(&mut self, field: Field, n: usize, random: &mut Random) {
         let all = n + 2 * GUARD;
         match field {
             Field::Words => resize_words(&mut self.inputs.words, n, random),
             Field::Noise => resize_words(&mut self.inputs.noise, n, random),
+            Field::Hint => self.inputs.hint.resize_with(n, || random.any_size() as i8),
+            Field::Response => self.inputs.response.resize_with(n, || random.any_size()),
             Field::ResultBytes => self.buffers.bytes = random.bytes(all),
             Field::ResultWords => self.buffers.words = (0..all).map(|_| random.word()).collect(),
             Field::ResultSigns => self.buffers.signs = (0..all).map(|_| random.word() as i8).collect(),
@@ -296,7 +322,7 @@ impl Case {
         let (inputs, mut buffers) = (self.inputs.clone(), self.buffers.clone());
         let (i, edition) = (&inputs, self.kind.edition());
         let (bytes, words, work) = (lent(&mut buffers.bytes), lent(&mut buffers.words), lent(&mut buffers.work));
-        let mut attempts = 0;
+        let (mut attempts, mut told) = (0, [0; 3]);
         let status = match self.kind {
             Keygen | KatKeygen => (calls.keygen)(edition, i.set, i.shares, &i.seeds, &i.mask_seeds, bytes, work),
             ExpandKey | KatExpandKey => (calls.expand_key)(edition, i.set, i.shares, &i.key, bytes, words),
@@ -304,6 +330,16 @@ impl Case {
             Verify | KatVerify => (calls.verify)(edition, i.set, &i.key, &i.message, &i.signature),
             SampleUniform => (calls.sample_uniform)(&i.seeds, words),
             SampleChallenge => (calls.sample_challenge)(i.set, &i.seeds, lent(&mut buffers.signs)),
+            Lengths => {
+                let lengths = (calls.lengths)(i.set, i.shares, i.attempts);
+                told = [lengths.noise_seed_bytes, lengths.mask_seed_bytes, lengths.work_words];
+                lengths.status
+            }
+            SignatureBits => {
+                let counted = (calls.signature_bits)(i.set, &i.hint, &i.response);
+                told[0] = counted.bits;
+                counted.status
+            }
             _ => {
                 let signed = (calls.sign)(edition, &self.signing(i), bytes, work);
                 attempts = signed.attempts;
@@ -311,7 +347,7 @@ impl Case {
             }
         };
         only_read(&inputs, &self.inputs)?;
-        Ok(Answer { status, attempts, buffers })
+        Ok(Answer { status, attempts, told, buffers })
     }
 
     fn signing<'a>(&self, i: &'a Inputs) -> Signing<'a> {
@@ -350,12 +386,15 @@ pub fn only_read(after: &Inputs, before: &Inputs) -> Result<(), String> {
     if after == before { Ok(()) } else { Err("an input was written".to_string()) }
 }
 
-/// Status, attempts and all buffers with their guards; else what differs.
+/// Status, attempts, the numbers told and all buffers with their guards; else what differs.
 pub fn compare(found: &Answer, expected: &Answer) -> Result<(), String> {
     let numbers = |answer: &Answer| (answer.status, answer.attempts);
     if numbers(found) != numbers(expected) {
         let ((status, attempts), (right, right_attempts)) = (numbers(found), numbers(expected));
         return Err(format!("status {status}, attempts {attempts}; expected: status {right}, attempts {right_attempts}"));
+    }
+    if found.told != expected.told {
+        return Err(format!("status {}: told {:?}, expected: {:?}", found.status, found.told, expected.told));
     }
     let (f, e) = (&found.buffers, &expected.buffers);
     let differs = differs("result bytes", &f.bytes, &e.bytes)

@@ -1,14 +1,14 @@
 //! What each call of the unit has to answer, whatever the numbers, lengths and contents: the checks of paper 01, in the order in
 //! which it puts them to that call, and the independent implementation behind them.
 //!
-//! The functions are those of [`crate::unit`], argument for argument. They give the status (signing: the attempts too) and leave
-//! result and work buffer as the unit has to leave them: a result is written with 0 only, and a work buffer is zero after all ends
-//! but refusals 1 to 8.
+//! The functions are those of [`crate::unit`], argument for argument. They give the status (signing: the attempts too; lengths and bits: 0
+//! with a refusal) and leave result and work buffer as the unit has to leave them: a result is written with 0 only, and a work buffer is zero
+//! after all ends but refusals 1 to 8.
 //!
 //! The functions `.._from` are told what each mask seed stands for. No seed is known that gets 20; a lent stream in its place can.
 
 use crate::layout::{bits, full_share, share_words};
-use crate::unit::{Key, Signed, Signing};
+use crate::unit::{Bits, Key, Signed, Signing, SigningLengths};
 use independent::masks::{Checked, Masks};
 use independent::raccoon::{self as independent_raccoon, Edition, Noise, Params, challenge, expand, refresh, with_digest};
 use independent::ring::{N, Q, sample_q};
@@ -200,4 +200,24 @@ pub fn sample_challenge(set: u32, bytes: &[u8], coefficients: &mut [i8]) -> u32 
         challenge(p.edition, p.omega, bytes).ok_or(11)
     };
     status(made(), |made| coefficients.copy_from_slice(&made))
+}
+
+/// The lengths of a signing call: checks 1, 2, 6.
+pub fn lengths(set: u32, shares: u32, attempts: u32) -> SigningLengths {
+    let refused = |status| SigningLengths { status, noise_seed_bytes: 0, mask_seed_bytes: 0, work_words: 0 };
+    let told = |lengths: independent_raccoon::Lengths| SigningLengths {
+        status: 0,
+        noise_seed_bytes: lengths.noise_seed_bytes as u64,
+        mask_seed_bytes: lengths.mask_seed_bytes as u64,
+        work_words: lengths.work_words as u64,
+    };
+    independent_raccoon::lengths(set as usize, shares as usize, attempts as usize).map_or_else(refused, told)
+}
+
+/// The bits of a signature: checks 1, 13.
+pub fn signature_bits(set: u32, hint: &[i8], response: &[i64]) -> Bits {
+    match independent_raccoon::signature_bits(set as usize, hint, response) {
+        Ok(bits) => Bits { status: 0, bits: bits.try_into().expect("a number of 64 bits") },
+        Err(status) => Bits { status, bits: 0 },
+    }
 }

@@ -10,7 +10,7 @@ use independent::ring::{N, Q};
 use std::collections::BTreeMap;
 
 /// How often each of [`KINDS`] comes: the quick ones more often.
-const WEIGHTS: [usize; 14] = [5, 10, 10, 6, 6, 6, 6, 10, 14, 14, 3, 5, 4, 6];
+const WEIGHTS: [usize; 16] = [5, 10, 10, 6, 6, 6, 6, 10, 14, 14, 3, 5, 4, 6, 5, 8];
 
 /// How often each call gave each status, and with how many attempts.
 pub type Tally = BTreeMap<(Kind, u32, u32), u64>;
@@ -30,7 +30,11 @@ impl Fuzz {
         let random = &mut Random(Random(Random(self.seed).word() ^ number).word());
         let kind = KINDS[weighted(random, &WEIGHTS)];
         let set = weighted(random, &[4, 3, 2]);
-        let shares = if kind.verifies() { random.below(2) } else { weighted(random, &[40, 30, 15, 8, 5, 2]) };
+        let shares = if kind.verifies() || kind == Kind::SignatureBits {
+            random.below(2)
+        } else {
+            weighted(random, &[40, 30, 15, 8, 5, 2])
+        };
         let base = self.pool.base(set, shares, kind.edition());
         let other = self.pool.base(random.below(SETS.len()), random.below(4), kind.edition());
         let mut case = well_formed(kind, base, random);
@@ -92,6 +96,8 @@ fn well_formed(kind: Kind, base: &Base, random: &mut Random) -> Case {
     match kind {
         Kind::SampleUniform => inputs.seeds = uniform_bytes(random),
         Kind::SampleChallenge => inputs.seeds = challenge_bytes(p.omega, random),
+        Kind::Lengths => inputs.attempts = 1 + random.below(16) as u32,
+        Kind::SignatureBits => (inputs.hint, inputs.response) = hint_and_response(base, random),
         _ if kind.signs() => fill_signing(kind, base, &mut inputs, random),
         _ if kind.verifies() => {
             inputs.key = key_bytes(kind, p, &base.key);
@@ -186,6 +192,24 @@ fn challenge_bytes(omega: usize, random: &mut Random) -> Vec<u8> {
     bytes
 }
 
+/// Hint and response as a signature has them, or each number of any size, or all alike and at an edge.
+fn hint_and_response(base: &Base, random: &mut Random) -> (Vec<i8>, Vec<i64>) {
+    let (p, f) = (&base.p, read(&base.p, &base.signature).expect("a signature"));
+    match random.below(4) {
+        0 => (vec![one_of(random, &HINTS); p.k * N], vec![one_of(random, &RESPONSES); p.l * N]),
+        1 => {
+            let hint = (0..p.k * N).map(|_| random.any_size() as i8).collect();
+            (hint, (0..p.l * N).map(|_| random.any_size()).collect())
+        }
+        _ => (f.hint.iter().map(|&h| h as i8).collect(), f.response),
+    }
+}
+
+/// Numbers at which the code of a hint or of a response gets longer, and the ends of their types.
+const HINTS: [i8; 8] = [0, 1, -1, 2, -2, 127, -127, -128];
+const RESPONSES: [i64; 12] =
+    [0, 1, -1, (1 << 40) - 1, 1 - (1 << 40), 1 << 40, -1 << 40, (1 << 40) + 1, 1 << 62, i64::MAX, -i64::MAX, i64::MIN];
+
 /// What can be done to a call.
 #[derive(Clone, Copy)]
 enum Mutation {
@@ -202,6 +226,9 @@ enum Mutation {
     Digest,
     ShareWord,
     NoiseWord,
+    /// A number of a hint, or of a response, at an edge.
+    Hint,
+    Response,
     /// A field of the signature moved, and the signature written anew.
     Moved,
     /// A signature whose sum of squares is at its bound, or just above.
@@ -222,7 +249,7 @@ fn mutations(kind: Kind) -> Vec<Mutation> {
     if kind != Kind::SampleUniform {
         all.push(Set);
     }
-    if !kind.samples() && !kind.verifies() {
+    if !kind.samples() && !kind.verifies() && kind != Kind::SignatureBits {
         all.push(Shares);
     }
     if fields.contains(&Field::Key) {
@@ -239,6 +266,12 @@ fn mutations(kind: Kind) -> Vec<Mutation> {
     }
     if kind.signs() {
         all.extend([Attempts, AllAttempts]);
+    }
+    if kind == Kind::Lengths {
+        all.push(Attempts);
+    }
+    if kind == Kind::SignatureBits {
+        all.extend([Hint, Response]);
     }
     if fields.contains(&Field::Noise) {
         all.push(NoiseWord);
@@ -281,6 +314,8 @@ fn mutate(case: &mut Case, base: &Base, other: &Base, random: &mut Random) {
             put_if_there(&mut case.inputs.key, full_share(p) + 49 * place(random, p.l * N), 49, value);
         }
         Mutation::NoiseWord => set_word(&mut case.inputs.noise, random),
+        Mutation::Hint => put_at(&mut case.inputs.hint, one_of(random, &HINTS), random),
+        Mutation::Response => put_at(&mut case.inputs.response, one_of(random, &RESPONSES), random),
         Mutation::Moved => move_field(&mut case.inputs.signature, p, random),
         Mutation::Norm => case.inputs.signature = signature_of_norm(p, random),
         Mutation::Fill => set_fill_bit(&mut case.inputs.signature, p, random),
@@ -338,6 +373,13 @@ fn set_word(words: &mut [u64], random: &mut Random) {
     if !words.is_empty() {
         let any = random.word() % Q;
         words[place(random, words.len())] = one_of(random, &[any, any, 0, Q - 1, Q, (1 << 49) - 1, u64::MAX]);
+    }
+}
+
+/// Puts a number somewhere.
+fn put_at<T>(numbers: &mut [T], value: T, random: &mut Random) {
+    if !numbers.is_empty() {
+        numbers[place(random, numbers.len())] = value;
     }
 }
 

@@ -16,6 +16,11 @@ impl Random {
         (self.word() % n as u64) as usize
     }
 
+    /// A number of any sign and size: as likely of few bits as of many.
+    pub fn any_size(&mut self) -> i64 {
+        self.word() as i64 >> self.below(64)
+    }
+
     pub fn bytes(&mut self, n: usize) -> Vec<u8> {
         (0..n).map(|_| self.word() as u8).collect()
     }

@@ -1,8 +1,8 @@
 //! The submission's response files, made through the unit.
 
-use crate::unit::{self, Key, Signing};
+use crate::unit::{self, Bits, Key, Signing};
 use independent::drbg::{Drbg, tests};
-use independent::raccoon::{Noise, Params};
+use independent::raccoon::{Noise, Params, form_bits, read};
 use std::fmt::Write;
 use std::thread;
 
@@ -32,7 +32,25 @@ pub struct Test {
     pub sm: Vec<u8>,
 }
 
-/// A test made and verified by the unit, in the edition of the parameters; else what it answered. The masking seed leaves no trace in it.
+/// How many bits a signature uses, by a count of its fields: as many as the independent writer makes of them, at most all, and behind them
+/// zeros alone; else what is wrong.
+pub fn bits_used(p: &Params, signature: &[u8], count: fn(u32, &[i8], &[i64]) -> Bits) -> Result<usize, String> {
+    let fields = read(p, signature).ok_or("no signature")?;
+    let hint: Result<Vec<i8>, _> = fields.hint.iter().map(|&h| i8::try_from(h)).collect();
+    let counted = count(p.kappa as u32, &hint.map_err(|_| "a hint beyond 8 bits")?, &fields.response);
+    let made = form_bits(&fields).len();
+    if counted != (Bits { status: 0, bits: made as u64 }) {
+        return Err(format!("{counted:?} for {made} bits"));
+    }
+    if made > 8 * signature.len() {
+        return Err(format!("{made} bits in {} bytes", signature.len()));
+    }
+    let fill = (made..8 * signature.len()).find(|at| signature[at / 8] >> (at % 8) & 1 == 1);
+    fill.map_or(Ok(made), |at| Err(format!("bit {at} is set behind {made} bits")))
+}
+
+/// A test made and verified by the unit, in the edition of the parameters, its bits counted; else what it answered. The masking seed leaves
+/// no trace in it.
 pub fn made(p: &Params, input: &Inputs, mask_seed: &[u8; 32]) -> Result<Test, String> {
     let (set, d) = (p.kappa as u32, p.d as u32);
     let (mut sk, mut sm, mut work) = (vec![0u8; p.sk_bytes()], vec![0u8; p.sig_bytes], vec![0u64; p.work_words()]);
@@ -59,6 +77,7 @@ pub fn made(p: &Params, input: &Inputs, mask_seed: &[u8; 32]) -> Result<Test, St
     if status != 0 {
         return Err(format!("verify {status}"));
     }
+    bits_used(p, &sm, unit::signature_bits)?;
     sm.extend(&input.message);
     Ok(Test { pk, sk, sm })
 }

@@ -3,7 +3,8 @@
 use independent::raccoon::{Decision, Edition, Noise};
 use independent::ring::{N, Poly};
 use raccoon::call;
-pub use raccoon::call::{Key, Signed, refresh_key, sample_challenge, sample_uniform};
+pub use raccoon::call::{Bits, Key, Signed, SigningLengths};
+pub use raccoon::call::{lengths, refresh_key, sample_challenge, sample_uniform, signature_bits};
 
 mod raw {
     extern "C" {

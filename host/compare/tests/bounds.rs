@@ -110,7 +110,11 @@ fn a_coefficient_above_its_limit() {
                 }
                 if n > 0 {
                     let earlier = random.below(n);
-                    assert_eq!(decision_on(&p, &with(&low, &[above(n), above(earlier)])), no(earlier + 1), "{what}, {earlier} too");
+                    assert_eq!(
+                        decision_on(&p, &with(&low, &[above(n), above(earlier)])),
+                        no(earlier + 1),
+                        "{what}, {earlier} too"
+                    );
                 }
             }
             for value in [MAX, MIN] {
@@ -147,7 +151,11 @@ fn check_over_the_sum(p: &Params, over: &Fields, last: usize, random: &mut Rando
     // a response at its limit adds more than the hints leave
     if last > p.k * N {
         let earlier = p.k * N + random.below(last - p.k * N);
-        assert_eq!(decision_on(p, &with(over, &[(earlier, limit(p, earlier))])), no(earlier + 1), "{earlier} lifts before {last}");
+        assert_eq!(
+            decision_on(p, &with(over, &[(earlier, limit(p, earlier))])),
+            no(earlier + 1),
+            "{earlier} lifts before {last}"
+        );
     }
 }
 
@@ -160,7 +168,12 @@ fn the_sum_above_its_bound() {
         for (in_hint, within, over) in [(true, hint(0), hint(1)), (false, response(0), response(1))] {
             for by in [0, 1, usize::MAX, random.below(p.l * N), random.below(p.l * N)] {
                 for sign in [1, -1] {
-                    assert_eq!(decision_on(&p, &rotated(&within, sign, in_hint, by).0), yes(all(&p)), "at the sum of {}", p.kappa);
+                    assert_eq!(
+                        decision_on(&p, &rotated(&within, sign, in_hint, by).0),
+                        yes(all(&p)),
+                        "at the sum of {}",
+                        p.kappa
+                    );
                     let (over, last) = rotated(&over, sign, in_hint, by);
                     check_over_the_sum(&p, &over, last, &mut random);
                 }

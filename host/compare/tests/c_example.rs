@@ -54,19 +54,21 @@ fn of_pair(p: &Params) -> [usize; 6] {
 fn example() {
     let output = printed("examples/release_order.c");
     let lines: Vec<&str> = output.lines().collect();
-    assert_eq!(lines.len(), 8, "{output}");
-    assert_eq!(lines[0], "key: 14848 bytes, the first 2256 are the public key");
-    assert_eq!(lines[1], "expanded key: 2288 bytes, 8192 words in 4 shares");
-    let attempt: u32 = lines[2].strip_prefix("signature: 11524 bytes, attempt ").unwrap().parse().unwrap();
+    assert_eq!(lines.len(), 9, "{output}");
+    assert_eq!(lines[0], "signing takes 18432 bytes of noise seeds, 512 of mask seeds, 33792 words of work");
+    assert_eq!(lines[1], "key: 14848 bytes, the first 2256 are the public key");
+    assert_eq!(lines[2], "expanded key: 2288 bytes, 8192 words in 4 shares");
+    let attempt: u32 = lines[3].strip_prefix("signature: 11524 bytes, attempt ").unwrap().parse().unwrap();
     assert!((1..=16).contains(&attempt), "{output}");
-    assert_eq!(lines[3], "the order: 0, accepted");
-    assert_eq!(lines[4], "a changed order: 16, refused: Is the recomputed challenge hash equal? No.");
-    assert_eq!(lines[5], "a changed signature: 16, refused: Is the recomputed challenge hash equal? No.");
-    assert_eq!(lines[6], "a cut signature: 13, refused: Is the signature exactly as long as the set says? No.");
-    assert_eq!(lines[7], "the order again: 0, accepted");
+    assert_eq!(lines[4], "the order: 0, accepted");
+    assert_eq!(lines[5], "a changed order: 16, refused: Is the recomputed challenge hash equal? No.");
+    assert_eq!(lines[6], "a changed signature: 16, refused: Is the recomputed challenge hash equal? No.");
+    assert_eq!(lines[7], "a cut signature: 13, refused: Is the signature exactly as long as the set says? No.");
+    assert_eq!(lines[8], "the order again: 0, accepted");
 }
 
-/// The macros of all 18 pairs; calls with nothing lent; a key and its signatures by each form of signing.
+/// The macros of all 18 pairs, and that the unit tells the same lengths; calls with nothing lent; a key and its signatures by each form of
+/// signing.
 #[test]
 fn exports() {
     let output = printed("host/compare/tests/exports.c");
@@ -74,7 +76,9 @@ fn exports() {
     assert_eq!(numbers(&output, 14), sizes);
     let rest: Vec<&str> = output.lines().skip(18).collect();
     let expected = [
-        "empty 7 7 3 3 3 3 3 3 3 3 3 3 8 8",
+        "lengths 288, of them other than the macros 0",
+        "lengths refused 1 2 6 6",
+        "empty 7 7 3 3 3 3 3 3 3 3 3 3 8 8 13",
         "keygen 0",
         "expand 0",
         "refresh 0",
@@ -87,6 +91,7 @@ fn exports() {
         "kat_sign 0 0",
         "no message 0 0",
         "samplers 0 0",
+        "bits 0 108928, 0 21475410304",
     ];
     assert_eq!(rest, expected);
 }
@@ -107,7 +112,7 @@ fn printed_tables() {
 fn complete() {
     let (unit, header, calls) = (text("crates/capi/src/lib.rt"), text("include/raccoon.h"), text("host/compare/tests/exports.c"));
     let names: Vec<&str> = unit.split("pub extern \"C\" fn ").skip(1).map(|rest| rest.split('(').next().unwrap()).collect();
-    assert_eq!(names.len(), 14);
+    assert_eq!(names.len(), 16);
     for name in names {
         assert!(header.contains(&format!(" {name}(")), "{name} is not in raccoon.h");
         assert!(calls.contains(&format!("{name}(")), "{name} is not in exports.c");
@@ -140,7 +145,7 @@ fn stack_of_the_guide() {
         row.split('|').nth(2).unwrap().trim().parse().unwrap()
     };
     let measured = printed("host/compare/tests/stack.c");
-    assert_eq!(measured.lines().count(), 6, "{measured}");
+    assert_eq!(measured.lines().count(), 8, "{measured}");
     for line in measured.lines() {
         let (call, kib) = line.split_once(' ').unwrap();
         let (told, kib) = (told(call), kib.parse::<usize>().unwrap());

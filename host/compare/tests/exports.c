@@ -1,4 +1,5 @@
 /* Every export of raccoon.h, called from C: a line for each of the sizes, the empty calls and the round trips. */
+#include <inttypes.h>
 #include <raccoon.h>
 #include <stdio.h>
 
@@ -18,6 +19,24 @@ static void sizes(void)
     }
 }
 
+/* Every pair and number of attempts: how many there are, and for how many the unit does not tell what the macros say. */
+static void lengths(void)
+{
+    unsigned all = 0, other = 0;
+    for (size_t i = 0; i < 18; i++) {
+        uint32_t s = SETS[i / 6], d = SHARES[i % 6];
+        for (uint32_t n = 1; n <= RACCOON_MAX_ATTEMPTS; n++) {
+            struct raccoon_signing_lengths told = raccoon_lengths(s, d, n);
+            all++;
+            other += told.status != RACCOON_OK || told.noise_seed_bytes != n * RACCOON_NOISE_SEED_BYTES(s, d) ||
+                     told.mask_seed_bytes != n * RACCOON_MASK_SEED_BYTES || told.work_words != RACCOON_WORK_WORDS(s, d);
+        }
+    }
+    printf("lengths %u, of them other than the macros %u\n", all, other);
+    printf("lengths refused %u %u %u %u\n", raccoon_lengths(0, 0, 0).status, raccoon_lengths(128, 0, 0).status,
+           raccoon_lengths(128, 1, 0).status, raccoon_lengths(128, 1, RACCOON_MAX_ATTEMPTS + 1).status);
+}
+
 /* All buffers empty, all pointers NULL. */
 static void empty_calls(void)
 {
@@ -29,8 +48,9 @@ static void empty_calls(void)
     printf(" %u", raccoon_sign_explicit(128, 1, 1, NULL, 0, NULL, 0, NULL, 0, NULL, 0, NULL, 0, NULL, 0).status);
     printf(" %u", raccoon_sign_expanded(128, 1, 1, NULL, 0, NULL, 0, NULL, 0, NULL, 0, NULL, 0, NULL, 0, NULL, 0).status);
     printf(" %u", raccoon_sign_expanded_explicit(128, 1, 1, NULL, 0, NULL, 0, NULL, 0, NULL, 0, NULL, 0, NULL, 0, NULL, 0).status);
-    printf(" %u %u %u %u\n", raccoon_verify(128, NULL, 0, NULL, 0, NULL, 0), raccoon_kat_verify(128, NULL, 0, NULL, 0, NULL, 0),
-           raccoon_sample_uniform(NULL, 0, NULL, 0), raccoon_sample_challenge(128, NULL, 0, NULL, 0));
+    printf(" %u %u %u %u %u\n", raccoon_verify(128, NULL, 0, NULL, 0, NULL, 0), raccoon_kat_verify(128, NULL, 0, NULL, 0, NULL, 0),
+           raccoon_sample_uniform(NULL, 0, NULL, 0), raccoon_sample_challenge(128, NULL, 0, NULL, 0),
+           raccoon_signature_bits(128, NULL, 0, NULL, 0).status);
 }
 
 enum { SET = 192, COUNT = 2, TRIES = 16 };
@@ -42,6 +62,10 @@ static uint8_t noise[TRIES * RACCOON_NOISE_SEED_BYTES(SET, COUNT)], masks[TRIES 
 static uint64_t noise_words[TRIES * RACCOON_NOISE_WORDS(SET, COUNT)], work[RACCOON_WORK_WORDS(SET, COUNT)];
 static uint8_t signature[RACCOON_SIGNATURE_BYTES(SET)];
 static const uint8_t MESSAGE[] = "exports";
+static const int8_t NO_HINT[RACCOON_N * RACCOON_K(SET)]; /* in memory that cannot be written */
+static const int64_t NO_RESPONSE[RACCOON_N * RACCOON_L(SET)];
+static int8_t hint[RACCOON_N * RACCOON_K(SET)];
+static int64_t response[RACCOON_N * RACCOON_L(SET)];
 
 #define BYTES(array) array, sizeof(array)
 #define WORDS(array) array, sizeof(array) / sizeof((array)[0])
@@ -101,10 +125,27 @@ static void round_trips(void)
     printf(" %u\n", raccoon_sample_challenge(SET, BYTES(noise), BYTES(coefficients)));
 }
 
+/* The bits of a signature of zeros, and the most that one can have. */
+static void bits(void)
+{
+    size_t i;
+    for (i = 0; i < sizeof hint; i++) {
+        hint[i] = INT8_MIN;
+    }
+    for (i = 0; i < sizeof response / sizeof response[0]; i++) {
+        response[i] = INT64_MIN;
+    }
+    struct raccoon_bits least = raccoon_signature_bits(SET, BYTES(NO_HINT), WORDS(NO_RESPONSE));
+    struct raccoon_bits most = raccoon_signature_bits(SET, BYTES(hint), WORDS(response));
+    printf("bits %u %" PRIu64 ", %u %" PRIu64 "\n", least.status, least.bits, most.status, most.bits);
+}
+
 int main(void)
 {
     sizes();
+    lengths();
     empty_calls();
     round_trips();
+    bits();
     return 0;
 }

@@ -11,7 +11,7 @@ use compare::known::words_modulo_q;
 use compare::layout::{draws, encoding_masks};
 use compare::pool::{SETS, SHARES};
 use compare::random::Random;
-use compare::unit::{self, Key, Signed, Signing};
+use compare::unit::{self, Bits, Key, Signed, Signing};
 use std::collections::BTreeSet;
 use std::process::Command;
 
@@ -63,6 +63,8 @@ fn well_formed(kind: Kind, p: &Params) -> Case {
     inputs.seeds = vec![0; n(Field::Seeds)];
     inputs.noise = vec![0; n(Field::Noise)];
     inputs.mask_seeds = vec![0; n(Field::MaskSeeds)];
+    inputs.hint = vec![0; n(Field::Hint)];
+    inputs.response = vec![0; n(Field::Response)];
     Case::new(kind, p, inputs, &mut Random(70))
 }
 
@@ -73,7 +75,7 @@ fn number(field: Field) -> u32 {
         Field::Seeds | Field::Noise | Field::MaskSeeds => 7,
         Field::ResultBytes | Field::ResultWords | Field::ResultSigns | Field::Work => 8,
         Field::Message => 9,
-        Field::Signature => 13,
+        Field::Signature | Field::Hint | Field::Response => 13,
     }
 }
 
@@ -82,7 +84,7 @@ fn later(kind: Kind, field: Field) -> Option<Field> {
     let result = number(field) == 8;
     match field {
         Field::Message if kind.verifies() => Some(Field::Signature),
-        Field::Message | Field::Signature => None,
+        Field::Message | Field::Signature | Field::Hint | Field::Response => None,
         _ if kind.signs() || kind.verifies() => Some(Field::Message),
         _ if result => None,
         _ => kind.fields().last().copied(),
@@ -171,6 +173,7 @@ fn check_compare(kind: Kind, right: &Answer) {
     };
     noticed("another status", &|answer| answer.status += 1);
     noticed("another number of attempts", &|answer| answer.attempts += 1);
+    (0..3).for_each(|i| noticed("another number told", &|answer| answer.told[i] ^= 1 << 40));
     let buffers = &right.buffers;
     places(buffers.bytes.len()).into_iter().for_each(|at| noticed("a byte", &|answer| answer.buffers.bytes[at] ^= 0x10));
     places(buffers.words.len()).into_iter().for_each(|at| noticed("a word", &|answer| answer.buffers.words[at] ^= 1 << 63));
@@ -183,7 +186,7 @@ fn check_only_read(before: &Inputs) {
     assert!(only_read(&before.clone(), before).is_ok());
     let byte = |bytes: &mut Vec<u8>| bytes.iter_mut().last().into_iter().for_each(|byte| *byte ^= 1);
     let word = |words: &mut Vec<u64>| words.iter_mut().last().into_iter().for_each(|word| *word ^= 1);
-    let changes: [&dyn Fn(&mut Inputs); 7] = [
+    let changes: [&dyn Fn(&mut Inputs); 9] = [
         &|inputs| byte(&mut inputs.key),
         &|inputs| word(&mut inputs.words),
         &|inputs| byte(&mut inputs.message),
@@ -191,6 +194,8 @@ fn check_only_read(before: &Inputs) {
         &|inputs| byte(&mut inputs.seeds),
         &|inputs| word(&mut inputs.noise),
         &|inputs| byte(&mut inputs.mask_seeds),
+        &|inputs| inputs.hint.iter_mut().last().into_iter().for_each(|number| *number ^= 1),
+        &|inputs| inputs.response.iter_mut().last().into_iter().for_each(|number| *number ^= 1),
     ];
     for change in changes {
         let mut after = before.clone();
@@ -416,11 +421,44 @@ fn wrong_samplers() -> Vec<Wrong> {
     ]
 }
 
+fn wrong_on_numbers() -> Vec<Wrong> {
+    let more_attempts = |set, shares, attempts| match unit::lengths(set, shares, attempts) {
+        answer if answer.status == 6 && attempts == 17 => unit::lengths(set, shares, 16),
+        answer => answer,
+    };
+    let attempts_first = |set, shares, attempts: u32| match attempts {
+        1..=16 => unit::lengths(set, shares, attempts),
+        _ => unit::lengths(128, 1, attempts),
+    };
+    let short = |set, hint: &[i8], response: &[i64]| match unit::signature_bits(set, hint, response) {
+        answer if answer.status == 0 => Bits { bits: answer.bits as u32 as u64, ..answer },
+        answer => answer,
+    };
+    let lengths_first = |set, hint: &[i8], response: &[i64]| match unit::signature_bits(set, hint, response) {
+        answer if answer.status == 1 && hint.is_empty() => Bits { status: 13, ..answer },
+        answer => answer,
+    };
+    vec![
+        ("tells the lengths of 17 attempts", Kind::Lengths, Calls { lengths: more_attempts, ..UNIT }),
+        ("asks for the attempts first", Kind::Lengths, Calls { lengths: attempts_first, ..UNIT }),
+        ("counts with 32 bits", Kind::SignatureBits, Calls { signature_bits: short, ..UNIT }),
+        ("asks for the set last", Kind::SignatureBits, Calls { signature_bits: lengths_first, ..UNIT }),
+    ]
+}
+
 #[test]
 fn a_wrong_unit_is_noticed() {
     let fuzz = Fuzz::new(SEED);
-    let all = [wrong_on_keys(), wrong_on_masks(), wrong_on_digests(), wrong_on_bounds(), wrong_on_signatures(), wrong_samplers()]
-        .concat();
+    let all = [
+        wrong_on_keys(),
+        wrong_on_masks(),
+        wrong_on_digests(),
+        wrong_on_bounds(),
+        wrong_on_signatures(),
+        wrong_samplers(),
+        wrong_on_numbers(),
+    ]
+    .concat();
     for (what, kind, calls) in all {
         let mut these = (0..CASES).filter(|&number| fuzz.case(number).kind == kind);
         let first = these.find_map(|number| Some((number, fuzz.put(number, &calls, &mut Tally::new()).err()?)));

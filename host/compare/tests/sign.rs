@@ -3,7 +3,9 @@
 //! independent implementation, with guards around the result and the work buffer; what was signed is verified.
 
 use compare::independent::masks::Masks;
-use compare::independent::raccoon::{Edition, Noise, Params, expand, form_bits, keygen, read, refresh, sample_u, with_digest};
+use compare::independent::raccoon::{
+    Edition, Fields, Noise, Params, attempted, check_bounds, expand, form_bits, keygen, read, refresh, sample_u, with_digest,
+};
 use compare::independent::ring::{N, Q};
 use compare::known::{digest, known, word_bytes, words_modulo_q, xof};
 use compare::layout::{digest_is_true, full_share, laid_out, put_bits, small_totals, sums, words_below_q};
@@ -517,6 +519,50 @@ fn attempts_that_fail() {
     }
 }
 
+/// Noise totals that make a signature of about the length that there is: one more bit in so many codes of the response.
+fn near_totals(p: &Params, ones: usize, number: u64) -> Vec<u64> {
+    let mut totals = small_totals(p, &mut Random(number));
+    totals.iter_mut().take(ones).for_each(|x| *x = if *x < Q / 2 { *x + (1 << 40) } else { *x - (1 << 40) });
+    totals
+}
+
+/// The fields that one attempt of one share comes to, by the independent implementation.
+fn fields_of(p: &Params, bytes: &[u8], secret: &[u64], totals: &[u64]) -> Fields {
+    let attempts = [(Noise::Words(totals), Masks::Seed(&[0; 32]))];
+    let mut all = attempted(p, bytes, secret, b"near", &attempts).expect("a matrix");
+    all.next().expect("one attempt").expect("fields")
+}
+
+/// How many bits fields take, by the unit.
+fn counted(p: &Params, fields: &Fields) -> u64 {
+    let hint: Vec<i8> = fields.hint.iter().map(|&h| h.try_into().expect("a hint of 8 bits")).collect();
+    let unit::Bits { status, bits } = unit::signature_bits(p.kappa as u32, &hint, &fields.response);
+    assert_eq!(status, 0);
+    bits
+}
+
+/// Signing fails for length in just the attempts where the number of bits says so (paper 02, request #103): attempts whose fields are within the
+/// bounds and near the length, some above it and some not.
+#[test]
+fn too_long_where_the_number_says_so() {
+    for (set, ones) in [(128, 1000), (192, 1310), (256, 1770)] {
+        let p = params(set, 1);
+        let key = signing_key(&p);
+        let (bytes, secret) = (&with_digest(&p, &key[..p.vk_bytes()]), expand(&p, &key).unwrap());
+        let mut ends = [0; 2];
+        for number in 0..40 {
+            let totals = near_totals(&p, ones, number);
+            let fields = fields_of(&p, bytes, &secret, &totals);
+            assert!(check_bounds(&p, &fields), "{set}, {number}: within the bounds");
+            let too_long = counted(&p, &fields) > 8 * p.sig_bytes as u64;
+            let status = laid_out_call(&p, bytes, &secret, &[&totals], b"near", &mut Random(64)).numbers().0;
+            assert_eq!(status, if too_long { 12 } else { 0 }, "{set}, {number}");
+            ends[usize::from(too_long)] += 1;
+        }
+        assert!(ends.iter().all(|&n| n > 5), "{set}: {ends:?}");
+    }
+}
+
 /// Signatures of exactly the length that there is, and too long by one bit: the places of these in a search over the numbers of [`Random`].
 #[test]
 fn length_to_the_bit() {
@@ -524,18 +570,16 @@ fn length_to_the_bit() {
         let p = params(set, 1);
         let key = signing_key(&p);
         let (bytes, secret) = (&with_digest(&p, &key[..p.vk_bytes()]), expand(&p, &key).unwrap());
-        let totals = |number: u64| {
-            let mut totals = small_totals(&p, &mut Random(number));
-            // one more bit in so many codes of the response
-            totals.iter_mut().take(ones).for_each(|x| *x = if *x < Q / 2 { *x + (1 << 40) } else { *x - (1 << 40) });
-            totals
-        };
         let call =
             |d: usize, totals: &[&Vec<u64>]| laid_out_call(&params(set, d), bytes, &secret, totals, b"near", &mut Random(64));
-        let (full, over) = (totals(full), totals(over));
+        let (full, over) = (near_totals(&p, ones, full), near_totals(&p, ones, over));
         let answer = call(1, &[&full]).checked();
         let fields = read(&p, &answer.2.expect("a signature")).unwrap();
         assert_eq!(form_bits(&fields).len(), 8 * p.sig_bytes);
+        assert_eq!(counted(&p, &fields), 8 * p.sig_bytes as u64);
+        let fields = fields_of(&p, bytes, &secret, &over);
+        assert_eq!(counted(&p, &fields), 8 * p.sig_bytes as u64 + 1);
+        assert!(check_bounds(&p, &fields), "{set}: within the bounds");
         assert_eq!(call(1, &[&over]).numbers(), (12, 1), "{set}: one bit too long");
         assert_eq!(call(2, &[&over, &full]).numbers(), (0, 2), "{set}: one bit too long, then full");
     }

@@ -17,6 +17,8 @@ static unsigned char stack[SIZE] __attribute__((aligned(4096)));
 static uint32_t set, shares;
 static uint8_t *seeds, *key, *bytes, *fresh, *signature, masks[2 * RACCOON_MASK_SEED_BYTES], message[RACCOON_MAX_MESSAGE_BYTES];
 static uint64_t *words, *fresh_words, *work;
+static int8_t hint[RACCOON_N * RACCOON_K(256)];
+static int64_t response[RACCOON_N * RACCOON_L(256)];
 static uint32_t status;
 
 static void generating(void) {
@@ -53,12 +55,21 @@ static void verifying(void) {
     status = raccoon_verify(set, key, RACCOON_PUBLIC_KEY_BYTES(set), message, sizeof message, signature, RACCOON_SIGNATURE_BYTES(set));
 }
 
+static void telling(void) {
+    status = raccoon_lengths(set, shares, RACCOON_MAX_ATTEMPTS).status;
+}
+
+static void counting(void) {
+    status = raccoon_signature_bits(set, hint, RACCOON_N * RACCOON_K(set), response, RACCOON_N * RACCOON_L(set)).status;
+}
+
 static void nothing(void) {
     status = 0;
 }
 
-static void (*const calls[])(void) = {nothing, generating, expanding, refreshing, signing, signing_expanded, verifying};
-static const char *const names[] = {"", "raccoon_keygen", "raccoon_expand_key", "raccoon_refresh_key", "raccoon_sign", "raccoon_sign", "raccoon_verify"};
+static void (*const calls[])(void) = {nothing, generating, expanding, refreshing, signing, signing_expanded, verifying, telling, counting};
+static const char *const names[] = {"",             "raccoon_keygen", "raccoon_expand_key", "raccoon_refresh_key",   "raccoon_sign",
+                                    "raccoon_sign", "raccoon_verify", "raccoon_lengths",    "raccoon_signature_bits"};
 enum { CALLS = sizeof calls / sizeof *calls };
 
 static void *run(void *call) {

@@ -85,6 +85,25 @@ impl Params {
     }
 }
 
+/// What a signing call from seeds is lent besides key and message, for all its attempts.
+#[derive(Clone, Copy, PartialEq, Eq, Debug)]
+pub struct Lengths {
+    pub noise_seed_bytes: usize,
+    pub mask_seed_bytes: usize,
+    pub work_words: usize,
+}
+
+/// The lengths of a signing call, or the first of checks 1, 2 and 6 that is answered with no (paper 02, request #103). Noise seeds and mask
+/// seeds are for each attempt anew, the work buffer serves all of them.
+pub fn lengths(set: usize, d: usize, attempts: usize) -> Checked<Lengths> {
+    Params::new(set, 1, Edition::Printed).ok_or(1u32)?;
+    let p = Params::new(set, d, Edition::Printed).ok_or(2u32)?;
+    if !(1..=16).contains(&attempts) {
+        return Err(6);
+    }
+    Ok(Lengths { noise_seed_bytes: attempts * p.noise_bytes(), mask_seed_bytes: attempts * 32, work_words: p.work_words() })
+}
+
 fn xof(header: &[u8], seed: &[u8]) -> Shake256 {
     let mut xof = Shake256::new();
     xof.absorb(header);
@@ -349,6 +368,25 @@ pub fn form_bits(f: &Fields) -> Vec<bool> {
     bits
 }
 
+/// How many bits [`form_bits`] makes of one number: w low bits, a one for each 2^w in it, a zero, and a sign unless it is 0.
+fn code_bits(w: u32, z: i64) -> u128 {
+    let a = u128::from(z.unsigned_abs());
+    let sign = if z == 0 { 0 } else { 1 };
+    u128::from(w) + (a >> w) + 1 + sign
+}
+
+/// How many bits [`form_bits`] makes of a hash of the set, this hint and this response, or check 1 or 13 (paper 02, request #103). They are
+/// counted, not made: the largest numbers take gigabytes.
+pub fn signature_bits(set: usize, hint: &[i8], response: &[i64]) -> Checked<u128> {
+    let p = Params::new(set, 1, Edition::Printed).ok_or(1u32)?;
+    if hint.len() != p.k * N || response.len() != p.l * N {
+        return Err(13);
+    }
+    let hints: u128 = hint.iter().map(|&h| code_bits(0, h.into())).sum();
+    let responses: u128 = response.iter().map(|&z| code_bits(40, z)).sum();
+    Ok(8 * p.hash_bytes() as u128 + hints + responses)
+}
+
 pub fn write(p: &Params, f: &Fields) -> Option<Vec<u8>> {
     let bits = form_bits(f);
     if bits.len() > 8 * p.sig_bytes {
@@ -438,8 +476,8 @@ fn commitment(p: &Params, tables: &Tables, a: &[Vec<Poly>], z: &[Poly], c: &Poly
         .collect()
 }
 
-/// Lines 4 to 20 of Algorithm 2: the signature; nothing for an attempt over the bounds or too long; or, where masks or the challenge do not
-/// fill, the check that ends the call, 20 or 11. The shares of s go on to the next attempt as they are left.
+/// Lines 4 to 19 of Algorithm 2: the fields that an attempt comes to; or, where masks or the challenge do not fill, the check that ends the
+/// call, 20 or 11. The shares of s go on to the next attempt as they are left.
 fn attempt(
     p: &Params,
     tables: &Tables,
@@ -449,7 +487,7 @@ fn attempt(
     s: &mut [Vec<Poly>],
     noise: Noise,
     masks: Masks,
-) -> Checked<Option<Vec<u8>>> {
+) -> Checked<Fields> {
     let mut masks = MaskGenerator::new(masks);
     let mut r: Vec<Vec<Poly>> = (0..p.l).map(|_| masks.zero_encoding(p.d)).collect::<Checked<_>>()?;
     add_rep_noise(p, &mut r, 0, p.uw, noise, &mut masks)?;
@@ -468,22 +506,33 @@ fn attempt(
     let z: Vec<Poly> = z.iter().map(|sharing| decode(sharing)).collect();
     let y = commitment(p, tables, a, &z, &c, t);
     let hint = w.iter().zip(&y).map(|(w, y)| centred((w + 31 - y) % 31, 31)).collect();
-    let fields = Fields { hash, hint, response: z.iter().flat_map(|z| z.map(|x| centred(x, Q))).collect() };
-    Ok(if check_bounds(p, &fields) { write(p, &fields) } else { None })
+    Ok(Fields { hash, hint, response: z.iter().flat_map(|z| z.map(|x| centred(x, Q))).collect() })
 }
 
-/// Signing with an expanded key whose lengths and words are right: status, attempts, signature. The digest is taken as it stands behind
-/// the public key.
-pub fn sign(p: &Params, bytes: &[u8], words: &[u64], message: &[u8], attempts: &[(Noise, Masks)]) -> (u32, u32, Option<Vec<u8>>) {
+/// The fields of one attempt after the other, with an expanded key whose lengths and words are right; nothing where the matrix does not fill.
+/// The digest is taken as it stands behind the public key.
+pub fn attempted<'a>(
+    p: &'a Params,
+    bytes: &[u8],
+    words: &[u64],
+    message: &[u8],
+    attempts: &'a [(Noise<'a>, Masks<'a>)],
+) -> Option<impl Iterator<Item = Checked<Fields>> + use<'a>> {
     assert_eq!(bytes.len(), p.expanded_bytes(), "public key and digest");
     let (vk, digest) = bytes.split_at(p.vk_bytes());
     let tables = Tables::new();
-    let Some(a) = matrix(p, &tables, &vk[..p.seed_bytes()]) else { return (10, 0, None) };
+    let a = matrix(p, &tables, &vk[..p.seed_bytes()])?;
     let t = unpack(&vk[p.seed_bytes()..], 7);
     let mu = hash(&[digest, message], p.hash_bytes());
     let mut s = sharings(p, words);
-    for (number, &(noise, masks)) in (1..).zip(attempts) {
-        match attempt(p, &tables, &a, &t, &mu, &mut s, noise, masks) {
+    Some(attempts.iter().map(move |&(noise, masks)| attempt(p, &tables, &a, &t, &mu, &mut s, noise, masks)))
+}
+
+/// Signing, as [`attempted`] has the key: status, attempts, signature. Line 20: an attempt over the bounds or too long leads to the next.
+pub fn sign(p: &Params, bytes: &[u8], words: &[u64], message: &[u8], attempts: &[(Noise, Masks)]) -> (u32, u32, Option<Vec<u8>>) {
+    let Some(all) = attempted(p, bytes, words, message, attempts) else { return (10, 0, None) };
+    for (number, fields) in (1..).zip(all) {
+        match fields.map(|fields| if check_bounds(p, &fields) { write(p, &fields) } else { None }) {
             Ok(Some(signature)) => return (0, number, Some(signature)),
             Ok(None) => {}
             Err(check) => return (check, number, None),

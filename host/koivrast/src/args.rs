@@ -125,6 +125,11 @@ impl Args {
         }
     }
 
+    /// A required option as a number.
+    pub fn required_number(&self, name: &str) -> Result<u32, Trouble> {
+        self.number(name).map(|number| number.expect("a required option is there"))
+    }
+
     pub fn operands(&self) -> &[PathBuf] {
         &self.operands
     }

@@ -12,8 +12,7 @@ use std::path::Path;
 
 /// Makes a signing key and its public key.
 pub fn keygen(args: &Args) -> Result<(), Trouble> {
-    let number = |name| args.number(name).map(|number| number.expect("a required option is there"));
-    let (set, shares) = (number("--set")?, number("--shares")?);
+    let (set, shares) = (args.required_number("--set")?, args.required_number("--shares")?);
     let (key_path, public_path) = (args.path("--key"), args.path("--public"));
     if same_place(key_path, public_path) {
         return Err(args.usage("--key and --public name the same file".into()));

@@ -4,7 +4,7 @@ use crate::args::Args;
 use crate::files::print;
 use crate::inspect::fingerprint;
 use crate::trouble::{Doing, Trouble};
-use raccoon::{ExpandedKey, MASK_SEED_BYTES, MAX_ATTEMPTS, N, PublicKey, Q, Signature, SigningKey};
+use raccoon::{ExpandedKey, Lengths, MAX_ATTEMPTS, N, PublicKey, Q, Signature, SigningKey};
 use raccoon::{KeygenSeeds, Params, Refusal, Secret, Set, Shares, SigningSeeds, os_random};
 use std::fmt::Write as _;
 use std::io::{self, IsTerminal, Write as _};
@@ -126,10 +126,11 @@ fn six_answers(set: Set, keys: &[ExpandedKey], random: &mut Random, progress: &P
         let params = key.params();
         progress.step(format!("{} of {}: signing, share count {}", number + 1, keys.len(), params.shares.count()));
         let noise = random.cut(&totals, params.shares).map_err(Trouble::random)?;
-        let mut mask_seed = Secret::zeros(MASK_SEED_BYTES);
+        let signing = |refusal| Trouble::refused(refusal, Doing::Signing);
+        let mut mask_seed = Secret::zeros(Lengths::of(params, 1).map_err(signing)?.mask_seed_bytes);
         os_random(&mut mask_seed).map_err(Trouble::random)?;
         let explicit = SigningSeeds::new(params).attempts(1).and_then(|seeds| seeds.explicit(&noise, &mask_seed));
-        let explicit = explicit.map_err(|refusal| Trouble::refused(refusal, Doing::Signing))?;
+        let explicit = explicit.map_err(signing)?;
         let answer = key.sign_explicit(MESSAGE, explicit).map(|signed| signed.signature).map_err(|answer| answer.refusal);
         if answer == Err(Refusal::MasksNotFilled) {
             return Err(Trouble::refused(Refusal::MasksNotFilled, Doing::Signing));

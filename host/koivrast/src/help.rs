@@ -19,6 +19,7 @@ Commands:
   sign        sign a message
   verify      ask whether a signature is good
   inspect     tell what is in a key or a signature
+  lengths     tell what a program that signs has to lend to the unit
   bench-demo  show that six share counts give one signature
   help        this text, or that of a command: koivrast help sign
 
@@ -130,6 +131,22 @@ order. Whether a signature is good, only verify says.
 
 Example:
   koivrast inspect gate.key gate.pub order.sig
+";
+
+pub const LENGTHS: &str = "\
+koivrast lengths --set SET --shares COUNT [--attempts COUNT]
+
+Tells what a signing call is lent, as the unit counts it: the bytes of the noise
+seeds and of the mask seeds, of all attempts together, and the work buffer, in words
+of 8 bytes and in bytes. That is for programs which call the unit themselves; the
+command sign brings all of it.
+
+  --set SET         128, 192 or 256
+  --shares COUNT    1, 2, 4, 8, 16 or 32
+  --attempts COUNT  how many attempts are allowed, 1 to 16; 16 if not given
+
+Example:
+  koivrast lengths --set 128 --shares 4 --attempts 8
 ";
 
 pub const BENCH_DEMO: &str = "\

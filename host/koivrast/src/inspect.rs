@@ -1,4 +1,5 @@
-//! What is in a key or a signature. Of secrets only sizes are told. Signatures are read by the independent implementation.
+//! What is in a key or a signature. Of secrets only sizes are told. Signatures are read by the independent implementation, their
+//! bits counted by the unit.
 
 use crate::args::Args;
 use crate::files::{Contents, print};
@@ -161,6 +162,7 @@ fn signature(set: Set, file: &[u8]) -> Findings {
     let well_formed = fields.as_ref().is_some_and(|fields| plain::write(&p, fields).as_deref() == Some(file));
     line(&mut text, "form", verdict(well_formed, "in order", Refusal::BadSignatureForm));
     let within = fields.is_some_and(|fields| {
+        line(&mut text, "bits used", bits_used(set, &fields));
         tell_fields(&mut text, &p, &fields);
         plain::check_bounds(&p, &fields)
     });
@@ -174,10 +176,24 @@ fn squared_norm(hint: &[i64], response: &[i64]) -> u128 {
     (squares(hint, 0) << 24) + squares(response, 32)
 }
 
-/// Hint, bits used and norms of a signature that can be read.
+fn part(value: u128, bound: u128) -> String {
+    format!("{value} of {bound} ({:.1} %)", 100.0 * value as f64 / bound as f64)
+}
+
+/// How many bits of a signature are used, before it is filled with zeros. A forged hint may have numbers that the unit does not take.
+fn bits_used(set: Set, fields: &Fields) -> String {
+    let hint: Result<Vec<i8>, i64> = fields.hint.iter().map(|&z| i8::try_from(z).map_err(|_| z)).collect();
+    match hint {
+        Ok(hint) => {
+            let bits = set.signature_bits(&hint, &fields.response).expect("as many numbers as the set says");
+            part(bits.into(), 8 * set.signature_bytes() as u128)
+        }
+        Err(z) => format!("not counted: the hint has {z}, where the unit counts from -128 to 127"),
+    }
+}
+
+/// Norms and hint of a signature that can be read.
 fn tell_fields(text: &mut String, p: &plain::Params, fields: &Fields) {
-    let part = |value: u128, bound: u128| format!("{value} of {bound} ({:.1} %)", 100.0 * value as f64 / bound as f64);
-    line(text, "bits used", part(plain::form_bits(fields).len() as u128, 8 * p.sig_bytes as u128));
     let largest = |numbers: &[i64]| numbers.iter().map(|z| u128::from(z.unsigned_abs())).max().unwrap_or(0);
     line(text, "largest hint", part(largest(&fields.hint), p.hint_limit().into()));
     line(text, "largest response", part(largest(&fields.response), p.binf.into()));

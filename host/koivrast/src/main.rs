@@ -8,6 +8,7 @@ mod help;
 mod inspect;
 mod keys;
 mod kind;
+mod lengths;
 mod trouble;
 
 use args::{Args, Operands, Syntax, did_you_mean};
@@ -23,7 +24,7 @@ struct Command {
     run: fn(&Args) -> Result<(), Trouble>,
 }
 
-static COMMANDS: [Command; 7] = [
+static COMMANDS: [Command; 8] = [
     Command {
         name: "keygen",
         syntax: Syntax {
@@ -74,6 +75,12 @@ static COMMANDS: [Command; 7] = [
         syntax: Syntax { required: &[], optional: &[], flags: &[], operands: Operands::OneOrMore },
         help: help::INSPECT,
         run: inspect::run,
+    },
+    Command {
+        name: "lengths",
+        syntax: Syntax { required: &["--set", "--shares"], optional: &["--attempts"], flags: &[], operands: Operands::None },
+        help: help::LENGTHS,
+        run: lengths::run,
     },
     Command {
         name: "bench-demo",

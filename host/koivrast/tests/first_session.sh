@@ -69,7 +69,7 @@ expect 'no command' 2 'Try: koivrast help' "$tool"
 for word in help --help -h; do expect "$word" 0 'koivrast keygen --set 128 --shares 4' "$tool" $word; done
 expect 'help help' 0 'Exit status' "$tool" help help
 expect 'version' 0 '^koivrast [0-9]' "$tool" --version
-for command in keygen open refresh sign verify inspect bench-demo; do
+for command in keygen open refresh sign verify inspect lengths bench-demo; do
     expect "help $command" 0 "^koivrast $command " "$tool" help $command
     expect "$command --help" 0 '^Example' "$tool" $command --help
     expect "$command in the list" 0 "^  $command  " "$tool" help
@@ -157,6 +157,42 @@ expect 'inspect standard input' 0 'standard input: public key of set 128' eval '
 expect 'inspect keys that differ' 0 'same public key in these 2 files: no' "$tool" inspect gate.pub 128-4.pub
 expect 'inspect goes on after a missing file' 2 'gate.pub: public key' "$tool" inspect missing gate.pub
 expect 'inspect what is nothing' 1 'order.txt has 16 bytes: no key and no signature is that long' "$tool" inspect order.txt
+
+# ---- What a signing call takes
+
+# lengths_are NAME NUMBERS OPTIONS...: just these rows
+lengths_are() {
+    name=$1 numbers=$2
+    shift 2
+    "$tool" lengths "$@" >.said 2>&1 </dev/null
+    holds "$name" test "$(tail -n +2 .said | awk '{ print $NF }' | tr '\n' ' ')" = "$numbers "
+    holds "$name: names" test "$(tail -n +2 .said | sed 's/^  //; s/  *[0-9]*$//' | tr '\n' ',')" = \
+        'noise seed bytes,mask seed bytes,work words,work buffer bytes,'
+    holds "$name: one column" test "$(awk 'NR > 1 { print length($0) }' .said | sort -u | wc -l)" -eq 1
+}
+lengths_are 'lengths' '9216 256 33792 270336' --set 128 --shares 4 --attempts 8
+holds 'lengths: of what' grep -q '^set 128, share count 4, attempts 8$' .said
+lengths_are 'lengths, the least' '1152 32 15360 122880' --set 128 --shares 1 --attempts 1
+lengths_are 'lengths, 16 attempts if not given' '1048576 512 308224 2465792' --shares=32 --set=256
+holds 'lengths, 16 attempts if not given: said' grep -q 'attempts 16$' .said
+lengths_are 'lengths, 192' '36864 128 68608 548864' --set 192 --shares 8 --attempts 4
+sh -c "$("$tool" help lengths | sed -n 's/^  koivrast/"$tool"/p')" >.said 2>&1
+holds 'lengths: example of the help' grep -q '^  noise seed bytes  *9216$' .said
+expect 'lengths, check 1' 1 'refused, 1: Is the set' "$tool" lengths --set 127 --shares 3 --attempts 0
+holds 'lengths, check 1: what to do' grep -q 'Take --set 128, 192 or 256' .said
+expect 'lengths, check 2' 1 'refused, 2: Is the share count' "$tool" lengths --set 128 --shares 3 --attempts 0
+holds 'lengths, check 2: what to do' grep -q 'Take --shares 1, 2, 4, 8, 16 or 32' .said
+for attempts in 0 17 99999999999999; do
+    expect "lengths, check 6, $attempts" 1 'refused, 6: Are the allowed attempts' \
+        "$tool" lengths --set 128 --shares 4 --attempts $attempts
+    holds "lengths, check 6, $attempts: what to do" grep -q 'Take --attempts from 1 to 16' .said
+    fails "lengths, check 6, $attempts: no number" grep -q 'bytes' .said
+done
+expect 'lengths of no set' 2 'lengths: missing options --set, --shares' "$tool" lengths
+expect 'lengths, no number' 2 "attempts wants a number, not 'many'" "$tool" lengths --set 128 --shares 4 --attempts many
+expect 'lengths, too many words' 2 "'gate.key' is one word too many" "$tool" lengths --set 128 --shares 4 gate.key
+expect 'lengths to a full standard output' 2 'standard output: No space left' \
+    eval '"$tool" lengths --set 128 --shares 4 >/dev/full'
 
 # ---- Refusals, by their number
 

@@ -1,4 +1,4 @@
-//! What inspect tells of signatures at the bounds and over them: the coefficient that decided, and why.
+//! What inspect tells of signatures: the bits used; at the bounds and over them the coefficient that decided, and why.
 
 use independent::raccoon::{Edition, Fields, Params, write};
 use std::io::Write;
@@ -29,6 +29,33 @@ fn inspected(set: usize, puts: &[Put]) -> (Option<i32>, String) {
     tool.stdin.take().unwrap().write_all(&signature).unwrap();
     let output = tool.wait_with_output().unwrap();
     (output.status.code(), String::from_utf8(output.stdout).unwrap())
+}
+
+/// The line of the bits used is this.
+fn check_bits(set: usize, puts: &[Put], used: &str) {
+    let (_, report) = inspected(set, puts);
+    assert!(report.contains(&format!("\n  bits used          {used}\n")), "not there: {used}\n{report}");
+}
+
+/// Zeros take 86784 bits of set 128, 108928 of set 192 and 152064 of set 256.
+#[test]
+fn bits_used() {
+    check_bits(128, &[], "86784 of 92192 (94.1 %)");
+    check_bits(192, &[Hint(3583, 1), Response(0, -(1 << 40))], "108932 of 116352 (93.6 %)");
+    // full to the bit
+    check_bits(128, &[Response(5, 5407 << 40)], "92192 of 92192 (100.0 %)");
+    check_bits(256, &[Hint(0, -128), Hint(1, 127), Response(3583, 10_318 << 40)], "162640 of 162640 (100.0 %)");
+}
+
+/// A forged hint that a signed byte does not hold.
+#[test]
+fn bits_of_a_hint_beyond_a_byte() {
+    for value in [128, -129, 5000] {
+        let said = format!("not counted: the hint has {value}, where the unit counts from -128 to 127");
+        check_bits(128, &[Hint(7, value)], &said);
+        let decided = format!("hint, polynomial 0, place 7: {value}, above its limit, 2");
+        check_decided(128, &[Hint(7, value), Hint(8, 3)], &decided, "8 of 4608");
+    }
 }
 
 /// Nothing decided against it.

@@ -70,6 +70,11 @@ mod raw {
             set: u32,
             public_key: *const u8, key_len: usize, message: *const u8, message_len: usize, signature: *const u8, signature_len: usize,
         ) -> u32;
+        pub fn raccoon_lengths(set: u32, shares: u32, attempts: u32) -> super::SigningLengths;
+        pub fn raccoon_signature_bits(
+            set: u32,
+            hint: *const i8, hint_len: usize, response: *const i64, response_len: usize,
+        ) -> super::Bits;
         pub fn raccoon_sample_challenge(set: u32, bytes: *const u8, bytes_len: usize, signs_out: *mut i8, signs_len: usize) -> u32;
         pub fn raccoon_sample_uniform(bytes: *const u8, bytes_len: usize, words_out: *mut u64, words_len: usize) -> u32;
     }
@@ -159,6 +164,34 @@ pub fn verify(edition: Edition, set: u32, public_key: &[u8], message: &[u8], sig
     unsafe {
         call(set, public_key.as_ptr(), public_key.len(), message.as_ptr(), message.len(), signature.as_ptr(), signature.len())
     }
+}
+
+/// What a signing call from seeds is lent, for all its attempts: with a status other than 0 the numbers are 0.
+#[repr(C)]
+#[derive(Clone, Copy, PartialEq, Eq, Debug)]
+pub struct SigningLengths {
+    pub status: u32,
+    pub noise_seed_bytes: u64,
+    pub mask_seed_bytes: u64,
+    pub work_words: u64,
+}
+
+/// The lengths of a signing call from seeds.
+pub fn lengths(set: u32, shares: u32, attempts: u32) -> SigningLengths {
+    unsafe { raw::raccoon_lengths(set, shares, attempts) }
+}
+
+/// How many bits a signature takes before it is filled with zeros: with a status other than 0 the number is 0.
+#[repr(C)]
+#[derive(Clone, Copy, PartialEq, Eq, Debug)]
+pub struct Bits {
+    pub status: u32,
+    pub bits: u64,
+}
+
+/// The bits of a signature with this hint and response. It is lent nothing to write.
+pub fn signature_bits(set: u32, hint: &[i8], response: &[i64]) -> Bits {
+    unsafe { raw::raccoon_signature_bits(set, hint.as_ptr(), hint.len(), response.as_ptr(), response.len()) }
 }
 
 /// What signing reports: the status, and the attempt that passed (with 12 all attempts, with 11 and 20 the attempt that met it, else 0).

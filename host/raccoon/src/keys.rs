@@ -2,7 +2,7 @@
 
 use crate::call::{self, Edition};
 use crate::secret::Secret;
-use crate::{KeygenSeeds, MASK_SEED_BYTES, Params, Refusal, Set, Shares};
+use crate::{KeygenSeeds, Lengths, MASK_SEED_BYTES, Params, Refusal, Set, Shares};
 use std::fmt;
 
 /// A public key: its length is that of its set, its coefficients are below 125.
@@ -81,7 +81,8 @@ impl SigningKey {
     /// Algorithm 1. Refused with 10 or 20 (no known seeds are).
     pub fn generate(seeds: KeygenSeeds) -> Result<SigningKey, Refusal> {
         let params = seeds.params;
-        let (mut bytes, mut work) = (Secret::zeros(params.signing_key_bytes()), Secret::zeros(params.work_words()));
+        let work_words = Lengths::of_one(params).work_words;
+        let (mut bytes, mut work) = (Secret::zeros(params.signing_key_bytes()), Secret::zeros(work_words));
         let (set, shares) = params.numbers();
         Refusal::from_status(call::keygen(Edition::Printed, set, shares, &seeds.seeds, &seeds.mask_seed, &mut bytes, &mut work))?;
         Ok(SigningKey { params, bytes })

@@ -20,7 +20,8 @@
 //! # }
 //! ```
 //!
-//! * [`Params`]: set and share count, and every size that follows from them.
+//! * [`Params`]: set and share count, and the sizes that follow from them.
+//! * [`Lengths`]: what a signing call takes, asked of the unit, as is [`Set::signature_bits`].
 //! * [`SigningKey`], [`ExpandedKey`], [`PublicKey`], [`Signature`]: the byte forms of paper 000, section 2.5.
 //! * [`Secret`]: bytes or words that are wiped when they are dropped.
 //! * [`KeygenSeeds`], [`SigningSeeds`], [`ExplicitNoise`]: what a call is lent besides.
@@ -32,6 +33,7 @@
 pub mod call;
 
 mod keys;
+mod lengths;
 mod params;
 mod refusal;
 mod secret;
@@ -39,6 +41,7 @@ mod seeds;
 mod sign;
 
 pub use keys::{ExpandedKey, PublicKey, Signature, SigningKey};
+pub use lengths::Lengths;
 pub use params::{MASK_SEED_BYTES, MAX_ATTEMPTS, MAX_MESSAGE_BYTES, N, Params, Q, Set, Shares};
 pub use refusal::Refusal;
 pub use secret::Secret;

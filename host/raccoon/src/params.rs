@@ -1,13 +1,14 @@
-//! Set, share count and the sizes that follow from them (paper 01, Figures; paper 000, Tables 2 to 4).
+//! Set, share count and the sizes that follow from them (paper 01, Figures; paper 000, Tables 2 to 4). What signing takes besides, the unit
+//! tells ([`Lengths`]).
 
-use crate::Refusal;
+use crate::{Lengths, Refusal};
 use std::fmt;
 
 /// The modulus, 16515073 x 33292289.
 pub const Q: u64 = 549_824_583_172_097;
 /// Coefficients of a polynomial.
 pub const N: usize = 512;
-/// Bytes of one mask seed; signing takes one for each attempt.
+/// Bytes of one mask seed, as key generation and refreshing take it; of signing [`Lengths`] tells.
 pub const MASK_SEED_BYTES: usize = 32;
 /// The most attempts that signing may be allowed.
 pub const MAX_ATTEMPTS: u32 = 16;
@@ -166,24 +167,14 @@ impl Params {
         self.set.expanded_bytes() + 8 * self.share_words()
     }
 
-    /// Noise seeds of one attempt.
-    pub const fn noise_seed_bytes(self) -> usize {
-        (self.set.l() + self.set.k()) * self.shares.count() * self.shares.repetitions() * self.set.seed_bytes()
-    }
-
     /// Explicit noise of one attempt: l + k polynomials of all shares.
     pub const fn noise_words(self) -> usize {
         N * (self.set.l() + self.set.k()) * self.shares.count()
     }
 
     /// Seeds of key generation: the matrix seed, the noise seeds of one attempt, the share seeds.
-    pub const fn keygen_seed_bytes(self) -> usize {
-        self.noise_seed_bytes() + self.shares.count() * self.set.seed_bytes()
-    }
-
-    /// The work buffer of key generation and of signing.
-    pub const fn work_words(self) -> usize {
-        N * (2 * self.set.l() * self.shares.count() + 4 * self.shares.count() + 2 * self.set.k() + 8)
+    pub fn keygen_seed_bytes(self) -> usize {
+        Lengths::of_one(self).noise_seed_bytes + self.shares.count() * self.set.seed_bytes()
     }
 
     pub(crate) fn numbers(self) -> (u32, u32) {

@@ -1,7 +1,7 @@
 //! What calls are lent besides keys and messages. No type here can be copied, and a call takes it by value: nothing is used twice.
 
 use crate::secret::Secret;
-use crate::{MASK_SEED_BYTES, MAX_ATTEMPTS, Params, Q, Refusal};
+use crate::{Lengths, MASK_SEED_BYTES, MAX_ATTEMPTS, Params, Q, Refusal};
 use std::fs::File;
 use std::io::{self, Read};
 
@@ -50,7 +50,8 @@ impl SigningSeeds {
     /// Seeds for a key of these parameters; 16 attempts unless [`SigningSeedsBuilder::attempts`] says otherwise.
     #[allow(clippy::new_ret_no_self)]
     pub fn new(params: Params) -> SigningSeedsBuilder {
-        SigningSeedsBuilder { params, attempts: MAX_ATTEMPTS }
+        let lengths = Lengths::of(params, MAX_ATTEMPTS).expect("so many attempts are allowed");
+        SigningSeedsBuilder { params, attempts: MAX_ATTEMPTS, lengths }
     }
 }
 
@@ -71,28 +72,24 @@ impl SigningSeeds {
 pub struct SigningSeedsBuilder {
     params: Params,
     attempts: u32,
+    lengths: Lengths,
 }
 
 impl SigningSeedsBuilder {
     /// How many attempts are allowed, 1 to 16; else refused with 6.
     pub fn attempts(self, attempts: u32) -> Result<SigningSeedsBuilder, Refusal> {
-        if !(1..=MAX_ATTEMPTS).contains(&attempts) {
-            return Err(Refusal::BadAttempts);
-        }
-        Ok(SigningSeedsBuilder { attempts, ..self })
+        Ok(SigningSeedsBuilder { attempts, lengths: Lengths::of(self.params, attempts)?, ..self })
     }
 
     /// From a source of random bytes, such as [`os_random`].
     pub fn draw(self, mut source: impl FnMut(&mut [u8]) -> io::Result<()>) -> io::Result<SigningSeeds> {
-        let n = self.attempts as usize;
-        let noise = filled(n * self.params.noise_seed_bytes(), &mut source)?;
-        Ok(SigningSeeds { attempts: self.attempts, noise, masks: filled(n * MASK_SEED_BYTES, &mut source)? })
+        let noise = filled(self.lengths.noise_seed_bytes, &mut source)?;
+        Ok(SigningSeeds { attempts: self.attempts, noise, masks: filled(self.lengths.mask_seed_bytes, &mut source)? })
     }
 
     /// Given seeds, attempt behind attempt. Refused with 7 where a length is wrong.
     pub fn given(self, noise: &[u8], masks: &[u8]) -> Result<SigningSeeds, Refusal> {
-        let n = self.attempts as usize;
-        if noise.len() != n * self.params.noise_seed_bytes() || masks.len() != n * MASK_SEED_BYTES {
+        if noise.len() != self.lengths.noise_seed_bytes || masks.len() != self.lengths.mask_seed_bytes {
             return Err(Refusal::BadSeeds);
         }
         Ok(SigningSeeds { attempts: self.attempts, noise: noise.into(), masks: masks.into() })
@@ -100,8 +97,8 @@ impl SigningSeedsBuilder {
 
     /// Given noise words in place of noise seeds. Refused with 7 where a length is wrong or a word is not below q.
     pub fn explicit(self, noise: &[u64], masks: &[u8]) -> Result<ExplicitNoise, Refusal> {
-        let n = self.attempts as usize;
-        let lengths = noise.len() == n * self.params.noise_words() && masks.len() == n * MASK_SEED_BYTES;
+        let noise_words = self.attempts as usize * self.params.noise_words();
+        let lengths = noise.len() == noise_words && masks.len() == self.lengths.mask_seed_bytes;
         if !lengths || noise.iter().any(|&word| word >= Q) {
             return Err(Refusal::BadSeeds);
         }

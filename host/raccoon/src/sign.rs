@@ -2,7 +2,7 @@
 
 use crate::call::{self, Edition, Key, Noise, Signing};
 use crate::secret::Secret;
-use crate::{ExpandedKey, ExplicitNoise, Params, Refusal, Signature, SigningKey, SigningSeeds};
+use crate::{ExpandedKey, ExplicitNoise, Lengths, Params, Refusal, Signature, SigningKey, SigningSeeds};
 use std::fmt;
 
 /// A signature, and the number of the attempt that gave it, from 1.
@@ -32,7 +32,7 @@ impl fmt::Display for NotSigned {
 impl std::error::Error for NotSigned {}
 
 fn signed(params: Params, attempts: u32, key: Key, message: &[u8], noise: Noise, mask_seeds: &[u8]) -> Result<Signed, NotSigned> {
-    let (mut bytes, mut work) = (vec![0; params.set.signature_bytes()], Secret::zeros(params.work_words()));
+    let (mut bytes, mut work) = (vec![0; params.set.signature_bytes()], Secret::zeros(Lengths::of_one(params).work_words));
     let (set, shares) = params.numbers();
     let input = Signing { set, shares, attempts, key, message, noise, mask_seeds };
     let answer = call::sign(Edition::Printed, &input, &mut bytes, &mut work);

@@ -31,8 +31,40 @@ fn sizes_are_those_of_the_independent_implementation() {
         assert_eq!((p.set.digest_bytes(), p.set.expanded_bytes()), (other.hash_bytes(), other.expanded_bytes()));
         assert_eq!((p.signing_key_bytes(), p.share_words()), (other.sk_bytes(), other.l * other.d * N));
         assert_eq!(p.expanded_key_bytes(), other.expanded_bytes() + 8 * other.l * other.d * N);
-        assert_eq!((p.keygen_seed_bytes(), p.noise_seed_bytes()), (other.keygen_bytes(), other.noise_bytes()));
-        assert_eq!((p.noise_words(), p.work_words()), (other.noise_words(), other.work_words()));
+        assert_eq!((p.keygen_seed_bytes(), p.noise_words()), (other.keygen_bytes(), other.noise_words()));
+    }
+}
+
+#[test]
+fn lengths_are_those_of_the_independent_implementation() {
+    for (p, attempts) in Params::all().flat_map(|p| (0..=17).chain([u32::MAX]).map(move |attempts| (p, attempts))) {
+        let other = independent::raccoon::lengths(p.set.number() as usize, p.shares.count(), attempts as usize);
+        let numbers = |lengths: Lengths| (lengths.noise_seed_bytes, lengths.mask_seed_bytes, lengths.work_words);
+        let found = Lengths::of(p, attempts).map(numbers).map_err(Refusal::number);
+        assert_eq!(
+            found,
+            other.map(|other| (other.noise_seed_bytes, other.mask_seed_bytes, other.work_words)),
+            "{p}, {attempts}"
+        );
+        assert_eq!(found.is_ok(), (1..=MAX_ATTEMPTS).contains(&attempts));
+    }
+    assert_eq!(Params::all().map(|p| Lengths::of(p, 1).unwrap().mask_seed_bytes).collect::<Vec<_>>(), [MASK_SEED_BYTES; 18]);
+}
+
+#[test]
+fn bits_of_a_signature() {
+    for (set, zeros, most) in [
+        (Set::Raccoon128, 86_784, 17_180_288_256),
+        (Set::Raccoon192, 108_928, 21_475_410_304),
+        (Set::Raccoon256, 152_064, 30_065_521_152),
+    ] {
+        let (k, l) = (set.k() * N, set.l() * N);
+        assert_eq!(set.signature_bits(&vec![0; k], &vec![0; l]), Ok(zeros));
+        assert_eq!(set.signature_bits(&vec![i8::MIN; k], &vec![i64::MIN; l]), Ok(most));
+        for (hints, responses) in [(k - 1, l), (k + 1, l), (k, l - 1), (k, l + 1), (l, k), (0, 0)] {
+            let refused = set.signature_bits(&vec![0; hints], &vec![0; responses]);
+            assert_eq!(refused, Err(Refusal::BadSignatureLength), "{hints} and {responses}");
+        }
     }
 }
 

@@ -1,4 +1,4 @@
-use Prim.Native.Nat.{_+_, _*_, _-_, _^_, _<_, _≤_}
+use Prim.Native.Nat.{_+_, _*_, _-_, _^_, _≤_}
 use mathlib.Core.Path.{_≡_, ap, _∙_}
 use native.Mathlib.Omega.{arith}
 use lib.ListN.{length, getD, take}
@@ -8,8 +8,8 @@ use lib.Seq.{take-all}
 use mir.Syntax.{w64}
 use mir.ValLaws.{toZ-ofZ}
 use borrow.Author.Needs.{sfits-of}
-use Rattle.signature.proofs.Counts.{count-more}
 use borrow.Author.Needs.{needs}
+use Rattle.signature.proofs.Counts.{code-few, count-more}
 use Rattle.signature.proofs.code.codes_bits.Statement.{statement}
 use Rattle.signature.proofs.code.codes_bits.Tie as tie
 
@@ -23,21 +23,20 @@ loop-holds : tie.Need-loop-holds Inv-loop μ-loop
 unfolding codesBits
 loop-holds c = search needs
 
-code-bits-requires : tie.Need-code-bits-requires Inv-loop μ-loop
-code-bits-requires c κs =
-    let s = c .before .before .before in
-    let i = c .before .before .loop .i in
-    let n = s .pre .0 i in
-    (rw (toZ-ofZ w64 (getD (s .args .zs .now) i (pos 0)) (sfits-of (c .code-bits-arg .given))) (omega arith), s .pre .1 .1)
-
--- the number's bits, as many as its bound lets it have
-few : (c : tie.After-code-bits Inv-loop μ-loop) → c .code-bits .result < 2 ^ 50 + 64
-few c =
+-- the bits of the number read
+counted : (c : tie.After-code-bits Inv-loop μ-loop) → let a = c .before .before .before .before .args in
+    c .code-bits .result ≡ codeBits (a .w) (getD (a .zs .now) (c .before .before .before .loop .i) (pos 0))
+counted c =
     let l = c .before .before .before .loop in
+    let a = c .before .before .before .before .args in
+    c .code-bits .ensures ∙ ap (codeBits (a .w)) (toZ-ofZ w64 (getD (a .zs .now) (l .i) (pos 0)) (sfits-of (c .before .code-bits-arg .given)))
+
+-- .. and that they are few
+few : (c : tie.After-code-bits Inv-loop μ-loop) → c .code-bits .result ≤ 2 ^ 50 + 64
+few c =
     let s = c .before .before .before .before in
-    let n = s .pre .0 (l .i) in
-    let b = rw (toZ-ofZ w64 (getD (s .args .zs .now) (l .i) (pos 0)) (sfits-of (c .before .code-bits-arg .given))) at (c .code-bits .ensures .1) in
-    omega arith
+    let i = c .before .before .before .loop .i in
+    omega (arith, counted c, code-few (s .args .w) (getD (s .args .zs .now) i (pos 0)) (s .pre .1 .1) (s .pre .0 i))
 
 add-n : tie.Need-add-n Inv-loop μ-loop
 add-n c = omega (arith, few c)
@@ -46,7 +45,7 @@ loop-again : tie.Need-loop-again Inv-loop μ-loop
 loop-again c =
     let l = c .before .before .before .loop in
     let a = c .before .before .before .before .args in
-    let e = c .code-bits .ensures .0 ∙ ap (codeBits (a .w)) (toZ-ofZ w64 (getD (a .zs .now) (l .i) (pos 0)) (sfits-of (c .before .code-bits-arg .given))) in
+    let e = counted c in
     let f = few c in
     let m = count-more (a .w) (a .zs .now) (l .i) (c .before .before .loop-test .taken) in
     (omega arith, omega arith, omega arith)
@@ -59,5 +58,5 @@ returns c =
 
 pub codes-bits-spec : {M : Type 1} → statement M
 codes-bits-spec =
-    tie.close (tie.spec Inv-loop μ-loop loop-holds (λ c. search needs) (λ c. search needs) code-bits-requires
+    tie.close (tie.spec Inv-loop μ-loop loop-holds (λ c. search needs) (λ c. search needs) (λ c κs. search needs)
     add-n (λ c. search needs) (λ c. search needs) loop-again returns)

@@ -9,12 +9,12 @@ use mir.Syntax.{w64}
 use mir.Val.{toZ, ofZ}
 use mir.ValLaws.{toZ-ofZ}
 use borrow.Author.Needs.{sfits-of}
+use borrow.Author.Needs.{needs}
 use Rattle.signature.specs.Bits.{bitsOf, bitString}
 use Rattle.signature.specs.Code.{code, codes}
 use Rattle.signature.proofs.Counts.{one-length}
 use Rattle.signature.proofs.Lists.{codes-next, codes-room}
-use Rattle.signature.proofs.CodeWords.{code-word-below, held-lt, held-fits, turn-hold, turn-store, turn-slow, mag-room}
-use borrow.Author.Needs.{needs}
+use Rattle.signature.proofs.CodeWords.{code-word-below, held-lt, held-fits, turn-hold, turn-store, turn-slow}
 use Rattle.signature.proofs.code.put_codes.Statement.{statement}
 use Rattle.signature.proofs.code.put_codes.Tie as tie
 
@@ -48,7 +48,7 @@ count : (c : tie.After-code-bits Inv-loop μ-loop) → let a = c .before .before
     c .code-bits .result ≡ length (code (a .w) (toZ w64 (ofZ w64 (getD (a .zs .now) (c .before .before .before .loop .i) (pos 0)))))
 count c =
     let a = c .before .before .before .before .before .args in
-    c .code-bits .ensures .0 ∙ sym (one-length (a .w) (toZ w64 (ofZ w64 (getD (a .zs .now) (c .before .before .before .loop .i) (pos 0)))))
+    c .code-bits .ensures ∙ sym (one-length (a .w) (toZ w64 (ofZ w64 (getD (a .zs .now) (c .before .before .before .loop .i) (pos 0)))))
 
 -- the place behind the code
 next : (c : tie.After-code-bits Inv-loop μ-loop) →
@@ -75,10 +75,7 @@ loop-holds c = search needs
 code-bits-requires : tie.Need-code-bits-requires Inv-loop μ-loop
 code-bits-requires c κs =
     let c4 = c .before .before .before .before in
-    let a = c4 .args in (
-      mag-room (a .w) (toZ w64 (ofZ w64 (getD (a .zs .now) (c .before .before .loop .i) (pos 0)))) (omega (arith, c4 .pre)) (omega (arith, room c, c4 .pre)),
-      omega (arith, c4 .pre),
-    )
+    omega (arith, c4 .pre)
 
 add-if1 : tie.Need-add-if1 Inv-loop μ-loop
 add-if1 c = omega (arith, count c, room (c .before), c .before .before .before .before .before .pre, c .before .before .before .loop .inv .2)
@@ -86,7 +83,7 @@ add-if1 c = omega (arith, count c, room (c .before), c .before .before .before .
 code-word-requires : tie.Need-code-word-requires Inv-loop μ-loop
 code-word-requires c κs =
     let c6 = c .before .before .before .before .before .before in
-    (omega (arith, c .before .code-bits .ensures .0, c .if1 .taken), omega (arith, c6 .pre))
+    (omega (arith, c .before .code-bits .ensures, c .if1 .taken), omega (arith, c6 .pre))
 
 shl-held : tie.Need-shl-held Inv-loop μ-loop
 shl-held c = omega (arith, c .before .before .before .before .before .loop .inv .2)
@@ -96,7 +93,7 @@ add-held c =
     let c5 = c .before .before .before .before .before in
     let c7 = c5 .before .before in
     let l = c5 .loop in
-    let k = code-word-below (c7 .args .w) _ _ _ (c .before .before .code-bits .ensures .0) (c .code-word .ensures) in
+    let k = code-word-below (c7 .args .w) _ _ _ (c .before .before .code-bits .ensures) (c .code-word .ensures) in
     omega (arith, held-fits (l .have) (l .held) _ _ (l .inv .3) k (omega (arith, c .before .if1 .taken)))
 
 add-have : tie.Need-add-have Inv-loop μ-loop
@@ -111,7 +108,7 @@ loop-again c =
     let l = c5 .loop in
     let a = c7 .args in
     let h = c4 .loop-test .taken in
-    let n = c .before .before .code-bits .ensures .0 in
+    let n = c .before .before .code-bits .ensures in
     let v = c .code-word .ensures in
     let k = code-word-below (a .w) _ _ _ n v in
     let r : l .have + c .before .before .code-bits .result ≤ 56 = omega (arith, c .before .if1 .taken) in (
@@ -142,7 +139,7 @@ code-word-requires-2 : tie.Need-code-word-requires-2 Inv-loop μ-loop
 code-word-requires-2 c κs =
     let c6 = c .before .before .before .before .before .before in
     let c11 = c6 .before .before .before .before .before in
-    (omega (arith, c6 .code-bits .ensures .0, c .if2 .taken), omega (arith, c11 .pre))
+    (omega (arith, c6 .code-bits .ensures, c .if2 .taken), omega (arith, c11 .pre))
 
 loop-again-2 : tie.Need-loop-again-2 Inv-loop μ-loop
 loop-again-2 c =
@@ -154,7 +151,7 @@ loop-again-2 c =
     let c12 = c10 .before .before in
     let l = c10 .loop in
     let a = c12 .args in
-    let n = c7 .code-bits .ensures .0 in
+    let n = c7 .code-bits .ensures in
     let v = c .code-word2 .ensures in (
       omega (arith, c9 .loop-test .taken),
       c4 .put-bits .kept .0 ∙ l .inv .1,

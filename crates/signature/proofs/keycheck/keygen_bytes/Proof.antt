@@ -1,30 +1,16 @@
-use Rattle.signature.proofs.KeyRanges.{shares-fit, seeds-fit, noise-fit, front-fit, share-seeds-fit, bytes-fit, bytes-are}
+use native.Mathlib.Omega.{arith}
+use Rattle.signature.proofs.KeyRanges.{front-fit, bytes-fit}
 use borrow.Author.Needs.{needs}
 use Rattle.signature.proofs.keycheck.keygen_bytes.Statement.{statement}
 use Rattle.signature.proofs.keycheck.keygen_bytes.Tie as tie
 
-mul-result : tie.Need-mul-result
-mul-result c = record { fits = shares-fit (c .before .before .before .args .p) (c .before .before .before .pre) }
-
-mul-result-2 : tie.Need-mul-result-2
-mul-result-2 c = record { fits = seeds-fit (c .before .before .before .before .args .p) (c .before .before .before .before .pre) }
-
-mul-result-3 : tie.Need-mul-result-3
-mul-result-3 c = record { fits = noise-fit (c .before .before .before .before .args .p) (c .before .before .before .before .pre) }
+add-result : tie.Need-add-result
+add-result c = let s = c .before .before in omega (arith, c .noise-seed-bytes .ensures, front-fit (s .args .p) (s .pre))
 
 add-result-2 : tie.Need-add-result-2
-add-result-2 c = record { fits = front-fit (c .before .before .before .before .args .p) (c .before .before .before .before .pre) }
-
-mul-result-4 : tie.Need-mul-result-4
-mul-result-4 c = record { fits = share-seeds-fit (c .before .before .before .before .before .args .p) (c .before .before .before .before .before .pre) }
-
-add-result-3 : tie.Need-add-result-3
-add-result-3 c = record { fits = bytes-fit (c .before .before .before .before .before .args .p) (c .before .before .before .before .before .pre) }
-
-returns : tie.Need-returns
-returns c = bytes-are (c .before .before .before .before .before .args .p) (c .before .before .before .before .before .pre)
+add-result-2 c = let s = c .before .before .before in omega (arith, c .before .noise-seed-bytes .ensures, bytes-fit (s .args .p) (s .pre))
 
 pub keygen-bytes-spec : {M : Type 1} → statement M
 keygen-bytes-spec =
-    tie.close (tie.spec (λ c. search needs) mul-result mul-result-2 mul-result-3 add-result-2 (λ c. search needs)
-    mul-result-4 add-result-3 returns)
+    tie.close (tie.spec (λ c κs. search needs) add-result (λ c. search needs) (λ c. search needs) add-result-2
+    (λ c. search needs))

@@ -1,7 +1,7 @@
 use Rattle.signature.proofs.KeyRanges.{columns-fit, rest-fit, rows-fit, polys-fit, words-fit}
 use borrow.Author.Needs.{needs}
-use Rattle.signature.proofs.keycheck.work_words.Statement.{statement}
-use Rattle.signature.proofs.keycheck.work_words.Tie as tie
+use Rattle.signature.proofs.lengths.work_words.Statement.{statement}
+use Rattle.signature.proofs.lengths.work_words.Tie as tie
 
 mul-result-2 : tie.Need-mul-result-2
 mul-result-2 c = record { fits = columns-fit (c .before .before .args .p) (c .before .before .pre) }
