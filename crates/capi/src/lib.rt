@@ -1,4 +1,4 @@
-// The unit's calls for C: one export for each call of paper 01, with the contract of the function behind it.
+// The unit's calls for C: one export for each call of paper 01 and of the requests of paper 02, with the contract of the function behind it.
 ghost use mathlib.Core.Path.{_≡_};
 ghost use Prim.Native.Nat.{_≤_};
 ghost use Rattle.hash.specs.declared.params.Edition.{Edition};
@@ -16,7 +16,7 @@ use signature::sign::Signed;
 use sizes::count::CountedBits;
 use sizes::lengths::SigningLengths;
 
-// Key generation (01: key making): checks 1, 2, 7, 8 and 10.
+// Key generation (01: key making): checks 1, 2, 7, 8, 10 and 20.
 #[no_mangle]
 pub extern "C" fn raccoon_keygen(
     set: u32,
@@ -109,7 +109,7 @@ pub extern "C" fn raccoon_kat_expand_key(
     )
 }
 
-// A new sharing of an expanded key (01: refreshing): checks 1 to 5, 7 and 8.
+// A new sharing of an expanded key (01: refreshing): checks 1 to 5, 7, 8 and 20.
 #[no_mangle]
 pub extern "C" fn raccoon_refresh_key(
     set: u32,
@@ -135,7 +135,7 @@ pub extern "C" fn raccoon_refresh_key(
     )
 }
 
-// Signing with a signing key, from noise seeds: checks 1 to 10, 11 within each attempt, 12. Status and attempts.
+// Signing with a signing key, from noise seeds: checks 1 to 10, 11 and 20 within each attempt, 12. Status and attempts.
 #[no_mangle]
 pub extern "C" fn raccoon_sign(
     set: u32,

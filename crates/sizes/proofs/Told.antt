@@ -1,8 +1,8 @@
 -- What the two calls tell, by the checks in their order, and the largest number of bits (02, #103).
-use mathlib.Core.Path.{_≡_, sym, ap, _∙_}
+use mathlib.Core.Path.{_≡_, refl, sym, ap, _∙_}
 use mathlib.Core.Bool.{Bool, true, false}
 use mathlib.Core.List.{List}
-use Prim.Native.Nat.{ℕ, _+_, _^_, _≤_}
+use Prim.Native.Nat.{ℕ, zero, suc, _+_, _^_, _≤_}
 use native.Mathlib.Omega.{arith}
 use lib.IntN.{ℤ, pos, negsuc, natAbs}
 use mir.Syntax.{w8, w64}
@@ -18,9 +18,8 @@ use Rattle.signature.specs.Code.{codeBits}
 use Rattle.signature.specs.Form.{hashBytes, signatureBits}
 use Rattle.signature.proofs.Counts.{code-low}
 use Rattle.signature.specs.Checks.{attemptsAllowed, noiseSeedBytes, maskSeedBytes, workWords}
-use Rattle.signature.specs.Outcome.{firstNo, foundIn}
-use Rattle.sizes.specs.Count.{fieldsSized, bitsChecks, bitsTold, signatureBitsCall}
-use Rattle.sizes.specs.Lengths.{lengthsChecks, noLengths, lengthsTold, lengthsCall}
+use Rattle.sizes.specs.Count.{fieldsSized, bitsTold, bitsBy, signatureBitsCall}
+use Rattle.sizes.specs.Lengths.{noLengths, lengthsTold, lengthsBy, lengthsCall}
 use Rattle.sizes.specs.declared.count.CountedBits.{CountedBits}
 use Rattle.sizes.specs.declared.lengths.SigningLengths.{SigningLengths}
 
@@ -30,16 +29,20 @@ module _ (p : Params) (n : ℕ) where
   abbrev asked-for : Bool → SigningLengths
   asked-for b = lengthsTold (pick b 0 6) p n
 
-  pub told-none : attemptsAllowed n ≡ false → noLengths 6 ≡ lengthsTold (firstNo (lengthsChecks (Selected.Found p) n)) p n
+  pub told-none : attemptsAllowed n ≡ false → noLengths 6 ≡ lengthsBy (Selected.Found p) n
   told-none e = ap asked-for (sym e)
 
   pub told-all : (a b c : ℕ) → attemptsAllowed n ≡ true → a ≡ noiseSeedBytes p n → b ≡ maskSeedBytes n → c ≡ workWords p
-      → record { status = 0; «noise_seed_bytes» = a; «mask_seed_bytes» = b; «work_words» = c } ≡ lengthsTold (firstNo (lengthsChecks (Selected.Found p) n)) p n
+      → record { status = 0; «noise_seed_bytes» = a; «mask_seed_bytes» = b; «work_words» = c } ≡ lengthsBy (Selected.Found p) n
   told-all a b c e x y z = rw (x, y, z) (ap asked-for (sym e))
+
+pub told-status : (m : ℕ) (p : Params) (n : ℕ) → lengthsTold m p n .status ≡ m
+told-status zero p n = refl
+told-status (suc m) p n = refl
 
 module _ (set d n : ℕ) where
   abbrev told-by : Selected → SigningLengths
-  told-by s = lengthsTold (firstNo (lengthsChecks s n)) (foundIn s) n
+  told-by s = lengthsBy s n
 
   pub lengths-no-set : lookupOf set d Edition.Printed ≡ Selected.NoSet → noLengths 1 ≡ lengthsCall set d n
   unfolding lengthsCall
@@ -50,7 +53,7 @@ module _ (set d n : ℕ) where
   lengths-no-shares e = ap told-by (sym e)
 
   pub lengths-found : (p : Params) → lookupOf set d Edition.Printed ≡ Selected.Found p
-      → lengthsTold (firstNo (lengthsChecks (Selected.Found p) n)) p n ≡ lengthsCall set d n
+      → lengthsBy (Selected.Found p) n ≡ lengthsCall set d n
   unfolding lengthsCall
   lengths-found p e = ap told-by (sym e)
 
@@ -61,23 +64,23 @@ module _ (p : Params) (h z : List ℤ) where
   counted-for b = bitsTold (pick b 0 13) (signatureBits (hashBytes p) h z)
 
   pub bits-none : fieldsSized p h z ≡ false
-      → record { status = 13; bits = 0 } ≡ bitsTold (firstNo (bitsChecks (Selected.Found p) p h z)) (signatureBits (hashBytes p) h z)
+      → record { status = 13; bits = 0 } ≡ bitsBy (Selected.Found p) h z
   bits-none e = ap counted-for (sym e)
 
   pub bits-all : (n : ℕ) → fieldsSized p h z ≡ true → n ≡ signatureBits (hashBytes p) h z
-      → record { status = 0; bits = n } ≡ bitsTold (firstNo (bitsChecks (Selected.Found p) p h z)) (signatureBits (hashBytes p) h z)
+      → record { status = 0; bits = n } ≡ bitsBy (Selected.Found p) h z
   bits-all n e x = rw x (ap counted-for (sym e))
 
 module _ (set : ℕ) (h z : List ℤ) where
   abbrev counted-by : Selected → CountedBits
-  counted-by s = bitsTold (firstNo (bitsChecks s (foundIn s) h z)) (signatureBits (hashBytes (foundIn s)) h z)
+  counted-by s = bitsBy s h z
 
   pub bits-no-set : lookupOf set 1 Edition.Printed ≡ Selected.NoSet → record { status = 1; bits = 0 } ≡ signatureBitsCall set h z
   unfolding signatureBitsCall
   bits-no-set e = ap counted-by (sym e)
 
   pub bits-found : (p : Params) → lookupOf set 1 Edition.Printed ≡ Selected.Found p
-      → bitsTold (firstNo (bitsChecks (Selected.Found p) p h z)) (signatureBits (hashBytes p) h z) ≡ signatureBitsCall set h z
+      → bitsBy (Selected.Found p) h z ≡ signatureBitsCall set h z
   unfolding signatureBitsCall
   bits-found p e = ap counted-by (sym e)
 

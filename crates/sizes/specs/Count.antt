@@ -26,8 +26,8 @@ abbrev pub bitsTold : ℕ → ℕ → CountedBits
 bitsTold zero n = record { status = 0; bits = n }
 bitsTold (suc m) n = record { status = suc m; bits = 0 }
 
+abbrev pub bitsBy : Selected → List ℤ → List ℤ → CountedBits
+bitsBy s h z = bitsTold (firstNo (bitsChecks s (foundIn s) h z)) (signatureBits (hashBytes (foundIn s)) h z)
+
 unfoldable pub signatureBitsCall : ℕ → List ℤ → List ℤ → CountedBits
-signatureBitsCall set h z =
-    let s = lookupOf set 1 Edition.Printed in
-    let p = foundIn s in
-    bitsTold (firstNo (bitsChecks s p h z)) (signatureBits (hashBytes p) h z)
+signatureBitsCall set h z = bitsBy (lookupOf set 1 Edition.Printed) h z

@@ -28,7 +28,8 @@ lengthsTold zero p n =
     }
 lengthsTold (suc m) p n = noLengths (suc m)
 
+abbrev pub lengthsBy : Selected → ℕ → SigningLengths
+lengthsBy s n = lengthsTold (firstNo (lengthsChecks s n)) (foundIn s) n
+
 unfoldable pub lengthsCall : ℕ → ℕ → ℕ → SigningLengths
-lengthsCall set d n =
-    let s = lookupOf set d Edition.Printed in
-    lengthsTold (firstNo (lengthsChecks s n)) (foundIn s) n
+lengthsCall set d n = lengthsBy (lookupOf set d Edition.Printed) n

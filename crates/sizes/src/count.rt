@@ -4,10 +4,8 @@ ghost use Prim.Native.Nat.{_+_, _*_, _^_, _≤_};
 ghost use lib.ListN.{length};
 ghost use Rattle.hash.specs.declared.params.Selected.{Selected};
 ghost use Rattle.signature.specs.Code.{codesBits};
-ghost use Rattle.signature.specs.Form.{hashBytes, signatureBits};
-ghost use Rattle.signature.specs.Outcome.{firstNo};
 ghost use Rattle.signature.specs.Table.{Tabled};
-ghost use Rattle.sizes.specs.Count.{bitsChecks, bitsTold, signatureBitsCall};
+ghost use Rattle.sizes.specs.Count.{bitsBy, signatureBitsCall};
 use hash::params::Edition;
 use hash::params::Params;
 use hash::params::Selected;
@@ -54,9 +52,7 @@ fn response_bits(response: &[i64]) -> usize
 // Check 13, and the number for a record that was found.
 fn bits_with(p: Params, hint: &[i8], response: &[i64]) -> CountedBits
     requires { ⌜ Tabled p ⌝ }
-    ensures { λ r. ⌜ r
-        ≡ bitsTold (firstNo (bitsChecks (Selected.Found p) p (now (hint .entry)) (now (response .entry))))
-        (signatureBits (hashBytes p) (now (hint .entry)) (now (response .entry))) ⌝ }
+    ensures { λ r. ⌜ r ≡ bitsBy (Selected.Found p) (now (hint .entry)) (now (response .entry)) ⌝ }
     ensures { λ r. ⌜ r .bits ≤ 30065521152 ⌝ }
 {
     if hint.len() != p.k * 512 {

@@ -1,9 +1,8 @@
 // What a signing call takes (02, #103): noise seeds, mask seeds and work buffer, by the functions that checks 7 and 8 of signing use.
 ghost use mathlib.Core.Path.{_≡_};
 ghost use Rattle.hash.specs.declared.params.Selected.{Selected};
-ghost use Rattle.signature.specs.Outcome.{firstNo};
 ghost use Rattle.signature.specs.Table.{Tabled};
-ghost use Rattle.sizes.specs.Lengths.{lengthsChecks, noLengths, lengthsTold, lengthsCall};
+ghost use Rattle.sizes.specs.Lengths.{noLengths, lengthsBy, lengthsCall};
 use hash::params::Edition;
 use hash::params::Params;
 use hash::params::Selected;
@@ -36,7 +35,7 @@ fn refused(status: u32) -> SigningLengths
 // Check 6, and the lengths of a record that was found.
 fn lengths_with(p: Params, attempts: u64) -> SigningLengths
     requires { ⌜ Tabled p ⌝ }
-    ensures { λ r. ⌜ r ≡ lengthsTold (firstNo (lengthsChecks (Selected.Found p) attempts)) p attempts ⌝ }
+    ensures { λ r. ⌜ r ≡ lengthsBy (Selected.Found p) attempts ⌝ }
 {
     if attempts < 1 {
         return refused(6);

@@ -23,35 +23,41 @@ use Rattle.signature.specs.Matrix.{matrix, filled}
 use Rattle.signature.specs.Outcome.{Outcome, firstNo, both, refusedOr, heldOr, setKnown, sharesKnown, foundIn}
 use Rattle.signature.specs.Sign.{Public, Attempted, made, over, stuck, dry, Coins, fromSeeds, ended, refreshedKey, attempted, noiseAt, maskAt, signFrom}
 use Rattle.signature.specs.SignCalls.{Key, coinsGood, signChecks, attemptsOf, signOf, signCall}
-use Rattle.sizes.specs.Lengths.{lengthsChecks, lengthsTold, lengthsCall}
+use Rattle.sizes.specs.Lengths.{lengthsChecks, lengthsTold, lengthsBy, lengthsCall}
 use Rattle.sizes.specs.declared.lengths.SigningLengths.{SigningLengths}
+use Rattle.sizes.proofs.Told.{told-status}
 
--- ---- what is told, by the record that the call finds: no edition bears on it
+-- ---- what is told, by the record that the call finds: the edition makes no difference to it
+
+-- what the look-up's answer gives in any edition, if it makes none to a record of the table
+pub any-edition : {A : Type 0} (F : Selected → A) (e : Edition)
+    → ((r : List ℕ) → F (Selected.Found (paramsOf r Edition.Printed)) ≡ F (Selected.Found (paramsOf r e)))
+    → (set d : ℕ) → F (lookupOf set d Edition.Printed) ≡ F (lookupOf set d e)
+unfolding lookupOf
+any-edition F e h set d = go (eqb (setIndex set) 3) (eqb (orderIndex d) 6)
+  where
+    in-row : Bool → Bool → Edition → Selected
+    in-row a b e = pick a Selected.NoSet (pick b Selected.NoShares (Selected.Found (paramsOf (rowAt (6 * setIndex set + orderIndex d)) e)))
+
+    go : (a b : Bool) → F (in-row a b Edition.Printed) ≡ F (in-row a b e)
+    go true b = refl
+    go false true = refl
+    go false false = h (rowAt (6 * setIndex set + orderIndex d))
 
 module _ (n : ℕ) where
-  abbrev toldOf : Selected → SigningLengths
-  toldOf s = lengthsTold (firstNo (lengthsChecks s n)) (foundIn s) n
-
   row-told : (m : ℕ) (r : List ℕ) (e : Edition) → lengthsTold m (paramsOf r Edition.Printed) n ≡ lengthsTold m (paramsOf r e) n
   unfolding noiseBytes
   row-told zero r e = refl
   row-told (suc m) r e = refl
 
-  told-in : (set d : ℕ) (e : Edition) → lengthsCall set d n ≡ toldOf (lookupOf set d e)
-  unfolding lengthsCall lookupOf
-  told-in set d e = go (eqb (setIndex set) 3) (eqb (orderIndex d) 6)
-    where
-      in-row : Bool → Bool → Edition → Selected
-      in-row a b e = pick a Selected.NoSet (pick b Selected.NoShares (Selected.Found (paramsOf (rowAt (6 * setIndex set + orderIndex d)) e)))
+  told-in : (set d : ℕ) (e : Edition) → lengthsCall set d n ≡ lengthsBy (lookupOf set d e) n
+  unfolding lengthsCall
+  told-in set d e = any-edition (λ (s : Selected). lengthsBy s n) e (λ r. row-told (pick (attemptsAllowed n) 0 6) r e) set d
 
-      go : (a b : Bool) → toldOf (in-row a b Edition.Printed) ≡ toldOf (in-row a b e)
-      go true b = refl
-      go false true = refl
-      go false false = row-told (pick (attemptsAllowed n) 0 6) (rowAt (6 * setIndex set + orderIndex d)) e
-
-  told-no : (m : ℕ) (p : Params) → lengthsTold m p n .status ≡ 0 → m ≡ 0
-  told-no zero p e = refl
-  told-no (suc m) p e = absurd (omega arith)
+  told-first : (set d : ℕ) (e : Edition) → lengthsCall set d n .status ≡ firstNo (lengthsChecks (lookupOf set d e) n)
+  told-first set d e =
+      let s = lookupOf set d e in
+      ap (λ (x : SigningLengths). x .status) (told-in set d e) ∙ told-status (firstNo (lengthsChecks s n)) (foundIn s) n
 
 -- ---- checks 7 and 8 of a call that is lent noise seeds, mask seeds, a buffer for the signature and one for work
 
@@ -71,9 +77,7 @@ module _ (e : Edition) (set d n : ℕ) (noise masks out work : List ℕ) where
 
   module _ (told : L .status ≡ 0) where
     told-passed : firstNo (lengthsChecks (lookupOf set d e) n) ≡ 0
-    told-passed =
-        let s = lookupOf set d e in
-        told-no n (firstNo (lengthsChecks s n)) (foundIn s) (ap (λ (x : SigningLengths). x .status) (sym (told-in n set d e)) ∙ told)
+    told-passed = sym (told-first n set d e) ∙ told
 
     told-is : L ≡ lengthsTold 0 record-of n
     told-is = told-in n set d e ∙ ap (λ (m : ℕ). lengthsTold m record-of n) told-passed
@@ -239,40 +243,24 @@ module _ (e : Edition) (set d n : ℕ) (key : Key) (msg noise masks out work : L
         go false y c b f = inl (ap (λ (j : ℕ). refusedOr j A .status) f)
 
   -- where none are told: an unknown set or share count is the call's refusal too, and so are attempts, behind the checks of the key
-  told-first : lengthsCall set d n .status ≡ firstOf (setKnown (lookupOf set d e)) (sharesKnown (lookupOf set d e)) (pick (attemptsAllowed n) 0 6)
-  told-first = let s = lookupOf set d e in ap (λ (x : SigningLengths). x .status) (told-in n set d e) ∙ status-told (firstNo (lengthsChecks s n)) (foundIn s)
-    where
-      status-told : (m : ℕ) (r : Params) → lengthsTold m r n .status ≡ m
-      status-told zero r = refl
-      status-told (suc m) r = refl
-
   checks-first : firstNo checks ≡ lengthsCall set d n .status → (lengthsCall set d n .status ≡ 0 → ⊥) → status ≡ lengthsCall set d n .status
   unfolding signCall signOf
   checks-first f h = refused-with (firstNo checks) (attemptsOf p key n msg T) (λ z. h (sym f ∙ z)) ∙ f
 
-  pub unknown-told : (lengthsCall set d n .status ≡ 1) ⊎ (lengthsCall set d n .status ≡ 2) → status ≡ lengthsCall set d n .status
-  unknown-told h =
+  pub unknown-told : 1 ≤ lengthsCall set d n .status → lengthsCall set d n .status ≤ 2 → status ≡ lengthsCall set d n .status
+  unknown-told low high =
       let s = lookupOf set d e in
       let c = attemptsAllowed n in
-      checks-first (sym (told-first ∙ go (setKnown s) (sharesKnown s) c (firstNo (keyChecks p key ++ ((6, c) ∷ from-seven))) (turn h))) (known h)
+      let t = told-first n set d e in
+      checks-first
+      (sym (t ∙ go (setKnown s) (sharesKnown s) c (firstNo (keyChecks p key ++ ((6, c) ∷ from-seven))) (omega (arith, t, low)) (omega (arith, t, high))))
+      (λ z. omega (arith, z, low))
     where
-      turn : (lengthsCall set d n .status ≡ 1) ⊎ (lengthsCall set d n .status ≡ 2)
-          → (firstOf (setKnown (lookupOf set d e)) (sharesKnown (lookupOf set d e)) (pick (attemptsAllowed n) 0 6) ≡ 1)
-          ⊎ (firstOf (setKnown (lookupOf set d e)) (sharesKnown (lookupOf set d e)) (pick (attemptsAllowed n) 0 6) ≡ 2)
-      turn (inl i) = inl (sym told-first ∙ i)
-      turn (inr i) = inr (sym told-first ∙ i)
-
-      known : (lengthsCall set d n .status ≡ 1) ⊎ (lengthsCall set d n .status ≡ 2) → lengthsCall set d n .status ≡ 0 → ⊥
-      known (inl i) z = omega (arith, i, z)
-      known (inr i) z = omega (arith, i, z)
-
-      go : (a b c : Bool) (rest : ℕ) → (firstOf a b (pick c 0 6) ≡ 1) ⊎ (firstOf a b (pick c 0 6) ≡ 2) → firstOf a b (pick c 0 6) ≡ firstOf a b rest
-      go true true true rest (inl i) = absurd (omega arith)
-      go true true true rest (inr i) = absurd (omega arith)
-      go true true false rest (inl i) = absurd (omega arith)
-      go true true false rest (inr i) = absurd (omega arith)
-      go true false c rest h = refl
-      go false b c rest h = refl
+      go : (a b c : Bool) (rest : ℕ) → 1 ≤ firstOf a b (pick c 0 6) → firstOf a b (pick c 0 6) ≤ 2 → firstOf a b (pick c 0 6) ≡ firstOf a b rest
+      go true true true rest l h = absurd (omega arith)
+      go true true false rest l h = absurd (omega arith)
+      go true false c rest l h = refl
+      go false b c rest l h = refl
 
   pub attempts-told : lengthsCall set d n .status ≡ 6 → firstNo (keyChecks p key) ≡ 0 → status ≡ 6
   attempts-told h k =
@@ -280,7 +268,7 @@ module _ (e : Edition) (set d n : ℕ) (key : Key) (msg noise masks out work : L
       let c = attemptsAllowed n in
       let f : firstNo checks ≡ 6 =
       ap (firstOf (setKnown s) (sharesKnown s)) (yes-before (keyChecks p key) ((6, c) ∷ from-seven) refl k)
-      ∙ go (setKnown s) (sharesKnown s) c (firstNo from-seven) (sym told-first ∙ h) in
+      ∙ go (setKnown s) (sharesKnown s) c (firstNo from-seven) (sym (told-first n set d e) ∙ h) in
       checks-first (f ∙ sym h) (λ z. omega (arith, h, z)) ∙ h
     where
       go : (a b c : Bool) (rest : ℕ) → firstOf a b (pick c 0 6) ≡ 6 → firstOf a b (pick c rest 6) ≡ 6

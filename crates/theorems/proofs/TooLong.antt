@@ -5,14 +5,14 @@ use mathlib.Core.Bool.{Bool, true, false}
 use mathlib.Core.List.{List}
 use mathlib.Core.Logic.{_⊎_, inl, inr}
 use mathlib.Core.Option.{Option, some, none}
-use Prim.Native.Nat.{ℕ, _+_, _*_, _/_, _^_, _≤_, _<_}
+use Prim.Native.Nat.{ℕ, suc, _+_, _*_, _/_, _^_, _≤_, _<_}
 use native.Mathlib.Omega.{arith}
 use borrow.Author.Tests.{eq-eqb}
-use lib.Dec.{lit<, eqb}
+use lib.Dec.{lit<}
 use lib.IntN.{ℤ, pos, natAbs}
 use lib.ListN.{length, getD}
 use Rattle.hash.specs.Lists.{pick, Bytes}
-use Rattle.hash.specs.Params.{setIndex, orderIndex, rowAt, paramsOf, lookupOf}
+use Rattle.hash.specs.Params.{lookupOf}
 use Rattle.hash.specs.declared.params.Edition.{Edition}
 use Rattle.hash.specs.declared.params.Params.{Params}
 use Rattle.hash.specs.declared.params.Selected.{Selected}
@@ -32,36 +32,25 @@ use Rattle.signature.specs.Bounds.{checkBounds}
 use Rattle.signature.specs.Challenge.{chalHash, chalPoly}
 use Rattle.signature.specs.Form.{Fields, hashBytes, formBits, signatureBits, bitCount, write, read}
 use Rattle.signature.specs.Masked.{Noise, maskedImage}
-use Rattle.signature.specs.Outcome.{firstNo, foundIn}
+use Rattle.signature.specs.Outcome.{answer}
 use Rattle.signature.specs.Recover.{recovered}
-use Rattle.signature.specs.Sign.{Public, made, over, stuck, dry, signedFields, wrote, finished, refreshedResponse, attempted}
-use Rattle.signature.proofs.Attempts.{fieldsFor, commitmentFills, responseFills, attempt-dry, attempt-stuck, attempt-late, attempt-on}
+use Rattle.signature.specs.Sign.{Public, made, over, stuck, dry, signedFields, wrote, finished, refreshedKey, refreshedResponse, attempted, Coins, noiseAt, maskAt, signFrom}
+use Rattle.signature.proofs.Attempts.{fieldsFor, commitmentFills, responseFills, attempt-dry, attempt-stuck, attempt-late, attempt-on, sign-pass, sign-next}
 use Rattle.signature.proofs.Canonical.{Sized, write-fits, write-none, none-long, write-some, read-fits, read-sized}
 use Rattle.signature.proofs.Centred.{length-centred, centred-low}
 use Rattle.signature.proofs.Filled.{bits-length}
 use Rattle.signature.proofs.Finished.{hint-low}
-use Rattle.sizes.specs.Count.{fieldsSized, bitsChecks, bitsTold, signatureBitsCall}
+use Rattle.sizes.specs.Count.{fieldsSized, bitsTold, bitsBy, signatureBitsCall}
 use Rattle.sizes.specs.declared.count.CountedBits.{CountedBits}
 use Rattle.theorems.proofs.Hint.{length-hint}
+use Rattle.theorems.proofs.Lengths.{any-edition}
 use Rattle.theorems.proofs.ShareCount.{k-same, l-same, hash-bytes-same}
 
 -- ---- what is told, by the record that a call finds: neither share count nor edition bears on it
 
-module _ (h z : List ℤ) where
-  abbrev countedOf : Selected → CountedBits
-  countedOf s = bitsTold (firstNo (bitsChecks s (foundIn s) h z)) (signatureBits (hashBytes (foundIn s)) h z)
-
-  counted-in : (set : ℕ) (e : Edition) → signatureBitsCall set h z ≡ countedOf (lookupOf set 1 e)
-  unfolding signatureBitsCall lookupOf
-  counted-in set e = go (eqb (setIndex set) 3) (eqb (orderIndex 1) 6)
-    where
-      in-row : Bool → Bool → Edition → Selected
-      in-row a b e = pick a Selected.NoSet (pick b Selected.NoShares (Selected.Found (paramsOf (rowAt (6 * setIndex set + orderIndex 1)) e)))
-
-      go : (a b : Bool) → countedOf (in-row a b Edition.Printed) ≡ countedOf (in-row a b e)
-      go true b = refl
-      go false true = refl
-      go false false = refl
+counted-in : (h z : List ℤ) (set : ℕ) (e : Edition) → signatureBitsCall set h z ≡ bitsBy (lookupOf set 1 e) h z
+unfolding signatureBitsCall
+counted-in h z set e = any-edition (λ (s : Selected). bitsBy s h z) e (λ r. refl) set 1
 
 module _ (set d : ℕ) (e : Edition) (p : Params) (row : lookupOf set d e ≡ Selected.Found p) where
   -- the number that is told of fields of the set's sizes is the one that the writer looks at
@@ -75,7 +64,7 @@ module _ (set d : ℕ) (e : Edition) (p : Params) (row : lookupOf set d e ≡ Se
       let sized : fieldsSized r h z ≡ true =
       both-yes (eq-eqb (length h) (r .k * 512) (l .hint-long ∙ ap (λ (n : ℕ). n * 512) (k-same p r (o .same))))
       (eq-eqb (length z) (r .l * 512) (l .response-long ∙ ap (λ (n : ℕ). n * 512) (l-same p r (o .same)))) in
-      counted-in h z set e ∙ ap (countedOf h z) (o .is) ∙ ap (λ (b : Bool). bitsTold (pick b 0 13) (signatureBits (hashBytes r) h z)) sized
+      counted-in h z set e ∙ ap (λ (s : Selected). bitsBy s h z) (o .is) ∙ ap (λ (b : Bool). bitsTold (pick b 0 13) (signatureBits (hashBytes r) h z)) sized
       ∙ ap (λ (n : ℕ). bitsTold 0 (signatureBits n h z)) (sym (l .hash-long ∙ hash-bytes-same p r (o .same)))
 
   abbrev bits : Fields → ℕ
@@ -192,6 +181,29 @@ module _ (set d : ℕ) (e : Edition) (p : Params) (row : lookupOf set d e ≡ Se
             → (checkBounds p (fieldsFor p P N g s c) ≡ false) ⊎ (8 * p .«sig_bytes» < bits (fieldsFor p P N g s c))
         go c t false i = inl i
         go c t true i = inr (over-long c t i o)
+
+  -- ---- attempt number a + 1 of a call, within the bounds: it makes the signature, or leads to the next, by the number
+
+  module _ (P : Public) (T : Coins) (left a : ℕ) (s : List ℕ) (c : List ℤ) where
+    abbrev N : Noise
+    N = noiseAt p T a
+
+    abbrev g : MaskGen
+    g = maskAt T a
+
+    abbrev fields : Fields
+    fields = fieldsFor p P N g s c
+
+    module _ (t : ComesTo P N g s c) (within : checkBounds p fields ≡ true) where
+      pub long-next : 8 * p .«sig_bytes» < bits fields
+          → signFrom p P T (suc left) a s ≡ signFrom p P T left (a + 1) (refreshedKey p N g (P .matrix) s .shares)
+      long-next h = sign-next p P T (suc left) left a s refl (refreshedKey p N g (P .matrix) s .shares) refl (long-over P N g s c t within h)
+
+      pub fits-signed : bits fields ≤ 8 * p .«sig_bytes»
+          → (b : List ℕ) × (write p fields ≡ some b) × (signFrom p P T (suc left) a s ≡ answer 0 (a + 1) b)
+      fits-signed h =
+          let x = fits-made P N g s c t within h in
+          (x .0, x .1, sign-pass p P T (suc left) left a s refl (x .0) (x .2))
 
   -- ---- the reader
 
