@@ -1,4 +1,6 @@
 // Exports for the benchmark, which times them beside another implementation.
+#![tactic(auto)]
+
 ghost use Rattle.std.specs.Prelude.{◌≡◌, ◌++◌, ◌+◌, length, true, false};
 ghost use Rattle.hash.specs.Lists.{pick};
 ghost use Rattle.ring.specs.Words.{q, all_below};

@@ -1,4 +1,6 @@
 // The unit's calls for C: one export for each call of paper 01 and of the requests of paper 02, with the contract of the function behind it.
+#![tactic(auto)]
+
 ghost use Rattle.std.specs.Prelude.{◌≡◌, ◌≤◌};
 ghost use Rattle.hash.specs.declared.params.Edition.{Edition};
 ghost use Rattle.ring.specs.Uniform.{sampled_of};

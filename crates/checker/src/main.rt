@@ -1,5 +1,6 @@
 // The checking program (01, "Questions put to a call"): standard input is a public key of 2256 bytes, a signature of 11524 bytes and a
 // message; it prints verify's status for set 128, in decimal, and a line end.
+#![tactic(auto)]
 
 ghost use Rattle.std.specs.Prelude.{◌≡◌};
 ghost use Rattle.checker.specs.Input.{checked_of};

@@ -1,4 +1,6 @@
 // SHAKE256 of standard input, its first 32 bytes in hex.
+#![tactic(auto)]
+
 use libc::STDIN_FILENO;
 
 // The buffer holds 30 blocks, so a full one leaves the next byte at the start of a block. A proved loop has to end and standard

@@ -1,4 +1,6 @@
 // The sharing layer on known inputs: digests of what it makes, compared with those of another implementation (stdout).
+#![tactic(auto)]
+
 ghost use Rattle.std.specs.Prelude.{◌≤◌};
 ghost use Rattle.hash.specs.Params.{ShareCount};
 

@@ -1,5 +1,7 @@
 // Layer 4, signature: byte forms (000, 2.5), challenges (2.4.6), bounds (2.4.4), the matrix (2.4.3), masked products,
 // keys (2.3.1), signing (2.3.2) and verifying (2.3.3).
+#![tactic(auto)]
+
 mod attempt;
 mod bits;
 pub mod bounds;

@@ -1,5 +1,7 @@
 // SHAKE256 on known messages: what it prints is compared with the values of another implementation (stdout).
 // Byte i is 7 i modulo 251, so that no two bytes of a lane are equal.
+#![tactic(auto)]
+
 fn pattern() -> [u8; 300] {
     let mut m = [0u8; 300];
     for i in 0..300usize {

@@ -1,0 +1,11 @@
+use mathlib.Core.Path.{◌≡◌}
+use lib.ListN.{length}
+use Rattle.hash.proofs.Sponge.{finish-two}
+use borrow.Author.Rules.{rules}
+use Rattle.hash.proofs.shake.begin.Goals as goal
+
+pub returns : goal.returns
+returns c =
+    let b = c.args in
+    let e : length b.header.now ≡ 8 = search rules in
+    rw (c.finish.ensures, c.absorb-2.ensures, c.absorb.ensures, c.start.ensures, ← finish-two, e)
