@@ -3,14 +3,14 @@ ghost use Rattle.std.specs.Prelude.{◌≡◌, ◌<◌};
 ghost use Rattle.hash.specs.Params.{set_index, order_index, row_at, params_of, lookup_of};
 
 // Which text of Algorithms 9, 10, 14 and 15 a call follows: the printed one, or the one that gives the submission's response files.
-#[derive(Drop)]
+#[derive(Clone, Copy)]
 pub enum Edition {
     Printed,
     Kat,
 }
 
 // One column of Tables 2 to 4, with the hint's limit of Algorithm 4 and the edition beside it.
-#[derive(Drop)]
+#[derive(Clone, Copy)]
 pub struct Params {
     pub kappa: usize,
     pub shares: usize,
@@ -30,7 +30,7 @@ pub struct Params {
 }
 
 // The answer of the look-up: the record, or which of the two numbers is wrong (checks 1 and 2).
-#[derive(Drop)]
+#[derive(Clone, Copy)]
 pub enum Selected {
     Found(Params),
     NoSet,

@@ -17,7 +17,7 @@ const Q2: u64 = 33292289;
 const TWO_32: u64 = 4294967296;
 
 // The two results of a butterfly.
-#[derive(Drop)]
+#[derive(Clone, Copy)]
 struct Pair {
     sum: u64,
     diff: u64,

@@ -1,13 +1,13 @@
 -- A generator that the code holds: 25 lanes that fit 64 bits. A draw is 49 bits of two lanes, one behind the other.
 use mathlib.Core.Path.{◌≡◌, refl, sym, ap, ◌∙◌}
-use mathlib.Core.List.{List, [], ◌∷◌, map}
+use mathlib.Core.List.{List, [], ◌∷◌}
 use Prim.Native.Nat.{ℕ, zero, suc, ◌+◌, ◌-◌, ◌*◌, ◌/◌, ◌%◌, ◌^◌, ◌<◌, ◌≤◌}
 use native.Mathlib.Nat.{zero-add, add-zero, add-mul, mul_assoc, mul-mod_left, add-mul-div_right, add-mul-mod_self_right}
 use native.Mathlib.Decide.{dec_lt}
 use native.Mathlib.Omega.{arith}
 use lib.Bits.{bit_xor, xor_comm, xor_shifted}
 use lib.Dec.{lit<}
-use lib.ListN.{get_or, length-map}
+use lib.ListN.{get_or}
 use lib.Pow.{pow-add, pow_pos, split, shl-shr, shr-shr, shr_lt, mod-pow-add, mod-mod-pow}
 use mir.Syntax.{w64}
 use mir.Val.{Val}
@@ -98,20 +98,20 @@ draw-shifted x y s h l =
 
 -- ---- what owning the lanes tells
 
-low-lane : (l : List ℕ) (us : List Val) → shadow (each ℕ (UInt w64).own_val (map (λ v. v) l) us) → (i : ℕ) → get_or l i 0 < 2 ^ 64
+low-lane : (l : List ℕ) (us : List Val) → shadow (each ℕ (UInt w64).own_val l us) → (i : ℕ) → get_or l i 0 < 2 ^ 64
 low-lane [] us h i = lit< tt
 low-lane (a ∷ l) [] h i = absurd h
 low-lane (a ∷ l) (u ∷ us) h zero = h.0.1
 low-lane (a ∷ l) (u ∷ us) h (suc i) = low-lane l us h.1 i
 
 abbrev Owned : List ℕ → List Val → Type 0
-Owned l vs = shadow (in_array ℕ (UInt w64).own_val 25 (map (λ v. v) l) vs)
+Owned l vs = shadow (in_array ℕ (UInt w64).own_val 25 l vs)
 
 -- ---- the generator g
 
 module _ (g : MaskGen) (vs : List Val) (owned : Owned g.lanes vs) where
   row : flat (state_of g) ≡ g.lanes
-  row = flat-unflat g.lanes (sym (length-map g.lanes (λ v. v)) ∙ owned.1.0.1)
+  row = flat-unflat g.lanes owned.1.0.1
 
   -- at another place of its block
   held : (n m : ℕ) → n ≡ m → held_at (state_of g) n g.ok ≡ record { lanes = g.lanes; at = m; ok = g.ok }

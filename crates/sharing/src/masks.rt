@@ -10,7 +10,7 @@ use hash::num::least;
 use ring::poly::Q;
 
 // A state of SHAKE256, its lanes in the order of FIPS 202, 3.1.2; the place of the next draw, a byte of its block; and whether no polynomial ran dry.
-#[derive(Drop)]
+#[derive(Clone, Copy)]
 pub struct MaskGen {
     pub lanes: [u64; 25],
     pub at: usize,
@@ -18,14 +18,14 @@ pub struct MaskGen {
 }
 
 // A draw, and the generator behind it.
-#[derive(Drop)]
+#[derive(Clone, Copy)]
 pub struct Drawn {
     pub word: u64,
     pub next: MaskGen,
 }
 
 // Two lanes, one behind the other.
-#[derive(Drop)]
+#[derive(Clone, Copy)]
 pub struct Neighbours {
     pub low: u64,
     pub high: u64,

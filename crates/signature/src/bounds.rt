@@ -12,7 +12,7 @@ const SCALE_HINT: u64 = 16777216;
 const HINT_TOP: u64 = 1048575;
 
 // Where the check stands: whether no coefficient decided, how many were read, and the sum of squares of those that passed.
-#[derive(Drop)]
+#[derive(Clone, Copy)]
 pub(crate) struct Standing {
     pub passed: bool,
     pub coefficients: usize,
@@ -21,7 +21,7 @@ pub(crate) struct Standing {
 
 // What the check tells: whether the fields pass, and how many coefficients it read.
 #[repr(C)]
-#[derive(Drop)]
+#[derive(Clone, Copy)]
 pub struct Decision {
     pub passed: bool,
     pub coefficients: usize,

@@ -11,14 +11,14 @@ use crate::{bits, int};
 use hash::num::least;
 
 // A number and the place behind it, or too few bits.
-#[derive(Drop)]
+#[derive(Clone, Copy)]
 pub enum Got {
     Code { z: i64, next: usize },
     Bad,
 }
 
 // The place behind several numbers, or too few bits.
-#[derive(Drop)]
+#[derive(Clone, Copy)]
 pub enum Next {
     At(usize),
     No,

@@ -27,7 +27,7 @@ use hash::params::{Edition, Params, Selected, lookup};
 use sharing::region::clear;
 
 // The end of an attempt (01: try): a signature; over the bounds or too long; a challenge that does not fill; masks that do not.
-#[derive(Drop)]
+#[derive(Clone, Copy)]
 pub(crate) enum AttemptEnd {
     Made,
     Over,
@@ -37,7 +37,7 @@ pub(crate) enum AttemptEnd {
 
 // What signing answers: the status, and the attempts that it reports.
 #[repr(C)]
-#[derive(Drop)]
+#[derive(Clone, Copy)]
 pub struct Signed {
     pub status: u32,
     pub attempts: u32,

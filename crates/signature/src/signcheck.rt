@@ -12,7 +12,7 @@ use hash::params::Params;
 use ring::poly::{Q, all_below};
 
 // The forms of what a call is lent: a signing key or an expanded key, explicit noise or seeds of noise.
-#[derive(Drop)]
+#[derive(Clone, Copy)]
 pub(crate) struct Forms {
     pub packed: bool,
     pub explicit: bool,

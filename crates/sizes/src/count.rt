@@ -10,7 +10,7 @@ use signature::code::code_bits;
 
 // The status, and with 0 the number of bits.
 #[repr(C)]
-#[derive(Drop)]
+#[derive(Clone, Copy)]
 pub struct CountedBits {
     pub status: u32,
     pub bits: u64,

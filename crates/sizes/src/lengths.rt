@@ -9,7 +9,7 @@ use signature::lengths::{mask_seed_bytes, noise_seed_bytes, work_words};
 
 // The status, and with 0 the bytes of the noise seeds and of the mask seeds of all attempts, and the words of the work buffer.
 #[repr(C)]
-#[derive(Drop)]
+#[derive(Clone, Copy)]
 pub struct SigningLengths {
     pub status: u32,
     pub noise_seed_bytes: u64,

@@ -18,7 +18,7 @@ const VERSION: [u8; 2] = [1, 0];
 // The status, and with any but 17, 18 and 19 the fields of the slip: text and signature by place, and the set that follows from the signature's
 // length.
 #[repr(C)]
-#[derive(Drop)]
+#[derive(Clone, Copy)]
 pub struct ReadSlip {
     pub status: u32,
     pub movement: u16,
@@ -31,7 +31,7 @@ pub struct ReadSlip {
 }
 
 // Where the signature begins and which set it is of, or the reader's own refusal.
-#[derive(Drop)]
+#[derive(Clone, Copy)]
 pub enum Split {
     At(usize, u32),
     Refused(u32),

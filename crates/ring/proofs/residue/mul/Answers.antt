@@ -1,0 +1,10 @@
+use native.Mathlib.Omega.{arith}
+use Rattle.ring.specs.Residue.{prime}
+use Rattle.ring.proofs.Bounds.{prime-lt}
+use Rattle.ring.proofs.Barrett.{product-low}
+use Rattle.ring.proofs.residue.mul.Goals as goal
+
+pub barrett_mul-requires : goal.barrett_mul-requires
+barrett_mul-requires c =
+    let l = prime-lt c.args.second in
+    (omega (arith, l, c.requires.0), omega (arith, l, c.requires.1), product-low (prime c.args.second) c.args.a c.args.b c.requires.0 c.requires.1)
