@@ -21,7 +21,7 @@ use ring::poly::from_signed;
 use sharing::masks::MaskGen;
 
 // What lines 9 to 16 answer: the challenge polynomial, if it fills (check 11), and whether every mask drawn so far did (check 20).
-#[derive(Clone, Copy)]
+#[derive(Drop)]
 pub(crate) struct Reply {
     pub challenge: Challenged,
     pub full: bool,

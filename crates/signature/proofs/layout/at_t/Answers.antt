@@ -1,0 +1,6 @@
+use native.Mathlib.Omega.{arith}
+use Rattle.signature.proofs.Sizes.{region-low}
+use Rattle.signature.proofs.layout.at_t.Goals as goal
+
+pub overflow_add-result : goal.overflow_add-result
+overflow_add-result c = let m = region-low c.requires in record { fits = omega (arith, m, c.at_r.ensures, c.requires.1) }

@@ -1,0 +1,38 @@
+use mathlib.Core.Path.{◌∙◌}
+use native.Mathlib.Omega.{arith}
+use Rattle.signature.proofs.Masking.{noise-made, noise-next, skip-once}
+use Rattle.signature.specs.Masked.{explicit}
+use Rattle.signature.proofs.noise.noise_explicit.Goals as goal
+
+pub zero_vector-x-requires : goal.zero_vector-x-requires
+zero_vector-x-requires c =
+    let a = c in
+    (a.requires.tabled.0.count, a.requires.shares_bound.1, a.requires.shares_bound.2)
+
+pub explicit_vector-y-requires : goal.explicit_vector-y-requires
+explicit_vector-y-requires c =
+    let a = c in
+    let h = a.requires.tabled in
+    let p = a.requires.shares_bound in
+    let u = c.zero_vector-x.ensures.0 in
+    let n = u.long in record { share_count = (h.0.count, p.0, omega (arith, n, p.1), u.low); shares_in_bounds = (h.1, h.2) }
+
+pub overflow_mul-l : goal.overflow_mul-l
+overflow_mul-l c = omega (arith, c.requires.shares_bound.1)
+
+pub ntt_vector-requires : goal.ntt_vector-requires
+ntt_vector-requires c =
+    let p = c.requires.shares_bound in
+    let v = c.explicit_vector-y.ensures.0 in
+    let n = v.long ∙ c.zero_vector-x.ensures.0.long in
+    (omega (arith, n, p.1), v.low)
+
+pub returns : goal.returns
+unfolding explicit
+returns c =
+    let b = c.args in
+    let p = b.p in
+    let N = explicit p b.words.now in
+    let x = c.zero_vector-x.ensures in
+    let y = c.explicit_vector-y.ensures in
+    (noise-made p b.at N b.g _ b.s.now _ _ _ x.1 x.0 y.0 c.ntt_vector.ensures, noise-next p N b.g _ _ x.1 (skip-once p.shares p.l _ _ y.1))

@@ -1,0 +1,21 @@
+use mathlib.Core.Path.{◌≡◌, sym, ap, subst, ◌∙◌}
+use Prim.Native.Nat.{ℕ, ◌+◌, ◌-◌}
+use native.Mathlib.Omega.{arith}
+use lib.ListN.{take, drop}
+use Rattle.ring.specs.Words.{Words}
+use Rattle.ring.specs.Transform.{ntt}
+use Rattle.sharing.proofs.Regions.{span-words}
+use Rattle.signature.proofs.vector.ntt_poly_to.Goals as goal
+
+pub ntt_residues-requires : goal.ntt_residues-requires
+ntt_residues-requires c =
+    let a = c in
+    let n : a.args.at + 512 - a.args.at ≡ 512 = omega arith in
+    subst (Words 512) (sym (c.copy_into.ensures ∙ ap (λ (k : ℕ). take k (drop a.args.at a.args.s.now)) n)) (span-words a.args.s.now a.args.at 512 a.requires.0 a.requires.1)
+
+pub returns : goal.returns
+returns c =
+    let a = c in
+    let n : a.args.at + 512 - a.args.at ≡ 512 = omega arith in
+    let r = c.ntt_residues.ensures in
+    (r.0 ∙ ap ntt (c.copy_into.ensures ∙ ap (λ (k : ℕ). take k (drop a.args.at a.args.s.now)) n), r.1)
