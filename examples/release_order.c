@@ -4,7 +4,7 @@
  * A newcomer's tour of raccoon.h: ask what signing takes, make a key, expand it, sign an order, verify it, see what the verifier says when a
  * byte is changed, and put order and signature into one slip.
  *
- *     gcc -std=c99 -Wall -Wextra -Werror -Iinclude examples/release_order.c target/staticlib/libcapi.a -o release_order
+ *     gcc -std=c99 -Wall -Wextra -Werror -Iinclude examples/release_order.c crates/capi/out/libcapi.a -o release_order
  */
 #include <raccoon.h>
 #include <stdio.h>

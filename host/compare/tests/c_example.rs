@@ -19,7 +19,7 @@ fn printed(source: &str) -> String {
     let program = Path::new(env!("CARGO_TARGET_TMPDIR")).join(Path::new(source).file_stem().unwrap());
     let compiled = Command::new("gcc")
         .args(["-std=c99", "-Wall", "-Wextra", "-Werror", "-O1", "-I"])
-        .args([root().join("include"), root().join(source), root().join("target/staticlib/libcapi.a")])
+        .args([root().join("include"), root().join(source), root().join("crates/capi/out/libcapi.a")])
         .arg("-o")
         .arg(&program)
         .output()

@@ -1,4 +1,4 @@
-//! The checking program `target/bin/checker`, which `rt check` writes: what it prints on its standard input.
+//! The checking program `crates/checker/out/checker`, which `rt ci` writes: what it prints on its standard input.
 
 use compare::independent::masks::Masks;
 use compare::independent::raccoon::{Edition, Noise, Params, expand, keygen, sign, verify, with_digest};
@@ -11,7 +11,7 @@ const KEY: usize = 2256;
 const SIGNATURE: usize = 11524;
 
 fn started() -> (Child, ChildStdin) {
-    let program = Path::new(env!("CARGO_MANIFEST_DIR")).join("../../target/bin/checker");
+    let program = Path::new(env!("CARGO_MANIFEST_DIR")).join("../../crates/checker/out/checker");
     let mut child = Command::new(program).stdin(Stdio::piped()).stdout(Stdio::piped()).spawn().unwrap();
     let input = child.stdin.take().unwrap();
     (child, input)

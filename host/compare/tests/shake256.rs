@@ -69,7 +69,7 @@ fn long_messages() {
 /// The program reads standard input to its end, in whatever pieces it comes.
 #[test]
 fn program_hashes_standard_input() {
-    let program = concat!(env!("CARGO_MANIFEST_DIR"), "/../../target/bin/shakesum");
+    let program = concat!(env!("CARGO_MANIFEST_DIR"), "/../../crates/shakesum/out/shakesum");
     let mut random = Random(4);
     for n in [0, 1, 135, 136, 4079, 4080, 4081, 8160, 100_000] {
         let message = random.bytes(n);
@@ -77,7 +77,7 @@ fn program_hashes_standard_input() {
             .stdin(Stdio::piped())
             .stdout(Stdio::piped())
             .spawn()
-            .expect("target/bin/shakesum is built by rt check");
+            .expect("crates/shakesum/out/shakesum is built by rt ci");
         let mut input = child.stdin.take().unwrap();
         for piece in message.chunks(1 + n / 3) {
             input.write_all(piece).unwrap();
