@@ -2,13 +2,15 @@
 // message; it prints verify's status for set 128, in decimal, and a line end.
 #![tactic(auto)]
 
-ghost use Rattle.std.specs.Prelude.{◌≡◌};
+ghost use Rattle.std.specs.Prelude.{◌≡◌, IfOk, IfSome};
 ghost use Rattle.checker.specs.Input.{checked_of};
 
 use hash::num::least;
 use hash::params::Edition;
-use libc::{STDIN_FILENO, STDOUT_FILENO};
+use input::read_full;
 use signature::verify::verify;
+use std::io;
+use std::io::Read;
 
 // The status of an input of any length.
 fn check(input: &[u8]) -> u32
@@ -25,11 +27,17 @@ fn check(input: &[u8]) -> u32
     )
 }
 
+// The status of all that the reader gives.
 // The buffer has room for one byte more than the longest message: what is behind it is not read, and does not change the status.
-fn main() {
+fn check_all<R: Read>(from: &mut R) -> io::Result<u32>
+    ensures { IfOk result (λ status. IfSome (R.remaining from.old) (λ s. status ≡ checked_of s)) }
+{
     let mut input = [0u8; 17877];
-    let n = io::read_full(STDIN_FILENO, &mut input);
-    let status = check(&input[0..n]);
-    io::print_decimal(STDOUT_FILENO, status as u64);
-    io::write_all(STDOUT_FILENO, b"\n");
+    let n = read_full(from, &mut input)?;
+    Ok(check(&input[..n]))
+}
+
+fn main(rt: HostRuntime) -> io::Result<()> {
+    let status = check_all(&mut rt.stdin())?;
+    println!(rt; "{status}")
 }

@@ -1,21 +1,39 @@
 // Bytes on standard output, in hex.
 #![tactic(auto)]
 
-ghost use Rattle.std.specs.Prelude.{◌≡◌, length};
+ghost use Rattle.std.specs.Prelude.{◌≡◌, ◌≤◌, length, IfOk, OnOk};
+ghost use Rattle.std.specs.Io.KnownBytes.{Appends};
+ghost use Rattle.hex.specs.Hex.{encode_lower};
+ghost use Rattle.hexio.specs.Line.{hex_line};
 
-use libc::STDOUT_FILENO;
+use std::io;
+use std::io::Write;
 
-fn wide(x: u8) -> u64 {
-    x as u64
+// How many bytes one write shows.
+const PART: usize = 64;
+
+// The bytes of part, two digits each, in one write.
+fn print_part<W: Write>(to: &mut W, part: &[u8]) -> io::Result<()>
+    requires { length part.now ≤ PART }
+    ensures { OnOk result (Appends (W.contents to.old) (W.contents to.new) (encode_lower part.now)) }
+{
+    let mut text = [0u8; 2 * PART];
+    let digits = &mut text[..2 * part.len()];
+    let Ok(()) = hex::encode_to_slice(part, digits) else {
+        unreachable!();
+    };
+    to.write_all(digits)
 }
 
-// The bytes of s, two digits each, and a line end: how many bytes of s that was. What a file then holds no contract can say.
-pub fn print_line(s: &[u8]) -> usize
-    ensures { result ≡ length s.now }
+// The bytes of s, two digits each, and a line end: how many bytes of s that was, and that they are what the writer holds more.
+// What a file then holds no contract can say.
+pub fn print_line<W: Write>(to: &mut W, s: &[u8]) -> io::Result<usize>
+    ensures count { IfOk result (λ n. n ≡ length s.now) }
+    ensures written { OnOk result (Appends (W.contents to.old) (W.contents to.new) (hex_line s.now)) }
 {
-    for i in 0..s.len() {
-        io::print_hex(STDOUT_FILENO, wide(s[i]), 2);
+    for part in s.chunks(PART) {
+        print_part(to, part)?;
     }
-    io::write_all(STDOUT_FILENO, b"\n");
-    s.len()
+    to.write_all(b"\n")?;
+    Ok(s.len())
 }
