@@ -30,13 +30,13 @@ le_same f g (suc n) h =
     rw (e, d)
 
 -- the number of a word's first n bytes is its rest
-pub le_bytes : (w n : ℕ) → le (byte_of w) n ≡ w % 2 ^ (8 * n)
+pub le-byte_of : (w n : ℕ) → le (byte_of w) n ≡ w % 2 ^ (8 * n)
 unfolding le
-le_bytes w zero = omega arith
-le_bytes w (suc n) =
+le-byte_of w zero = omega arith
+le-byte_of w (suc n) =
     let e : 8 * suc n ≡ 8 + 8 * n = omega arith in
     let m : w % 2 ^ (8 + 8 * n) ≡ w / 2 ^ (8 * n) % 256 * 2 ^ (8 * n) + w % 2 ^ (8 * n) = mod-pow-add w 8 (8 * n) in
-    rw (e, le_bytes w n, m) (add_comm _ _)
+    rw (e, le-byte_of w n, m) (add_comm _ _)
 
 -- a byte more on top of a number
 pub on-top : (x b k : ℕ) → x < 2 ^ k → b < 256 → (bit_xor x (b * 2 ^ k) ≡ x + b * 2 ^ k) × (x + b * 2 ^ k < 2 ^ (k + 8))
@@ -54,7 +54,7 @@ le_low f (suc n) h =
 
 -- a number of n bytes is that of its own bytes, and its bytes are those that it is of
 pub le-back : (x n : ℕ) → x < 2 ^ (8 * n) → le (byte_of x) n ≡ x
-le-back x n h = le_bytes x n ∙ mod-eq_of_lt h
+le-back x n h = le-byte_of x n ∙ mod-eq_of_lt h
 
 -- a byte on top leaves the lower ones
 pub byte-under : (x b n j : ℕ) → j < n → byte_of (x + b * 2 ^ (8 * n)) j ≡ byte_of x j

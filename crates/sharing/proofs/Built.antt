@@ -37,8 +37,8 @@ pub length-block : (w i : ℕ) (xs : List ℕ) → i * w + w ≤ length xs → l
 length-block w i xs h = ap (λ (l : List ℕ). length l) (block-is w i xs) ∙ length-span xs (i * w) w h
 
 -- block j of the d that block i is; block i behind the first m
-pub block_of : (w d i j : ℕ) (xs : List ℕ) → j < d → block w j (block (d * w) i xs) ≡ block w (i * d + j) xs
-block_of w d i j xs h =
+pub block-block : (w d i j : ℕ) (xs : List ℕ) → j < d → block w j (block (d * w) i xs) ≡ block w (i * d + j) xs
+block-block w d i j xs h =
     let e : i * (d * w) + j * w ≡ (i * d + j) * w = omega arith in
     ap (block w j) (block-is (d * w) i xs) ∙ block-span w d j xs (i * (d * w)) h ∙ ap (λ (n : ℕ). span xs n w) e ∙ sym (block-is w (i * d + j) xs)
 

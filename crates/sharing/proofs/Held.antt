@@ -20,7 +20,7 @@ use Rattle.hash.specs.Shake.{stream}
 use Rattle.hash.specs.Endian.{le, byte_of, lane_at}
 use Rattle.hash.proofs.Table.{get_d-table}
 use Rattle.hash.proofs.Output.{after_none, after_next}
-use Rattle.hash.proofs.Word.{le_same, le_bytes, byte-under}
+use Rattle.hash.proofs.Word.{le_same, le-byte_of, byte-under}
 use Rattle.hash.proofs.Flat.{flat, flat-unflat}
 use Rattle.ring.proofs.Draws.{draw-by}
 use Rattle.sharing.specs.declared.masks.MaskGen.{MaskGen}
@@ -55,7 +55,7 @@ module _ (f : ℕ → ℕ) (x y r : ℕ) (fits : x < 2 ^ 64) (low : (j : ℕ) �
   seven : le f 7 % 2 ^ 49 ≡ (x + y * 2 ^ 64) / 2 ^ (8 * r) % 2 ^ 49
   seven =
       ap (λ (n : ℕ). n % 2 ^ 49)
-      (le_same f (byte_of ((x + y * 2 ^ 64) / 2 ^ (8 * r))) 7 byte-from ∙ le_bytes ((x + y * 2 ^ 64) / 2 ^ (8 * r)) 7)
+      (le_same f (byte_of ((x + y * 2 ^ 64) / 2 ^ (8 * r))) 7 byte-from ∙ le-byte_of ((x + y * 2 ^ 64) / 2 ^ (8 * r)) 7)
       ∙ mod-mod-pow ((x + y * 2 ^ 64) / 2 ^ (8 * r)) 7 49
 
 -- the code's shifts: s bits of x are left out, and y stands behind the rest

@@ -15,10 +15,10 @@ unfolding noise_bytes
 noise-bytes p = refl
 
 -- share j of polynomial i, at coefficient x: a lent word
-pub lent_at : (d : ℕ) (words : List ℕ) (i t j x : ℕ) → j < d → x < 512
+pub get_or-explicit_noise : (d : ℕ) (words : List ℕ) (i t j x : ℕ) → j < d → x < 512
     → get_or (explicit_noise d words i t) (j * 512 + x) 0 ≡ get_or words (i * (d * 512) + (j * 512 + x)) 0
 unfolding explicit_noise
-lent_at d words i t j x hj hx = block_at (d * 512) i words (j * 512 + x) (omega arith)
+get_or-explicit_noise d words i t j x hj hx = block_at (d * 512) i words (j * 512 + x) (omega arith)
 
 -- .. and a sample of its seed
 pub sample-at : (d rep u n : ℕ) → u ≤ 49 → (seeds : List ℕ) (i t j x : ℕ) → j < d → x < 512

@@ -41,12 +41,12 @@ pub draws-low : (b : Bool) (n : ℕ) → draws_of b n ≤ 1088
 draws-low true n = omega arith
 draws-low false n = omega arith
 
-byte_of : (b : Bool) (S : State) (lent : List ℕ) (i j : ℕ) → i < 16 → j < 136
+get_or-block_of : (b : Bool) (S : State) (lent : List ℕ) (i j : ℕ) → i < 16 → j < 136
     → get_or (block_of b (state_of b i S) lent i) j 0 ≡ get_or (bytes_of b S lent) (i * 136 + j) 0
-byte_of true S lent i j h l =
+get_or-block_of true S lent i j h l =
     let e : 136 * i + j ≡ i * 136 + j = omega arith in
     sym (stream-block S i j l) ∙ ap (stream S) e ∙ sym (get_d-table (stream S) 2176 (i * 136 + j) (omega arith))
-byte_of false S lent i j h l = get_d-table (λ (k : ℕ). get_or lent (i * 136 + k) 0) 136 j l
+get_or-block_of false S lent i j h l = get_d-table (λ (k : ℕ). get_or lent (i * 136 + k) 0) 136 j l
 
 pub draw-of : (b : Bool) (S : State) (lent : List ℕ) (i j : ℕ) → i < 16 → j < 68
     → chal_draw (block_of b (state_of b i S) lent i) j ≡ chal_draw (bytes_of b S lent) (i * 68 + j)
@@ -54,9 +54,9 @@ draw-of b S lent i j h l =
     let e : i * 136 + j * 2 ≡ (i * 68 + j) * 2 = omega arith in
     let f : i * 136 + (j * 2 + 1) ≡ (i * 68 + j) * 2 + 1 = omega arith in
     let x : get_or (block_of b (state_of b i S) lent i) (j * 2) 0 ≡ get_or (bytes_of b S lent) ((i * 68 + j) * 2) 0 =
-    byte_of b S lent i (j * 2) h (omega arith) ∙ ap (λ (k : ℕ). get_or (bytes_of b S lent) k 0) e in
+    get_or-block_of b S lent i (j * 2) h (omega arith) ∙ ap (λ (k : ℕ). get_or (bytes_of b S lent) k 0) e in
     let y : get_or (block_of b (state_of b i S) lent i) (j * 2 + 1) 0 ≡ get_or (bytes_of b S lent) ((i * 68 + j) * 2 + 1) 0 =
-    byte_of b S lent i (j * 2 + 1) h (omega arith) ∙ ap (λ (k : ℕ). get_or (bytes_of b S lent) k 0) f in
+    get_or-block_of b S lent i (j * 2 + 1) h (omega arith) ∙ ap (λ (k : ℕ). get_or (bytes_of b S lent) k 0) f in
     ap₂ (λ (u v : ℕ). u + v * 256) x y
 
 pub block-draws : (b : Bool) (S A : State) (lent bytes : List ℕ) (i m : ℕ) → A ≡ state_of b i S → bytes ≡ block_of b A lent i → i < 16 → m ≤ 68

@@ -20,7 +20,7 @@ use Rattle.sharing.specs.Blocks.{block, build}
 use Rattle.sharing.specs.Region.{span}
 use Rattle.sharing.proofs.Lists.{words-build, block-build, build-ext, build-nest, blocks-all, length-build}
 use Rattle.sharing.proofs.Regions.{block-span}
-use Rattle.sharing.proofs.Built.{block-is, block_of, build-none, build-next}
+use Rattle.sharing.proofs.Built.{block-is, block-block, build-none, build-next}
 use Rattle.signature.specs.Matrix.{joined_to, build_all, matrix_at, matrix_of, matrix_header, filled}
 use Rattle.signature.specs.MatrixSteps.{row_entry, row_made}
 use Rattle.signature.specs.MaskedSteps.{untransformed}
@@ -138,7 +138,7 @@ module _ (k l : ℕ) (seed A : List ℕ) (e : matrix_of k l seed ≡ some A) whe
       ap (block (l * 512) i) rows.whole ∙ block-build (l * 512) k i R (λ (j : ℕ) (h : j < k). (row_words j h).long) hi in
       let b : block 512 m (R i) ≡ row_entry seed i m =
       ap (block 512 m) (row i hi).whole ∙ block-build 512 l m (row_entry seed i) (λ (j : ℕ) (h : j < l). (entry-words i j hi h).long) hm in
-      sym b ∙ ap (block 512 m) (sym a) ∙ block_of 512 l i m A hm
+      sym b ∙ ap (block 512 m) (sym a) ∙ block-block 512 l i m A hm
 
   pub matrix-entry-words : (i m : ℕ) → i < k → m < l → Words 512 (block 512 (i * l + m) A)
   matrix-entry-words i m hi hm = rw (← entry-is i m hi hm) (entry-words i m hi hm)
@@ -161,7 +161,7 @@ module _ (k l : ℕ) (seed A : List ℕ) (e : matrix_of k l seed ≡ some A) whe
       let r : block (l * 512) i M ≡ row_made l seed i =
       block-is (l * 512) i M ∙ ap (λ (n : ℕ). span M n (l * 512)) z ∙ sym (block-span (l * 512) k i M 0 hi) ∙ ap (block (l * 512) i) e
       ∙ block-build (l * 512) k i (row_made l seed) (λ (j : ℕ) (o : j < k). made-long l seed j) hi in
-      ap intt (sym (block_of 512 l i m M hm) ∙ ap (block 512 m) r ∙ made-entry i m hi hm) ∙ intt-ntt (G (i * l + m)) (matrix-entry-words i m hi hm) in
+      ap intt (sym (block-block 512 l i m M hm) ∙ ap (block 512 m) r ∙ made-entry i m hi hm) ∙ intt-ntt (G (i * l + m)) (matrix-entry-words i m hi hm) in
       build-nest k l F
       ∙ build-ext k (λ (i : ℕ). build l (λ (m : ℕ). F (i * l + m))) (λ (i : ℕ). build l (λ (m : ℕ). G (i * l + m)))
       (λ (i : ℕ) (hi : i < k). build-ext l (λ (m : ℕ). F (i * l + m)) (λ (m : ℕ). G (i * l + m)) (λ (m : ℕ) (hm : m < l). at i m hi hm))

@@ -61,7 +61,7 @@ module _ (e : Edition) (set d : ℕ) (p : Params) (h : lookup_of set d e ≡ Sel
       → Leaves p (with_digest p (packed key)) (secret_at p.shares (generated_of p seeds mask key)) (expand_call e set d key bytes words)
   made-expands bytes words s =
       subst (Leaves p (with_digest p (packed key)) (secret_at p.shares (generated_of p seeds mask key)))
-      (sym (expand-goes e set d p key bytes words made-expansion.shares_of h (made-passes bytes words s) made-expansion.is))
+      (sym (expand-goes e set d p key bytes words made-expansion.share_words h (made-passes bytes words s) made-expansion.is))
       (record { status = refl; holds = made-expansion.holds })
 
 -- refreshing that passes its checks keeps the bytes, whatever digest is in them, and the secret

@@ -191,9 +191,9 @@ module _ (p : Params) (Z X s x : List ℕ) (h : 1 ≤ p.shares) (w : Words (p.l 
 
 -- of a key that key generation made: it gives shares, and with them the bytes and the secret that the key was made of
 pub record Expansion (p : Params) (seeds mask key : List ℕ) : Type 0 where
-  pub shares_of : List ℕ
-  pub is : expand_of p key ≡ some shares_of
-  pub holds : Holds p (with_digest p (packed key)) (secret_at p.shares (generated_of p seeds mask key)) (record { bytes = with_digest p (packed key); words = shares_of })
+  pub share_words : List ℕ
+  pub is : expand_of p key ≡ some share_words
+  pub holds : Holds p (with_digest p (packed key)) (secret_at p.shares (generated_of p seeds mask key)) (record { bytes = with_digest p (packed key); words = share_words })
 
 pub expansion : (p : Params) (seeds mask key : List ℕ) → Rule p → 1 ≤ p.shares → length seeds ≡ keygen_bytes p
     → keygen_of p seeds mask ≡ some key → Expansion p seeds mask key
@@ -208,7 +208,7 @@ expansion p seeds mask key r h l e =
     let z = share-part-long p seeds l in
     let f : full_share p (share_part p seeds ++ repack 49 8 (p.l * 3136) m.x) ≡ m.x = ap (full_share p) (sym k.part) ∙ k.full in
     record {
-      shares_of = expanded p Z X s m.x h w z m.share-is f;
+      share_words = expanded p Z X s m.x h w z m.share-is f;
       is = ap (decompressed p) k.part ∙ expand-there p Z X s m.x h w z m.share-is f;
       holds =
           holds_as p (generated_of p seeds mask key) (record { bytes = with_digest p (packed key); words = expanded p Z X s m.x h w z m.share-is f }) w

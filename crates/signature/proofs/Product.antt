@@ -9,7 +9,7 @@ use Rattle.ring.specs.Transform.{ntt, intt, pointwise, mul}
 use Rattle.ring.proofs.Theorems.{ntt-words, intt-words, pointwise-words, mul_words, ntt-intt, product, intt-linear}
 use Rattle.sharing.specs.Blocks.{block, build, sum_of, each}
 use Rattle.sharing.proofs.Lists.{inside, block_words, block-build, build-ext, build-nest}
-use Rattle.sharing.proofs.Built.{block-is, block_of, each-is}
+use Rattle.sharing.proofs.Built.{block-is, block-block, each-is}
 use Rattle.sharing.proofs.Regions.{span-words}
 use Rattle.sharing.proofs.Decode.{sum-ext, sum_rows, linear-sum}
 use Rattle.signature.specs.MaskedSteps.{transformed, untransformed, row_sum, row_share}
@@ -21,9 +21,9 @@ unfolding transformed
 transformed-at l d m j xs hm hj =
     let k : m * d + d ≤ l * d = inside m l d hm in
     let h : m * d + j < l * d = omega arith in
-    block_of 512 d m j (transformed (l * d) xs) hj
+    block-block 512 d m j (transformed (l * d) xs) hj
     ∙ block-build 512 (l * d) (m * d + j) (λ (i : ℕ). ntt (block 512 i xs)) (λ (i : ℕ) (t : i < l * d). (ntt-words (block 512 i xs)).long) h
-    ∙ ap ntt (sym (block_of 512 d m j xs hj))
+    ∙ ap ntt (sym (block-block 512 d m j xs hj))
 
 -- the vector of sharings transformed share by share
 pub transformed-each : (l d : ℕ) (xs : List ℕ) → transformed (l * d) xs ≡ build l (λ (i : ℕ). each d ntt (block (d * 512) i xs))
@@ -33,7 +33,7 @@ transformed-each l d xs =
     ∙ build-ext l (λ (i : ℕ). build d (λ (j : ℕ). ntt (block 512 (i * d + j) xs))) (λ (i : ℕ). each d ntt (block (d * 512) i xs))
     (λ (i : ℕ) (hi : i < l).
     build-ext d (λ (j : ℕ). ntt (block 512 (i * d + j) xs)) (λ (j : ℕ). ntt (block 512 j (block (d * 512) i xs)))
-    (λ (j : ℕ) (hj : j < d). ap ntt (sym (block_of 512 d i j xs hj)))
+    (λ (j : ℕ) (hj : j < d). ap ntt (sym (block-block 512 d i j xs hj)))
     ∙ sym (each-is d ntt (block (d * 512) i xs)))
 
 -- a row T of the matrix whose entries are a 0, .. a (l - 1)
@@ -89,5 +89,5 @@ module _ (k l : ℕ) (M : List ℕ) (h : k * (l * 512) ≤ length M) (b : Below 
   entry-held i m hi hm =
       let n : i * l + l ≤ k * l = inside i k l hi in
       let o : i * l + m < k * l = omega arith in
-      block_of 512 l i m M hm ∙ sym (ntt-intt (block 512 (i * l + m) M) (held-words (i * l + m) o))
+      block-block 512 l i m M hm ∙ sym (ntt-intt (block 512 (i * l + m) M) (held-words (i * l + m) o))
       ∙ ap ntt (sym (block-build 512 (k * l) (i * l + m) (λ (j : ℕ). intt (block 512 j M)) (λ (j : ℕ) (g : j < k * l). (intt-words (block 512 j M) (held-words j g)).long) o))

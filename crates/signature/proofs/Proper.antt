@@ -50,9 +50,9 @@ proper-none p b n = go (proper_form p b) refl
 
 -- ---- the code's reader
 
-pub bytes_of : (b : List ℕ) → ((j : ℕ) → get_or b j 0 < 256) → Bytes b
-bytes_of [] h = tt
-bytes_of (x ∷ b) h = (h 0, bytes_of b (λ (j : ℕ). h (suc j)))
+pub Bytes-low : (b : List ℕ) → ((j : ℕ) → get_or b j 0 < 256) → Bytes b
+Bytes-low [] h = tt
+Bytes-low (x ∷ b) h = (h 0, Bytes-low b (λ (j : ℕ). h (suc j)))
 
 module _ (p : Params) (vk msg b : List ℕ) (byte : Bytes b) (long : length b ≡ p.sig_bytes) (size : hash_bytes p ≤ length b) where
   pub status-14 : ((h z : List ℤ) → ZeroFilled (p.k * 512) (p.l * 512) (behind p b) h z → ⊥) → first_no (form_checks p vk msg b) ≡ 14

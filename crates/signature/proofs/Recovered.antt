@@ -9,7 +9,7 @@ use Rattle.ring.specs.Transform.{ntt, intt, pointwise, mul}
 use Rattle.ring.specs.Round.{scaled_t}
 use Rattle.ring.proofs.Theorems.{ntt-words, pointwise-words, product, intt-sub}
 use Rattle.sharing.specs.Blocks.{block, sum_of}
-use Rattle.sharing.proofs.Built.{block_of}
+use Rattle.sharing.proofs.Built.{block-block}
 use Rattle.sharing.proofs.Decode.{sum-ext}
 use Rattle.signature.specs.MaskedSteps.{applied, shared_poly, row_share, transformed}
 use Rattle.signature.specs.Recover.{product_row, recovered_row}
@@ -25,7 +25,7 @@ recovered-by l T Z C t u e h =
     let P = pointwise C (ntt (scaled_t t)) in
     let wp : Words 512 P = pointwise-words C (ntt (scaled_t t)) h (ntt-words (scaled_t t)).long in
     let one : (m : ℕ) → m < l → block 512 m Z ≡ shared_poly 1 Z 0 m =
-    λ (m : ℕ) (o : m < l). let j : m * 1 + 0 ≡ m = omega arith in sym (block_of 512 1 m 0 Z (omega arith) ∙ ap (λ (x : ℕ). block 512 x Z) j) in
+    λ (m : ℕ) (o : m < l). let j : m * 1 + 0 ≡ m = omega arith in sym (block-block 512 1 m 0 Z (omega arith) ∙ ap (λ (x : ℕ). block 512 x Z) j) in
     ap (λ (x : List ℕ). intt (sub_w (applied l T Z) (pointwise C x))) e
     ∙ intt-sub (applied l T Z) P (applied-words l T Z) wp
     ∙ ap (λ (x : List ℕ). sub_w x (intt P)) (row-share-is 1 l T Z Z 0 one)
@@ -43,7 +43,7 @@ recovered-row l i T A z c t e wa wz wc wt =
     let v : (m : ℕ) → m < l → mul (a m) (block 512 0 (block (1 * 512) m z)) ≡ mul (a m) (block 512 m z) =
     λ (m : ℕ) (o : m < l).
     let j : m * 1 + 0 ≡ m = omega arith in
-    ap (mul (a m)) (block_of 512 1 m 0 z (omega arith) ∙ ap (λ (x : ℕ). block 512 x z) j) in
+    ap (mul (a m)) (block-block 512 1 m 0 z (omega arith) ∙ ap (λ (x : ℕ). block 512 x z) j) in
     ap (λ (x : List ℕ). sub_w x (scaled_by (ntt c) (block 512 i t)))
     (u ∙ sum-ext 512 l (λ (m : ℕ). mul (a m) (block 512 0 (block (1 * 512) m z))) (λ (m : ℕ). mul (a m) (block 512 m z)) v)
     ∙ ap (sub_w (product_row l A z i)) (product c (scaled_t (block 512 i t)) wc wt)

@@ -95,8 +95,8 @@ module _ (bs : List ℕ) (at : ℕ) (l : at < length bs * 8) where
   at-is : at / 8 * 8 + at % 8 ≡ at
   at-is = omega arith
 
-  pub bit_at : get_or bs (at / 8) 0 / 2 ^ (at % 8) % 2 ≡ get_or (bit_string 8 bs) at 0
-  bit_at = sym (get 8 (at % 8) (omega arith) bs (at / 8) (omega arith)) ∙ ap (λ (n : ℕ). get_or (bit_string 8 bs) n 0) at-is
+  pub bit_at_lem : get_or bs (at / 8) 0 / 2 ^ (at % 8) % 2 ≡ get_or (bit_string 8 bs) at 0
+  bit_at_lem = sym (get 8 (at % 8) (omega arith) bs (at / 8) (omega arith)) ∙ ap (λ (n : ℕ). get_or (bit_string 8 bs) n 0) at-is
 
   module _ (b : ℕ) where
     pub flipped : b < 2 → (get_or bs (at / 8) 0 / 2 ^ (at % 8) % 2 ≡ b → ⊥) → bit_string 8 (set bs (at / 8) (bit_xor (get_or bs (at / 8) 0) (2 ^ (at % 8)))) ≡ set (bit_string 8 bs) at b
@@ -109,7 +109,7 @@ module _ (bs : List ℕ) (at : ℕ) (l : at < length bs * 8) where
         ∙ ap (λ (m : ℕ). set (bit_string 8 bs) m b) at-is
 
     pub left : get_or bs (at / 8) 0 / 2 ^ (at % 8) % 2 ≡ b → bit_string 8 bs ≡ set (bit_string 8 bs) at b
-    left e = sym (set-get_or (bit_string 8 bs) at 0) ∙ ap (set (bit_string 8 bs) at) (sym bit_at ∙ e)
+    left e = sym (set-get_or (bit_string 8 bs) at 0) ∙ ap (set (bit_string 8 bs) at) (sym bit_at_lem ∙ e)
 
 -- ---- one more
 

@@ -8,9 +8,9 @@ use lib.Seq.{get_or-drop}
 use Rattle.hash.specs.declared.params.Params.{Params}
 use Rattle.sharing.specs.Blocks.{block}
 use Rattle.sharing.specs.Noise.{sample_u, noise_header, noise_bytes}
-use Rattle.sharing.proofs.Built.{block_of, block-behind}
+use Rattle.sharing.proofs.Built.{block-block, block-behind}
 use Rattle.sharing.proofs.Lists.{inside, block_at}
-use Rattle.sharing.proofs.NoisePlaces.{noise-bytes, lent_at, sample-at}
+use Rattle.sharing.proofs.NoisePlaces.{noise-bytes, get_or-explicit_noise, sample-at}
 use Rattle.signature.specs.Masked.{seeded, explicit}
 
 module _ (p : Params) (noise : List ℕ) (a : ℕ) where
@@ -35,14 +35,14 @@ module _ (p : Params) (noise : List ℕ) (a : ℕ) where
   pub explicit-first : (i t j x : ℕ) → i < p.l → j < d → x < 512
       → get_or ((explicit p words).first i t) (j * 512 + x) 0 ≡ get_or noise (((a * m + i) * d + j) * 512 + x) 0
   unfolding explicit
-  explicit-first i t j x hi hj hx = lent_at d words i t j x hj hx ∙ word_at i j x (omega arith) hj hx
+  explicit-first i t j x hi hj hx = get_or-explicit_noise d words i t j x hj hx ∙ word_at i j x (omega arith) hj hx
 
   pub explicit-second : (i t j x : ℕ) → i < p.k → j < d → x < 512
       → get_or ((explicit p words).second i t) (j * 512 + x) 0 ≡ get_or noise (((a * m + (p.l + i)) * d + j) * 512 + x) 0
   unfolding explicit
   explicit-second i t j x hi hj hx =
       let e : p.l * (d * 512) + (i * (d * 512) + (j * 512 + x)) ≡ (p.l + i) * (d * 512) + (j * 512 + x) = omega arith in
-      lent_at d (drop (p.l * (d * 512)) words) i t j x hj hx
+      get_or-explicit_noise d (drop (p.l * (d * 512)) words) i t j x hj hx
       ∙ get_or-drop (p.l * (d * 512)) words (i * (d * 512) + (j * 512 + x)) 0
       ∙ ap (λ (n : ℕ). get_or words n 0) e ∙ word_at (p.l + i) j x (omega arith) hj hx
 
@@ -63,7 +63,7 @@ module _ (p : Params) (noise : List ℕ) (a : ℕ) where
       let s : noise_bytes p ≡ m * p.rep * d * n = noise-bytes p ∙ omega arith in
       let e : a * (m * p.rep * d) + ((i * p.rep + t) * d + j) ≡ ((a * m + i) * p.rep + t) * d + j = omega arith in
       ap (λ (k : ℕ). block n ((i * p.rep + t) * d + j) (block k a noise)) s
-      ∙ block_of n (m * p.rep * d) a ((i * p.rep + t) * d + j) noise l ∙ ap (λ (k : ℕ). block n k noise) e
+      ∙ block-block n (m * p.rep * d) a ((i * p.rep + t) * d + j) noise l ∙ ap (λ (k : ℕ). block n k noise) e
 
   module _ (low : p.uw ≤ 49) where
     pub seeded-first : (i t j x : ℕ) → i < p.l → t < p.rep → j < d → x < 512

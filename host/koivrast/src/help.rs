@@ -8,9 +8,9 @@ alike whatever the shares are.
 
 Five minutes:
   koivrast keygen --set 128 --shares 4 --key gate.key --public gate.pub
-  echo \"Release tram 17 from track 4 at 05:42.\" > order.txt
-  koivrast slip sign --key gate.key --movement 17 --track 4 --text order.txt --out order.slip
-  koivrast slip read --public gate.pub order.slip
+  echo 'release tram 17' > order.txt
+  koivrast sign --key gate.key --message order.txt --out order.sig
+  koivrast verify --public gate.pub --message order.txt --signature order.sig
 
 Commands:
   keygen      make a signing key and its public key

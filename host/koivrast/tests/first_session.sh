@@ -1,9 +1,8 @@
 #!/bin/sh
-# A newcomer's first session with koivrast, as README has it, and all that can go wrong in it: sh first_session.sh PATH_OF_KOIVRAST
+# A newcomer's first session with koivrast, and all that can go wrong in it: sh first_session.sh PATH_OF_KOIVRAST
 # Prints 'ok NAME' or 'FAILED NAME' for each check and how many there were; the exit status is 0 if none failed.
 [ $# -eq 1 ] || { echo "which koivrast?" && exit 2; }
 tool=$(cd "$(dirname "$1")" && pwd)/$(basename "$1")
-readme=$(cd "$(dirname "$0")/../../.." && pwd)/README.md
 export tool
 folder=$(mktemp -d) && trap 'rm -rf "$folder"' EXIT && cd "$folder" || exit 1
 umask 022
@@ -88,24 +87,14 @@ expect 'help of two commands' 2 'of one command at a time' "$tool" help sign ver
 expect 'help of two commands of slips' 2 'of one command at a time' "$tool" help slip sign slip read
 for words in 'help slip' 'slip --help' 'slip -h'; do expect "$words" 0 '^koivrast slip read --public FILE SLIP$' "$tool" $words; done
 
-# ---- The five minutes of README, which are those of the help
+# ---- The five minutes of the help
 
-sed -n '/^## In five minutes/,/^## Layers/s/^    //p' "$readme" | sed 's/  *#.*//; s/^\.\/run /koivrast /' >.readme
-"$tool" help | sed -n '/^Five minutes/,/^$/s/^  //p' >.help
-holds 'five minutes: help and README' cmp .readme .help
-holds 'five minutes: four commands' test "$(grep -c '' .readme)" -eq 4
-sed 's/^koivrast /"$tool" /' .readme | sh -e >.said 2>&1
-holds 'five minutes' grep -q '^good: order.slip is signed by gate.pub (set 128)$' .said
-holds 'five minutes: movement' grep -q '^  movement  *17$' .said
-holds 'five minutes: track' grep -q '^  track  *4$' .said
-holds 'five minutes: text' grep -q '^  text  *"Release tram 17 from track 4 at 05:42.\\n" (39 bytes)$' .said
-holds 'five minutes: nothing else' test "$(grep -c '' .said)" -eq 7
+sh -c "$("$tool" help | sed -n '/^Five minutes/,/^$/s/^  koivrast/"$tool"/p; /^Five minutes/,/^$/s/^  echo/echo/p')" >.said 2>&1
+holds 'five minutes' grep -q '^good: order.sig is the signature of order.txt by gate.pub (set 128)$' .said
 holds 'signing key for the owner only' mode_is gate.key 600
 holds 'public key for all' mode_is gate.pub 644
-holds 'slip for all' mode_is order.slip 644
-
-expect 'sign' 0 'order.sig: signature of set 128, attempt' sign gate.key order.txt order.sig
 holds 'signature for all' mode_is order.sig 644
+
 expect 'verify' 0 '^good: ' verify gate.pub order.txt order.sig
 expect 'verify, options with =' 0 '^good: ' "$tool" verify --signature=order.sig --message=order.txt --public=gate.pub
 expect 'message by pipe' 0 '^good: ' eval 'cat order.txt | verify gate.pub - order.sig'
@@ -182,10 +171,19 @@ expect 'inspect a public key' 0 'below 125  *all coefficients' "$tool" inspect g
 expect 'inspect standard input' 0 'standard input: public key of set 128' eval '"$tool" inspect - <gate.pub'
 expect 'inspect keys that differ' 0 'same public key in these 2 files: no' "$tool" inspect gate.pub 128-4.pub
 expect 'inspect goes on after a missing file' 2 'gate.pub: public key' "$tool" inspect missing gate.pub
-expect 'inspect what is nothing' 1 'order.txt has 39 bytes: no key and no signature is that long' "$tool" inspect order.txt
+expect 'inspect what is nothing' 1 'order.txt has 16 bytes: no key and no signature is that long' "$tool" inspect order.txt
 
 # ---- Slips
 
+mv order.txt short.txt
+echo "Release tram 17 from track 4 at 05:42." >order.txt
+expect 'slip sign' 0 'order.slip: slip of set 128, attempt' slip_sign gate.key 17 4 order.txt order.slip
+holds 'slip for all' mode_is order.slip 644
+expect 'slip read' 0 '^good: order.slip is signed by gate.pub (set 128)$' slip_read gate.pub order.slip
+holds 'slip read: movement' grep -q '^  movement  *17$' .said
+holds 'slip read: track' grep -q '^  track  *4$' .said
+holds 'slip read: text' grep -q '^  text  *"Release tram 17 from track 4 at 05:42.\\n" (39 bytes)$' .said
+holds 'slip read: nothing else' test "$(grep -c '' .said)" -eq 4
 sh -c "$("$tool" help slip sign | sed -n '/^Examples/,$s/^  //p' | sed 's/koivrast/"$tool"/; s/order.slip/x.slip/')" >.said 2>&1
 holds 'slip sign: examples of the help' test "$(grep -c 'slip: slip of set 128, attempt' .said)" -eq 2
 sh -c "$("$tool" help slip read | sed -n 's/^  koivrast/"$tool"/p')" >.said 2>&1
@@ -301,6 +299,7 @@ expect 'slip with a false digest' 0 '^koivrast: warning: false.open: ' slip_sign
 expect 'slip with a false digest read' 1 'refused, 16: ' slip_read gate.pub false.slip
 holds 'no refused slip has left a file' absent y.slip
 rm x.slip false.open mixed.open
+mv short.txt order.txt
 
 # ---- What a signing call takes
 

@@ -1,4 +1,4 @@
-//! The README's first command, as it stands: a release order signed and verified, and an altered one refused.
+//! The README's first command, as it stands: a release order signed and verified, and another order refused.
 
 use std::process::Command;
 
@@ -8,8 +8,7 @@ fn main_job() {
     let said = String::from_utf8(output.stdout).unwrap();
     assert!(output.status.success(), "{said}{}", String::from_utf8_lossy(&output.stderr));
     for line in [
-        "good: order.slip is signed by gate.pub (set 128)",
-        "  text               \"Release tram 17 from track 4 at 05:42.\\n\" (39 bytes)",
+        "good: order.sig is the signature of order.txt by gate.pub (set 128)",
         "koivrast: refused, 16: Is the recomputed challenge hash equal? No.",
     ] {
         assert!(said.lines().any(|said| said == line), "not said: {line}\n{said}");

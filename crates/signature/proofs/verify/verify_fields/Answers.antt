@@ -19,7 +19,7 @@ use Rattle.signature.specs.VerifySteps.{field_checks, form_checks}
 use Rattle.signature.proofs.Norms.{bounds-small}
 use Rattle.signature.proofs.Decision.{decided-passed}
 use Rattle.signature.proofs.Fronts.{front-in, front-is}
-use Rattle.signature.proofs.Proper.{bytes_of, status-14, status-read, sizes-read, read-yes, read_no, bounded-part, hash-same}
+use Rattle.signature.proofs.Proper.{Bytes-low, status-14, status-read, sizes-read, read-yes, read_no, bounded-part, hash-same}
 use Rattle.signature.proofs.Reading.{ZeroFilled}
 use Rattle.signature.proofs.verify.verify_fields.Goals as goal
 
@@ -34,7 +34,7 @@ returns-then-not-read c =
     let a = c in
     let b = a.args in
     let p = b.p in
-    sym (status-14 p b.vk.now b.msg.now b.sig.now (bytes_of b.sig.now (λ (j : ℕ). (c.type_inv.sig j).fits)) a.requires.3 fits
+    sym (status-14 p b.vk.now b.msg.now b.sig.now (Bytes-low b.sig.now (λ (j : ℕ). (c.type_inv.sig j).fits)) a.requires.3 fits
     (read_no (drop (8 * (p.kappa / 4)) (bit_string 8 b.sig.now)) (p.k * 512) (p.l * 512) _ _ _ _ _ hint-room z-room c.read.ensures c.if-not-read.true))
 
 pub slice_bounds-check_bounds-end : goal.slice_bounds-check_bounds-end
@@ -51,7 +51,7 @@ slice_bounds-check_bounds-end c =
     let b = a.args in
     let p = b.p in
     let e = read-yes (drop (8 * (p.kappa / 4)) (bit_string 8 b.sig.now)) (p.k * 512) (p.l * 512) _ _ _ c.read.new.hint c.read.new.response hint-room z-room c.read.ensures c.if-not-read.false in
-    let s = sizes-read p b.vk.now b.msg.now b.sig.now (bytes_of b.sig.now (λ (j : ℕ). (c.type_inv.sig j).fits)) a.requires.3 fits c.read.new.hint c.read.new.response e in
+    let s = sizes-read p b.vk.now b.msg.now b.sig.now (Bytes-low b.sig.now (λ (j : ℕ). (c.type_inv.sig j).fits)) a.requires.3 fits c.read.new.hint c.read.new.response e in
     (e, s.0, s.1) in
     let g = got in front-in (c.args.p.k * 512) (replicate 4608 (pos 0)) c.read.new.hint hint-fits g.1
 
@@ -69,7 +69,7 @@ slice_bounds-check_bounds-end-2 c =
     let b = a.args in
     let p = b.p in
     let e = read-yes (drop (8 * (p.kappa / 4)) (bit_string 8 b.sig.now)) (p.k * 512) (p.l * 512) _ _ _ c.read.new.hint c.read.new.response hint-room z-room c.read.ensures c.if-not-read.false in
-    let s = sizes-read p b.vk.now b.msg.now b.sig.now (bytes_of b.sig.now (λ (j : ℕ). (c.type_inv.sig j).fits)) a.requires.3 fits c.read.new.hint c.read.new.response e in
+    let s = sizes-read p b.vk.now b.msg.now b.sig.now (Bytes-low b.sig.now (λ (j : ℕ). (c.type_inv.sig j).fits)) a.requires.3 fits c.read.new.hint c.read.new.response e in
     (e, s.0, s.1) in
     let g = got in front-in (c.args.p.l * 512) (replicate 3584 (pos 0)) c.read.new.response z-fits g.2
 
@@ -87,12 +87,12 @@ returns-then-not-bounds c =
     let b = a.args in
     let p = b.p in
     let e = read-yes (drop (8 * (p.kappa / 4)) (bit_string 8 b.sig.now)) (p.k * 512) (p.l * 512) _ _ _ c.read.new.hint c.read.new.response hint-room z-room c.read.ensures c.if-not-read.false in
-    let s = sizes-read p b.vk.now b.msg.now b.sig.now (bytes_of b.sig.now (λ (j : ℕ). (c.type_inv.sig j).fits)) a.requires.3 fits c.read.new.hint c.read.new.response e in
+    let s = sizes-read p b.vk.now b.msg.now b.sig.now (Bytes-low b.sig.now (λ (j : ℕ). (c.type_inv.sig j).fits)) a.requires.3 fits c.read.new.hint c.read.new.response e in
     (e, s.0, s.1) in
     let read-status : ◌≡◌ {A = ℕ} (first_no (form_checks c.args.p c.args.vk.now c.args.msg.now c.args.sig.now))
     (first_no (field_checks c.args.p c.args.vk.now c.args.msg.now (fields_of (take (c.args.p.kappa / 4) c.args.sig.now) c.read.new.hint c.read.new.response))) = let a = c in
     let b = a.args in
-    status-read b.p b.vk.now b.msg.now b.sig.now (bytes_of b.sig.now (λ (j : ℕ). (c.type_inv.sig j).fits)) a.requires.3 fits c.read.new.hint c.read.new.response got.0 in
+    status-read b.p b.vk.now b.msg.now b.sig.now (Bytes-low b.sig.now (λ (j : ℕ). (c.type_inv.sig j).fits)) a.requires.3 fits c.read.new.hint c.read.new.response got.0 in
     -- the parts that are lent on are what was read
     let hint-is : take (c.args.p.k * 512 - 0) (put_mid 0 (c.args.p.k * 512 - 0) (replicate {A = ℤ} 4608 (pos 0)) c.read.new.hint) ≡ c.read.new.hint = front-is (c.args.p.k * 512) (replicate 4608 (pos 0)) c.read.new.hint hint-fits got.1 in
     let z-is : take (c.args.p.l * 512 - 0) (put_mid 0 (c.args.p.l * 512 - 0) (replicate {A = ℤ} 3584 (pos 0)) c.read.new.response) ≡ c.read.new.response = front-is (c.args.p.l * 512) (replicate 3584 (pos 0)) c.read.new.response z-fits got.2 in
@@ -124,7 +124,7 @@ slice_bounds-verify_hash-end-2 c =
     let b = a.args in
     let p = b.p in
     let e = read-yes (drop (8 * (p.kappa / 4)) (bit_string 8 b.sig.now)) (p.k * 512) (p.l * 512) _ _ _ c.read.new.hint c.read.new.response hint-room z-room c.read.ensures c.if-not-read.false in
-    let s = sizes-read p b.vk.now b.msg.now b.sig.now (bytes_of b.sig.now (λ (j : ℕ). (c.type_inv.sig j).fits)) a.requires.3 fits c.read.new.hint c.read.new.response e in
+    let s = sizes-read p b.vk.now b.msg.now b.sig.now (Bytes-low b.sig.now (λ (j : ℕ). (c.type_inv.sig j).fits)) a.requires.3 fits c.read.new.hint c.read.new.response e in
     (e, s.0, s.1) in
     let g = got in front-in (c.args.p.k * 512) (replicate 4608 (pos 0)) c.read.new.hint hint-fits g.1
 
@@ -142,7 +142,7 @@ slice_bounds-verify_hash-end-3 c =
     let b = a.args in
     let p = b.p in
     let e = read-yes (drop (8 * (p.kappa / 4)) (bit_string 8 b.sig.now)) (p.k * 512) (p.l * 512) _ _ _ c.read.new.hint c.read.new.response hint-room z-room c.read.ensures c.if-not-read.false in
-    let s = sizes-read p b.vk.now b.msg.now b.sig.now (bytes_of b.sig.now (λ (j : ℕ). (c.type_inv.sig j).fits)) a.requires.3 fits c.read.new.hint c.read.new.response e in
+    let s = sizes-read p b.vk.now b.msg.now b.sig.now (Bytes-low b.sig.now (λ (j : ℕ). (c.type_inv.sig j).fits)) a.requires.3 fits c.read.new.hint c.read.new.response e in
     (e, s.0, s.1) in
     let g = got in front-in (c.args.p.l * 512) (replicate 3584 (pos 0)) c.read.new.response z-fits g.2
 
@@ -160,7 +160,7 @@ verify_hash-requires c =
     let b = a.args in
     let p = b.p in
     let e = read-yes (drop (8 * (p.kappa / 4)) (bit_string 8 b.sig.now)) (p.k * 512) (p.l * 512) _ _ _ c.read.new.hint c.read.new.response hint-room z-room c.read.ensures c.if-not-read.false in
-    let s = sizes-read p b.vk.now b.msg.now b.sig.now (bytes_of b.sig.now (λ (j : ℕ). (c.type_inv.sig j).fits)) a.requires.3 fits c.read.new.hint c.read.new.response e in
+    let s = sizes-read p b.vk.now b.msg.now b.sig.now (Bytes-low b.sig.now (λ (j : ℕ). (c.type_inv.sig j).fits)) a.requires.3 fits c.read.new.hint c.read.new.response e in
     (e, s.0, s.1) in
     -- the parts that are lent on are what was read
     let hint-is : take (c.args.p.k * 512 - 0) (put_mid 0 (c.args.p.k * 512 - 0) (replicate {A = ℤ} 4608 (pos 0)) c.read.new.hint) ≡ c.read.new.hint = front-is (c.args.p.k * 512) (replicate 4608 (pos 0)) c.read.new.hint hint-fits got.1 in
@@ -187,12 +187,12 @@ returns c =
     let b = a.args in
     let p = b.p in
     let e = read-yes (drop (8 * (p.kappa / 4)) (bit_string 8 b.sig.now)) (p.k * 512) (p.l * 512) _ _ _ c.read.new.hint c.read.new.response hint-room z-room c.read.ensures c.if-not-read.false in
-    let s = sizes-read p b.vk.now b.msg.now b.sig.now (bytes_of b.sig.now (λ (j : ℕ). (c.type_inv.sig j).fits)) a.requires.3 fits c.read.new.hint c.read.new.response e in
+    let s = sizes-read p b.vk.now b.msg.now b.sig.now (Bytes-low b.sig.now (λ (j : ℕ). (c.type_inv.sig j).fits)) a.requires.3 fits c.read.new.hint c.read.new.response e in
     (e, s.0, s.1) in
     let read-status : ◌≡◌ {A = ℕ} (first_no (form_checks c.args.p c.args.vk.now c.args.msg.now c.args.sig.now))
     (first_no (field_checks c.args.p c.args.vk.now c.args.msg.now (fields_of (take (c.args.p.kappa / 4) c.args.sig.now) c.read.new.hint c.read.new.response))) = let a = c in
     let b = a.args in
-    status-read b.p b.vk.now b.msg.now b.sig.now (bytes_of b.sig.now (λ (j : ℕ). (c.type_inv.sig j).fits)) a.requires.3 fits c.read.new.hint c.read.new.response got.0 in
+    status-read b.p b.vk.now b.msg.now b.sig.now (Bytes-low b.sig.now (λ (j : ℕ). (c.type_inv.sig j).fits)) a.requires.3 fits c.read.new.hint c.read.new.response got.0 in
     -- the parts that are lent on are what was read
     let hint-is : take (c.args.p.k * 512 - 0) (put_mid 0 (c.args.p.k * 512 - 0) (replicate {A = ℤ} 4608 (pos 0)) c.read.new.hint) ≡ c.read.new.hint = front-is (c.args.p.k * 512) (replicate 4608 (pos 0)) c.read.new.hint hint-fits got.1 in
     let z-is : take (c.args.p.l * 512 - 0) (put_mid 0 (c.args.p.l * 512 - 0) (replicate {A = ℤ} 3584 (pos 0)) c.read.new.response) ≡ c.read.new.response = front-is (c.args.p.l * 512) (replicate 3584 (pos 0)) c.read.new.response z-fits got.2 in
