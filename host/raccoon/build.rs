@@ -1,4 +1,4 @@
-//! Links the proved unit, which `rt lib` in crates/capi writes to its out/.
+//! Links the proved unit, which `rt lib --cpu x86-64` in crates/capi writes to its out/.
 fn main() {
     let dir = std::path::Path::new(env!("CARGO_MANIFEST_DIR")).join("../../crates/capi/out");
     println!("cargo:rustc-link-search=native={}", dir.display());
