@@ -87,7 +87,8 @@ fn statement_quotes_the_theorems() {
 
 /// The number behind a name in what the check printed of a crate, 0 where it is not printed.
 fn printed(log: &str, name: &str) -> usize {
-    let line = log.lines().find(|line| line.starts_with("logic=proved ")).expect("a crate that is proved");
+    // the last such line: those before it are of the libraries below that the check built
+    let line = log.lines().rfind(|line| line.starts_with("logic=proved ")).expect("a crate that is proved");
     line.split(' ').find_map(|word| word.strip_prefix(name)?.strip_prefix('=')).map_or(0, |number| number.parse().unwrap())
 }
 
