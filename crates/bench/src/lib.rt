@@ -3,10 +3,11 @@
 
 ghost use Rattle.std.specs.Prelude.{◌≡◌, ◌++◌, ◌+◌, length, true, false};
 ghost use Rattle.hash.specs.Lists.{pick};
+ghost use Rattle.ring.specs.Checks.{filled};
 ghost use Rattle.ring.specs.Words.{q, all_below};
 ghost use Rattle.ring.specs.Transform.{ntt, mul};
 ghost use Rattle.ring.specs.Uniform.{sample_q};
-ghost use Rattle.ring.specs.UniformSteps.{held_of};
+ghost use Rattle.ring.specs.UniformSteps.{poly_of};
 ghost use Rattle.hash.specs.Keccak.{lane};
 ghost use Rattle.hash.specs.Shake.{zero_state, after, shake256};
 ghost use Rattle.sharing.specs.Encoding.{later};
@@ -21,7 +22,7 @@ pub extern "C" fn bench_permute(n: usize) -> u64
     ensures { result ≡ lane (after n zero_state) 0 0 }
 {
     let mut s = hash::shake::start();
-    for i in 0..n {
+    for _ in 0..n {
         let t = hash::keccak::permute(s);
         s = t;
     }
@@ -78,13 +79,18 @@ pub extern "C" fn bench_product(f: &mut [u64; 512], g: &[u64; 512]) -> bool
 // A uniform polynomial of a header and a seed, or zero where its draws run out.
 #[unsafe(no_mangle)]
 pub extern "C" fn bench_sample_q(header: &[u8; 8], seed: &[u8], out: &mut [u64; 512]) -> bool
-    ensures { (result ≡ (held_of (sample_q header.now seed.now)).ok)
-        × (out.new ≡ (held_of (sample_q header.now seed.now)).poly) }
+    ensures { (result ≡ filled (sample_q header.now seed.now)) × (out.new ≡ poly_of (sample_q header.now seed.now)) }
 {
-    let s = ring::uniform::sample_q(header, seed);
-    let p = s.poly;
-    *out = p;
-    s.ok
+    match ring::uniform::sample_q(header, seed) {
+        Some(f) => {
+            *out = f;
+            true
+        }
+        None => {
+            *out = [0; 512];
+            false
+        }
+    }
 }
 
 // Polynomial number n of a seed's mask generator, from 0 on. Where it or one before it runs dry it is zero, and the answer is false. One call of
@@ -96,7 +102,7 @@ pub extern "C" fn bench_masks(seed: &[u8], n: u32, out: &mut [u64; 512]) -> bool
 {
     let m = n as u64 + 1;
     let mut g = sharing::masks::start(seed);
-    for i in 0..m {
+    for _ in 0..m {
         g = sharing::masks::fill(out, g);
     }
     g.ok

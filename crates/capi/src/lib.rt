@@ -16,6 +16,7 @@ ghost use Rattle.sizes.specs.Lengths.{lengths_call};
 ghost use Rattle.slip.specs.Calls.{read_slip_call, write_slip_call};
 ghost use Rattle.slip.specs.Format.{slip_of};
 
+use hash::refusal::status;
 use signature::sign::Signed;
 use sizes::count::CountedBits;
 use sizes::lengths::SigningLengths;
@@ -35,7 +36,7 @@ pub extern "C" fn raccoon_keygen(
         ≡ keygen_call Edition.Printed set shares seeds.now mask_seed.now key_out.old
         work.old }
 {
-    signature::keygen::keygen(
+    status(signature::keygen::keygen(
         set as u64,
         shares as u64,
         hash::params::Edition::Printed,
@@ -43,7 +44,7 @@ pub extern "C" fn raccoon_keygen(
         mask_seed,
         key_out,
         work,
-    )
+    ))
 }
 
 // The same with the headers of the response files.
@@ -59,7 +60,7 @@ pub extern "C" fn raccoon_kat_keygen(
     ensures { outcome result key_out.new work.new
         ≡ keygen_call Edition.Kat set shares seeds.now mask_seed.now key_out.old work.old }
 {
-    signature::keygen::keygen(
+    status(signature::keygen::keygen(
         set as u64,
         shares as u64,
         hash::params::Edition::Kat,
@@ -67,7 +68,7 @@ pub extern "C" fn raccoon_kat_keygen(
         mask_seed,
         key_out,
         work,
-    )
+    ))
 }
 
 // Expanding a signing key (01: opening): checks 1, 2, 3, 4, 5, 8 and 10.
@@ -82,14 +83,14 @@ pub extern "C" fn raccoon_expand_key(
     ensures { outcome result bytes_out.new words_out.new
         ≡ expand_call Edition.Printed set shares key.now bytes_out.old words_out.old }
 {
-    signature::keys::expand_key(
+    status(signature::keys::expand_key(
         set as u64,
         shares as u64,
         hash::params::Edition::Printed,
         key,
         bytes_out,
         words_out,
-    )
+    ))
 }
 
 // The same for a key of the response files.
@@ -104,14 +105,14 @@ pub extern "C" fn raccoon_kat_expand_key(
     ensures { outcome result bytes_out.new words_out.new
         ≡ expand_call Edition.Kat set shares key.now bytes_out.old words_out.old }
 {
-    signature::keys::expand_key(
+    status(signature::keys::expand_key(
         set as u64,
         shares as u64,
         hash::params::Edition::Kat,
         key,
         bytes_out,
         words_out,
-    )
+    ))
 }
 
 // A new sharing of an expanded key (01: refreshing): checks 1 to 5, 7, 8 and 20.
@@ -129,7 +130,7 @@ pub extern "C" fn raccoon_refresh_key(
         ≡ refresh_call set shares (expanded_in bytes.now words.now) mask_seed.now
         bytes_out.old words_out.old }
 {
-    signature::keys::refresh_key(
+    status(signature::keys::refresh_key(
         set as u64,
         shares as u64,
         bytes,
@@ -137,7 +138,7 @@ pub extern "C" fn raccoon_refresh_key(
         mask_seed,
         bytes_out,
         words_out,
-    )
+    ))
 }
 
 // Signing with a signing key, from noise seeds: checks 1 to 10, 11 and 20 within each attempt, 12. Status and attempts.
@@ -319,7 +320,7 @@ pub extern "C" fn raccoon_verify(
         message,
         signature,
     );
-    verdict
+    status(verdict)
 }
 
 // The same for a signature of the response files.
@@ -332,13 +333,13 @@ pub extern "C" fn raccoon_kat_verify(
 ) -> u32
     ensures { result ≡ verify_call Edition.Kat set public_key.now message.now signature.now }
 {
-    signature::verify::verify(
+    status(signature::verify::verify(
         set as u64,
         hash::params::Edition::Kat,
         public_key,
         message,
         signature,
-    )
+    ))
 }
 
 // The uniform sampler over lent bytes: checks 8 and 10.
@@ -346,7 +347,7 @@ pub extern "C" fn raccoon_kat_verify(
 pub extern "C" fn raccoon_sample_uniform(bytes: &[u8], words_out: &mut [u64]) -> u32
     ensures { (result, words_out.new) ≡ sampled_of bytes.now words_out.old }
 {
-    ring::uniform::sample_uniform(bytes, words_out)
+    status(ring::uniform::sample_uniform(bytes, words_out))
 }
 
 // The challenge sampler over lent bytes: checks 1, 8 and 11.
@@ -358,7 +359,7 @@ pub extern "C" fn raccoon_sample_challenge(
 ) -> u32
     ensures { (result, signed_bytes_out.new) ≡ sampled_challenge set bytes.now signed_bytes_out.old }
 {
-    signature::challenge::sample_challenge(set as u64, bytes, signed_bytes_out)
+    status(signature::challenge::sample_challenge(set as u64, bytes, signed_bytes_out))
 }
 
 // What a signing call takes (02, #103): checks 1, 2 and 6. Status, bytes of noise seeds and mask seeds, words of the work buffer.
@@ -398,5 +399,5 @@ pub extern "C" fn raccoon_write_slip(
     ensures { (result, slip_out.new)
         ≡ write_slip_call (slip_of movement track text.now signature.now) slip_out.old }
 {
-    slip::write::write_slip(movement, track, text, signature, slip_out)
+    status(slip::write::write_slip(movement, track, text, signature, slip_out))
 }

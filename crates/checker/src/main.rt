@@ -5,8 +5,8 @@
 ghost use Rattle.std.specs.Prelude.{◌≡◌, IfOk, IfSome};
 ghost use Rattle.checker.specs.Input.{checked_of};
 
-use hash::num::least;
 use hash::params::Edition;
+use hash::refusal::status;
 use input::read_full;
 use signature::verify::verify;
 use std::io;
@@ -16,15 +16,15 @@ use std::io::Read;
 fn check(input: &[u8]) -> u32
     ensures { result ≡ checked_of input.now }
 {
-    let k = least(2256, input.len());
-    let m = least(13780, input.len());
-    verify(
+    let k = input.len().min(2256);
+    let m = input.len().min(13780);
+    status(verify(
         128,
         Edition::Printed,
         &input[0..k],
         &input[m..],
         &input[k..m],
-    )
+    ))
 }
 
 // The status of all that the reader gives.

@@ -104,6 +104,14 @@ byte_of_lane A k j b h =
     let m : (8 * k + j) % 8 ≡ j = omega arith in
     rw (d, m)
 
+-- the first and the last byte of the padding in one place
+pub padding-twice : (A : State) → xor_byte (xor_byte A 135 0x1f) 135 0x80 ≡ xor_byte A 135 0x9f
+padding-twice A =
+    byte_of_lane (xor_byte A 135 0x1f) 16 7 0x80 (lit< tt)
+    ∙ ap (λ (S : State). xor_lane S 16 (0x80 * 2 ^ 56)) (byte_of_lane A 16 7 0x1f (lit< tt))
+    ∙ xor-twice A 16 (0x1f * 2 ^ 56) (0x80 * 2 ^ 56)
+    ∙ sym (byte_of_lane A 16 7 0x9f (lit< tt))
+
 -- ---- the eight bytes from i on, absorbed at a place n that begins a lane
 
 last-lane : (k : ℕ) → eqb (8 * k + 7) 135 ≡ eqb k 16

@@ -1,4 +1,3 @@
-pub mod Alone
 pub mod Computed
 pub mod Flat
 pub mod Laid
@@ -14,3 +13,5 @@ pub mod Sponge
 pub mod Table
 pub mod Word
 pub mod Worked
+pub mod Refusals
+pub mod Others

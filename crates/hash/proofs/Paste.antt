@@ -1,12 +1,11 @@
 -- Values laid into a list from a place on, one by one and in runs.
 use mathlib.Core.Path.{◌≡◌, refl, ap, sym, ◌∙◌}
-use mathlib.Core.List.{List, ◌∷◌, ◌++◌, append_assoc, append-nil}
+use mathlib.Core.List.{List, ◌++◌, append_assoc, append-nil}
 use Prim.Native.Nat.{ℕ, zero, suc, ◌+◌, ◌≤◌, ◌<◌}
 use native.Mathlib.Nat.{add-zero, add-suc, add_assoc}
-use native.Mathlib.Numerals.{add-one}
 use native.Mathlib.Omega.{arith}
-use lib.ListN.{length, take, drop, set, get_or, length-append, take-append-drop}
-use lib.Seq.{drop-cons, set_at, take_at, drop-append-add, drop-drop, length-take-le}
+use lib.ListN.{length, take, drop, length-append, take-append-drop}
+use lib.Seq.{take_at, drop-append-add, drop-drop, length-take-le}
 use Rattle.hash.proofs.Table.{length-table}
 use Rattle.hash.specs.Lists.{table}
 use Rattle.hash.specs.ShakeSteps.{pasted}
@@ -29,20 +28,6 @@ module _ (f : ℕ → ℕ) (l : List ℕ) (at : ℕ) where
   pub pasted-none : l ≡ pasted f l at 0
   unfolding table
   pasted-none = rw (add-zero, take-append-drop)
-
-  pub pasted-one : (n : ℕ) → at + n < length l → set (pasted f l at n) (at + n) (f n) ≡ pasted f l at (n + 1)
-  unfolding table
-  pasted-one n h =
-      let k : at + n ≤ length l = omega arith in
-      rw (
-        add-one,
-        add-suc,
-        drop-cons l (at + n) 0 h,
-        ← append_assoc (take at l) (table f n) (get_or l (at + n) 0 ∷ drop (suc (at + n)) l),
-        set_at (take at l ++ table f n) (get_or l (at + n) 0) (drop (suc (at + n)) l) (f n) (at + n) (front n k),
-        append_assoc,
-        append_assoc,
-      )
 
   pub pasted-two : (g : ℕ → ℕ) (n m : ℕ) → at + n + m ≤ length l → ((j : ℕ) → j < m → g j ≡ f (n + j))
       → pasted g (pasted f l at n) (at + n) m ≡ pasted f l at (n + m)

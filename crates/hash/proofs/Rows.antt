@@ -11,7 +11,8 @@ use lib.ListN.{get_or}
 use Rattle.hash.specs.Lists.{pick}
 use Rattle.hash.specs.declared.params.Edition.{Edition}
 use Rattle.hash.specs.declared.params.Params.{Params}
-use Rattle.hash.specs.declared.params.Selected.{Selected}
+use Rattle.std.specs.Prelude.{Result, Ok, Err}
+use Rattle.hash.specs.declared.params.Unknown.{Unknown}
 use Rattle.hash.specs.Params.{rows, set_index, order_index, ShareCount, row_at, params_of, lookup_of}
 use Rattle.hash.proofs.Computed.{below, at, all_of, pass}
 
@@ -210,24 +211,24 @@ pub record Row (set d : ℕ) (e : Edition) (p : Params) : Type 0 where
   pub power : d ≡ 2 ^ order_index d
   pub rule : Rule p
 
-past : (p : Params) (b : Bool) (n x : Selected) → (n ≡ Selected.Found p → ⊥) → pick b n x ≡ Selected.Found p → (b ≡ false) × (x ≡ Selected.Found p)
+past : (p : Params) (b : Bool) (n x : Result Params Unknown) → (n ≡ Ok p → ⊥) → pick b n x ≡ Ok p → (b ≡ false) × (x ≡ Ok p)
 past p true n x h e = absurd (h e)
 past p false n x h e = (refl, e)
 
-no-set : (p : Params) → Selected.NoSet ≡ Selected.Found p → ⊥
+no-set : (p : Params) → (Err Unknown.Set) ≡ Ok p → ⊥
 no-set p e = let z : ◌≡◌ {A = ℕ} 0 1 = cc in omega arith
 
-no-shares : (p : Params) → Selected.NoShares ≡ Selected.Found p → ⊥
+no-shares : (p : Params) → (Err Unknown.Shares) ≡ Ok p → ⊥
 no-shares p e = let z : ◌≡◌ {A = ℕ} 0 1 = cc in omega arith
 
-pub found : (set d : ℕ) (e : Edition) (p : Params) → lookup_of set d e ≡ Selected.Found p → Row set d e p
+pub found : (set d : ℕ) (e : Edition) (p : Params) → lookup_of set d e ≡ Ok p → Row set d e p
 unfolding lookup_of
 found set d e p h =
     let s = set_index set in
     let o = order_index d in
     let r = params_of (row_at (6 * set_index set + order_index d)) e in
-    let a = past p (eqb (set_index set) 3) Selected.NoSet (pick (eqb (order_index d) 6) Selected.NoShares (Selected.Found r)) (no-set p) h in
-    let b = past p (eqb (order_index d) 6) Selected.NoShares (Selected.Found r) (no-shares p) a.1 in
+    let a = past p (eqb (set_index set) 3) (Err Unknown.Set) (pick (eqb (order_index d) 6) (Err Unknown.Shares) (Ok r)) (no-set p) h in
+    let b = past p (eqb (order_index d) 6) (Err Unknown.Shares) (Ok r) (no-shares p) a.1 in
     let ns : set_index set ≡ 3 → ⊥ = eqb-false (set_index set) 3 a.0 in
     let no : order_index d ≡ 6 → ⊥ = eqb-false (order_index d) 6 b.0 in
     let ls : set_index set < 3 = omega (arith, set-le set, ns) in

@@ -12,7 +12,8 @@ use Rattle.hash.specs.Lists.{pick}
 use Rattle.hash.specs.Params.{rows, set_index, order_index, ShareCount, row_at, params_of, lookup_of}
 use Rattle.hash.specs.declared.params.Edition.{Edition}
 use Rattle.hash.specs.declared.params.Params.{Params}
-use Rattle.hash.specs.declared.params.Selected.{Selected}
+use Rattle.std.specs.Prelude.{Ok, Err}
+use Rattle.hash.specs.declared.params.Unknown.{Unknown}
 use Rattle.hash.proofs.Computed.{below, at, all_of, pass}
 use Rattle.hash.proofs.Rows.{set-le, order_le, count-order, order-count}
 
@@ -86,14 +87,14 @@ pub record OfSet (set d : ℕ) (e : Edition) (p : Params) : Type 0 where
   pub count : ShareCount d
   pub first-row : set_of p ≡ set_of (params_of (row_at (6 * set_index set)) e)
 
-pub found-set : (set d : ℕ) (e : Edition) (p : Params) → lookup_of set d e ≡ Selected.Found p → OfSet set d e p
+pub found-set : (set d : ℕ) (e : Edition) (p : Params) → lookup_of set d e ≡ Ok p → OfSet set d e p
 unfolding lookup_of
 found-set set d e p h =
     let g = go (eqb (set_index set) 3) (eqb (order_index d) 6) (eqb-false (set_index set) 3) (eqb-false (order_index d) 6) h in
     record { known = g.0; count = order-count d g.1.0; first-row = g.1.1 }
   where
     go : (a b : Bool) → (a ≡ false → set_index set ≡ 3 → ⊥) → (b ≡ false → order_index d ≡ 6 → ⊥)
-        → pick a Selected.NoSet (pick b Selected.NoShares (Selected.Found (params_of (row_at (6 * set_index set + order_index d)) e))) ≡ Selected.Found p
+        → pick a (Err Unknown.Set) (pick b (Err Unknown.Shares) (Ok (params_of (row_at (6 * set_index set + order_index d)) e))) ≡ Ok p
         → (a ≡ false) × ((order_index d < 6) × (set_of p ≡ set_of (params_of (row_at (6 * set_index set)) e)))
     go true b f g x = let z : ◌≡◌ {A = ℕ} 0 1 = cc in absurd (omega arith)
     go false true f g x = let z : ◌≡◌ {A = ℕ} 0 1 = cc in absurd (omega arith)
@@ -105,26 +106,26 @@ found-set set d e p h =
 
 -- what a look_up with one of the six share counts gives: 1 where the set is unknown, whatever the count
 pub look_up : (set d : ℕ) (e : Edition) → ShareCount d
-    → lookup_of set d e ≡ pick (eqb (set_index set) 3) Selected.NoSet (Selected.Found (params_of (row_at (6 * set_index set + order_index d)) e))
+    → lookup_of set d e ≡ pick (eqb (set_index set) 3) (Err Unknown.Set) (Ok (params_of (row_at (6 * set_index set + order_index d)) e))
 unfolding lookup_of
 look_up set d e c = go (eqb (order_index d) 6) (eqb-true (order_index d) 6)
   where
     go : (b : Bool) → (b ≡ true → order_index d ≡ 6)
-        → pick (eqb (set_index set) 3) Selected.NoSet (pick b Selected.NoShares (Selected.Found (params_of (row_at (6 * set_index set + order_index d)) e)))
-        ≡ pick (eqb (set_index set) 3) Selected.NoSet (Selected.Found (params_of (row_at (6 * set_index set + order_index d)) e))
+        → pick (eqb (set_index set) 3) (Err Unknown.Set) (pick b (Err Unknown.Shares) (Ok (params_of (row_at (6 * set_index set + order_index d)) e)))
+        ≡ pick (eqb (set_index set) 3) (Err Unknown.Set) (Ok (params_of (row_at (6 * set_index set + order_index d)) e))
     go true f = let z = f refl in absurd (omega (arith, count-order d c))
     go false f = refl
 
 -- a set that is found with one share count is found with each of the six
 pub record Beside (set b : ℕ) (e : Edition) (p : Params) : Type 0 where
   pub other : Params
-  pub is : lookup_of set b e ≡ Selected.Found other
+  pub is : lookup_of set b e ≡ Ok other
   pub same : set_of p ≡ set_of other
 
-pub beside : (set d b : ℕ) (e : Edition) (p : Params) → lookup_of set d e ≡ Selected.Found p → ShareCount b → Beside set b e p
+pub beside : (set d b : ℕ) (e : Edition) (p : Params) → lookup_of set d e ≡ Ok p → ShareCount b → Beside set b e p
 beside set d b e p h c =
     let a = found-set set d e p h in
     let r : Params = params_of (row_at (6 * set_index set + order_index b)) e in
-    let i : lookup_of set b e ≡ Selected.Found (params_of (row_at (6 * set_index set + order_index b)) e) =
-    look_up set b e c ∙ ap (λ (t : Bool). pick t Selected.NoSet (Selected.Found (params_of (row_at (6 * set_index set + order_index b)) e))) a.known in
+    let i : lookup_of set b e ≡ Ok (params_of (row_at (6 * set_index set + order_index b)) e) =
+    look_up set b e c ∙ ap (λ (t : Bool). pick t (Err Unknown.Set) (Ok (params_of (row_at (6 * set_index set + order_index b)) e))) a.known in
     record { other = r; is = i; same = a.first-row ∙ sym (found-set set b e r i).first-row }

@@ -1,5 +1,6 @@
 pub mod Lists
 pub mod Params
+pub mod Refusal
 pub mod Keccak
 pub mod Moves
 pub mod Shake

@@ -1,5 +1,5 @@
--- Lists by a rule, and a choice by a test.
-use Rattle.std.specs.Prelude.{Bool, true, false, List, [], ◌∷◌, ◌++◌, ℕ, zero, suc, ◌<◌, replicate}
+-- Lists by a rule, and choices by a test.
+use Rattle.std.specs.Prelude.{Bool, true, false, List, [], ◌∷◌, ◌++◌, ℕ, zero, suc, ◌<◌, replicate, eqb, Option, None, Some}
 
 -- f 0, f 1, .., f (n - 1)
 unfoldable pub table : (ℕ → ℕ) → ℕ → List ℕ
@@ -19,3 +19,7 @@ Bytes (x ∷ xs) = (x < 256) × Bytes xs
 abbrev pub pick {ℓ} : {A : Type ℓ} → Bool → A → A → A
 pick true a b = a
 pick false a b = b
+
+-- i, but where it is n, which stands for none
+abbrev pub other_than : ℕ → ℕ → Option ℕ
+other_than n i = pick (eqb i n) None (Some i)

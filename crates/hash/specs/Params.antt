@@ -1,9 +1,10 @@
 -- The parameter table: Tables 2 to 4 of paper 000, a row for each set and order.
-use Rattle.std.specs.Prelude.{◌≡◌, List, [], ◌∷◌, ◌⊎◌, ℕ, ◌+◌, ◌*◌, eqb, get_or}
+use Rattle.std.specs.Prelude.{◌≡◌, List, [], ◌∷◌, ◌⊎◌, ℕ, ◌+◌, ◌*◌, eqb, get_or, Result, Ok, Err}
 use Rattle.hash.specs.Lists.{pick}
 use Rattle.hash.specs.declared.params.Edition.{Edition}
 use Rattle.hash.specs.declared.params.Params.{Params}
-use Rattle.hash.specs.declared.params.Selected.{Selected}
+use Rattle.hash.specs.declared.params.Unknown.{Unknown}
+use Rattle.hash.specs.declared.refusal.Refusal.{Refusal}
 
 -- The columns: kappa, d, k, l, omega, 2^-64 B_2^2, B_inf, hint limit (B_inf / 2^44 to the nearest), bytes of vk, sk and sig, rep, u_t, u_w.
 unfoldable pub rows : List (List ℕ)
@@ -64,8 +65,13 @@ params_of r e =
     }
 
 -- the record of a set and a share count, or which of the two is wrong, the set first
-unfoldable pub lookup_of : ℕ → ℕ → Edition → Selected
+unfoldable pub lookup_of : ℕ → ℕ → Edition → Result Params Unknown
 lookup_of set d e =
     pick (eqb (set_index set) 3)
-    Selected.NoSet
-    (pick (eqb (order_index d) 6) Selected.NoShares (Selected.Found (params_of (row_at (6 * set_index set + order_index d)) e)))
+    (Err Unknown.Set)
+    (pick (eqb (order_index d) 6) (Err Unknown.Shares) (Ok (params_of (row_at (6 * set_index set + order_index d)) e)))
+
+-- checks 1 and 2
+abbrev pub refusal_of : Unknown → Refusal
+refusal_of Unknown.Set = Refusal.BadSet
+refusal_of Unknown.Shares = Refusal.BadShareCount

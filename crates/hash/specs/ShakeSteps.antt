@@ -1,7 +1,6 @@
 -- Steps (what the code leaves on its way; no call's contract reaches these): SHAKE256 by words of eight bytes, the low byte first.
-use Rattle.std.specs.Prelude.{ℕ, ◌+◌, ◌/◌, ◌%◌, ◌^◌, List, [], ◌∷◌, ◌++◌, take, drop}
+use Rattle.std.specs.Prelude.{ℕ, ◌+◌, ◌/◌, ◌%◌, List, ◌++◌, take, drop}
 use Rattle.std.specs.Int.Bits.{bit_xor}
-use Rattle.hash.specs.Endian.{lane_at}
 use Rattle.hash.specs.Keccak.{State, lane, set_lane}
 use Rattle.hash.specs.Lists.{table}
 
@@ -12,11 +11,3 @@ pasted f l at n = take at l ++ (table f n ++ drop (at + n) l)
 -- the state with x xored into lane k
 unfoldable pub xor_lane : State → ℕ → ℕ → State
 xor_lane A k x = set_lane A (k % 5) (k / 5) (bit_xor (lane A (k % 5) (k / 5)) x)
-
--- the 17 lanes of the rate
-unfoldable pub rate_lanes : State → List ℕ
-rate_lanes A = table (lane_at A) 17
-
--- a block of at most six lanes, with the padding's last bit, alone in the state
-unfoldable pub alone : List ℕ → ℕ → State
-alone p q = p ∷ (q ∷ 0 ∷ 0 ∷ 0 ∷ 0 ∷ []) ∷ (0 ∷ 0 ∷ 0 ∷ 0 ∷ 0 ∷ []) ∷ (0 ∷ 2 ^ 63 ∷ 0 ∷ 0 ∷ 0 ∷ []) ∷ (0 ∷ 0 ∷ 0 ∷ 0 ∷ 0 ∷ []) ∷ []

@@ -4,11 +4,10 @@ ghost use Rattle.hash.specs.Keccak.{State, lane, rotl, theta, chi, rho, pi, iota
 ghost use Rattle.hash.specs.Moves.{ahead, move_numbers, move_lane, Moving};
 
 // A lane rotated by n places toward the high end, n taken modulo 64.
-fn rotl(x: u64, n: u64) -> u64
+fn rotl(x: u64, n: u32) -> u64
     ensures { result ≡ rotl x n }
 {
-    let k = n % 64;
-    x << k | x >> 1 >> (63 - k)
+    x.rotate_left(n)
 }
 
 // Two planes, lane by lane.
@@ -88,7 +87,7 @@ fn theta(a: [[u64; 5]; 5]) -> [[u64; 5]; 5]
 }
 
 // 3.2.2, table 2, modulo 64: row y has the offsets of the lanes (0, y) to (4, y).
-const OFFSETS: [[u64; 5]; 5] = [
+const OFFSETS: [[u32; 5]; 5] = [
     [0, 1, 62, 28, 27],
     [36, 44, 6, 55, 20],
     [3, 10, 43, 25, 39],
@@ -152,7 +151,7 @@ fn iota(a: [[u64; 5]; 5], rc: u64) -> [[u64; 5]; 5]
     ensures { result ≡ iota rc a }
 {
     let mut b = a;
-    b[0][0] = b[0][0] ^ rc;
+    b[0][0] ^= rc;
     b
 }
 

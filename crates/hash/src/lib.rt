@@ -3,6 +3,6 @@
 
 pub mod endian;
 pub mod keccak;
-pub mod num;
 pub mod params;
+pub mod refusal;
 pub mod shake;

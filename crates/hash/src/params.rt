@@ -1,6 +1,9 @@
 // The parameter table: the three sets and six orders of Tables 2 to 4 of paper 000.
 ghost use Rattle.std.specs.Prelude.{◌≡◌, ◌<◌};
-ghost use Rattle.hash.specs.Params.{set_index, order_index, row_at, params_of, lookup_of};
+ghost use Rattle.hash.specs.Lists.{other_than};
+ghost use Rattle.hash.specs.Params.{set_index, order_index, row_at, params_of, lookup_of, refusal_of};
+
+use crate::refusal::Refusal;
 
 // Which text of Algorithms 9, 10, 14 and 15 a call follows: the printed one, or the one that gives the submission's response files.
 #[derive(Clone, Copy)]
@@ -29,12 +32,22 @@ pub struct Params {
     pub edition: Edition,
 }
 
-// The answer of the look-up: the record, or which of the two numbers is wrong (checks 1 and 2).
-#[derive(Clone, Copy)]
-pub enum Selected {
-    Found(Params),
-    NoSet,
-    NoShares,
+// Which of a look-up's two numbers is in no column (checks 1 and 2).
+#[derive(Clone, Copy, Debug, PartialEq, Eq)]
+pub enum Unknown {
+    Set,
+    Shares,
+}
+
+impl From<Unknown> for Refusal {
+    ghost from_gives = { λ unknown refusal. refusal ≡ refusal_of unknown };
+
+    fn from(unknown: Unknown) -> Refusal {
+        match unknown {
+            Unknown::Set => Refusal::BadSet,
+            Unknown::Shares => Refusal::BadShareCount,
+        }
+    }
 }
 
 // Columns: kappa, d, k, l, omega, 2^-64 B_2^2, B_inf, hint limit, bytes of vk, sk and sig, rep, u_t, u_w.
@@ -329,39 +342,30 @@ const ROWS: [[u64; 14]; 18] = [
     ],
 ];
 
-// The set's place in the table, or 3.
-fn set_index(set: u64) -> usize
-    ensures { result ≡ set_index set }
+// The set's place in the table.
+fn set_index(set: u64) -> Option<usize>
+    ensures { result ≡ other_than 3 (set_index set) }
 {
-    if set == 128 {
-        0
-    } else if set == 192 {
-        1
-    } else if set == 256 {
-        2
-    } else {
-        3
+    match set {
+        128 => Some(0),
+        192 => Some(1),
+        256 => Some(2),
+        _ => None,
     }
 }
 
-// The share count's place among the six, or 6.
-fn order_index(shares: u64) -> usize
-    ensures { result ≡ order_index shares }
+// The share count's place among the six.
+fn order_index(shares: u64) -> Option<usize>
+    ensures { result ≡ other_than 6 (order_index shares) }
 {
-    if shares == 1 {
-        0
-    } else if shares == 2 {
-        1
-    } else if shares == 4 {
-        2
-    } else if shares == 8 {
-        3
-    } else if shares == 16 {
-        4
-    } else if shares == 32 {
-        5
-    } else {
-        6
+    match shares {
+        1 => Some(0),
+        2 => Some(1),
+        4 => Some(2),
+        8 => Some(3),
+        16 => Some(4),
+        32 => Some(5),
+        _ => None,
     }
 }
 
@@ -391,21 +395,16 @@ fn params_of(r: [u64; 14], edition: Edition) -> Params
         rep: r[11] as usize,
         ut: r[12] as usize,
         uw: r[13] as usize,
-        edition: edition,
+        edition,
     }
 }
 
 // The record of a set and a share count. Every call begins here.
-pub fn lookup(set: u64, shares: u64, edition: Edition) -> Selected
+#[tactic(auto, unfolding(crate::specs::Params::lookup_of))]
+pub fn lookup(set: u64, shares: u64, edition: Edition) -> Result<Params, Unknown>
     ensures { result ≡ lookup_of set shares edition }
 {
-    let s = set_index(set);
-    if s == 3 {
-        return Selected::NoSet;
-    }
-    let o = order_index(shares);
-    if o == 6 {
-        return Selected::NoShares;
-    }
-    Selected::Found(params_of(row_at(6 * s + o), edition))
+    let s = set_index(set).ok_or(Unknown::Set)?;
+    let o = order_index(shares).ok_or(Unknown::Shares)?;
+    Ok(params_of(row_at(6 * s + o), edition))
 }

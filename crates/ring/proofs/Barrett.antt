@@ -1,9 +1,9 @@
 -- Barrett's reduction of t below 32 p^2: the quotient of t by p from a factor near 2^55 / p, and what it leaves.
 use mathlib.Core.Path.{◌≡◌, ap, sym, subst}
-use mathlib.Core.Bool.{Bool, true, false}
 use Prim.Native.Nat.{ℕ, suc, ◌+◌, ◌*◌, ◌-◌, ◌%◌, ◌/◌, ◌^◌, ◌<◌, ◌≤◌}
 use native.Mathlib.Nat.{le_refl, mul-le-mul}
 use native.Mathlib.Omega.{arith}
+use Rattle.ring.specs.declared.prime.Prime.{Prime}
 use Rattle.ring.specs.Words.{q}
 use Rattle.ring.specs.Residue.{prime}
 use Rattle.ring.specs.Loose.{Loose}
@@ -15,9 +15,9 @@ pub record Serves (p f : ℕ) : Type 0 where
   pub under : f * p ≤ 2 ^ 55
   pub near : 32 * (p * p) / 8388608 * (2 ^ 55 - f * p) + 2 ^ 55 ≤ 4294967296 * p
 
-pub serves : (s b : Bool) (f : ℕ) → s ≡ b → f < 4294967296 → f * prime b ≤ 2 ^ 55
+pub serves : (s b : Prime) (f : ℕ) → s ≡ b → f < 4294967296 → f * prime b ≤ 2 ^ 55
     → 32 * (prime b * prime b) / 8388608 * (2 ^ 55 - f * prime b) + 2 ^ 55 ≤ 4294967296 * prime b → Serves (prime s) f
-serves s b f e h g k = subst (λ (x : Bool). Serves (prime x) f) (sym e) (record { small = h; under = g; near = k })
+serves s b f e h g k = subst (λ (x : Prime). Serves (prime x) f) (sym e) (record { small = h; under = g; near = k })
 
 -- ---- what fits
 
@@ -27,23 +27,13 @@ product-low p a b ha hb = omega (arith, mul-le-mul ha hb)
 pub wide_low : (p w y : ℕ) → w < p → y < 32 * p → w * y < 32 * (p * p)
 wide_low p w y hw hy = omega (arith, mul-le-mul hw hy)
 
-pub word_low : (s : Bool) (t : ℕ) → t < q → t < 32 * (prime s * prime s)
-word_low false t h = omega arith
-word_low true t h = omega arith
+pub word_low : (s : Prime) (t : ℕ) → t < q → t < 32 * (prime s * prime s)
+word_low Prime.First t h = omega arith
+word_low Prime.Second t h = omega arith
 
-pub wide_fits : (s : Bool) (t : ℕ) → t < 32 * (prime s * prime s) → t < 2 ^ 64
-wide_fits false t h = omega arith
-wide_fits true t h = omega arith
-
-pub shifted-low : (s : Bool) (t : ℕ) → t < 32 * (prime s * prime s) → t / 8388608 < 4294967296
-shifted-low false t h = omega arith
-shifted-low true t h = omega arith
-
-pub factor-fits : (u f : ℕ) → u < 4294967296 → f < 4294967296 → u * f < 2 ^ 64
-factor-fits u f h g =
-    let a : u ≤ 4294967295 = omega arith in
-    let b : f ≤ 4294967295 = omega arith in
-    omega (arith, mul-le-mul a b)
+pub wide_fits : (s : Prime) (t : ℕ) → t < 32 * (prime s * prime s) → t < 2 ^ 64
+wide_fits Prime.First t h = omega arith
+wide_fits Prime.Second t h = omega arith
 
 -- ---- the quotient, u being t / 2^23
 

@@ -1,6 +1,5 @@
 -- A block of the transform, in place: both halves one after the other, by a function that calls itself or on eight entries; and the last block, of four.
 use mathlib.Core.Path.{◌≡◌, refl, ap, sym, ◌∙◌, subst}
-use mathlib.Core.Bool.{Bool}
 use mathlib.Core.List.{List, [], ◌∷◌, ◌++◌, append-nil}
 use Prim.Native.Nat.{ℕ, suc, ◌+◌, ◌*◌, ◌-◌, ◌/◌, ◌%◌, ◌^◌, ◌<◌, ◌≤◌}
 use native.Mathlib.Nat.{mul-le-mul_left}
@@ -10,6 +9,7 @@ use lib.Dec.{lit≤}
 use lib.ListN.{length, take, drop, get_or, set, length-append, length-drop, drop_of_length-le}
 use lib.Seq.{take_at, drop_at, length-take-le, take_all}
 use borrow.Rule.Slice.PartMut.{put_mid, same_len_mid}
+use Rattle.ring.specs.declared.prime.Prime.{Prime}
 use Rattle.ring.specs.Words.{Below, Residues}
 use Rattle.ring.specs.Poly.{map_n, map2}
 use Rattle.ring.specs.Residue.{prime, zeta, over512, up, down, join, part, halves, fwd, bwd, scale, mods, back_one}
@@ -117,12 +117,6 @@ module _ {m d k h : ℕ} {A : List ℕ} (v : InHalves m d k h A) where
           subst (Block n (d - 1) (2 * k + 1)) (sym (second_is h S X long-s lx)) (last_block n low)
 
       module _ (Y : List ℕ) where
-        pub both-kept : length Y ≡ length (second h (X ++ drop h S))
-            → length (laid h (X ++ drop h S) Y) ≡ length A
-        both-kept e =
-            same_len_mid h (length (X ++ drop h S) - h) (X ++ drop h S) Y e
-            ∙ after_first ∙ sym long-half
-
         -- told by rests: both halves are loose, and so is the whole
         module _ (p w : ℕ) (g : ℕ → ℕ) (s : Stepped p (halves (up p w) (down p w) h) g A S) where
           abbrev ups : List ℕ
@@ -327,7 +321,7 @@ module _ (p : ℕ) (z : ℕ → ℕ) (k : ℕ) (A : List ℕ) (e : length A ≡ 
 
 -- ---- the whole, from rests of a list of 512 below two primes
 
-module _ (s : Bool) (A X : List ℕ) (h : LooseList (prime s) 2 (mods (prime s) A) X) where
+module _ (s : Prime) (A X : List ℕ) (h : LooseList (prime s) 2 (mods (prime s) A) X) where
   pub top-block : length X ≡ 512 → Block (forth_range 9 * prime s) 9 1 X
   top-block e = record { long = e; inside = lit≤ tt; low = h.low }
 
@@ -341,7 +335,7 @@ module _ (s : Bool) (A X : List ℕ) (h : LooseList (prime s) 2 (mods (prime s) 
 
 -- .. and from the least ones
 
-module _ (s : Bool) (A X : List ℕ) (e : length A ≡ 512) (e_x : X ≡ mods (prime s) A) where
+module _ (s : Prime) (A X : List ℕ) (e : length A ≡ 512) (e_x : X ≡ mods (prime s) A) where
   are-residues : Residues (prime s) 512 X
   are-residues = subst (Residues (prime s) 512) (sym e_x) (residues-mods (prime-pos s) A e)
 

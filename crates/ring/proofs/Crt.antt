@@ -1,6 +1,5 @@
 -- A number below q is known by its rests modulo the two primes: 520194 * 16515073 = 1 + 258049 * 33292289. So are lists, and products of polynomials.
 use mathlib.Core.Path.{◌≡◌, refl, ap, sym, ◌∙◌}
-use mathlib.Core.Bool.{Bool, true, false}
 use mathlib.Core.List.{List, [], ◌∷◌}
 use Prim.Native.Nat.{ℕ, zero, suc, ◌+◌, ◌*◌, ◌-◌, ◌%◌, ◌/◌, ◌<◌}
 use native.Mathlib.Nat.{mod-lt, mod-eq_of_lt}
@@ -8,6 +7,7 @@ use native.Mathlib.Omega.{arith}
 use lib.Dec.{lit<}
 use lib.ListN.{length}
 use Rattle.hash.specs.Lists.{zeros}
+use Rattle.ring.specs.declared.prime.Prime.{Prime}
 use Rattle.ring.specs.Words.{q, Below}
 use Rattle.ring.specs.Poly.{map_n, map2, neg, last_of, shift, mulx, prod}
 use Rattle.ring.specs.Residue.{prime, mods, timesp, crt_of}
@@ -18,16 +18,16 @@ use Rattle.ring.proofs.Tables.{prime-pos}
 -- ---- one number
 
 -- q is the one prime times the other
-abbrev other : Bool → ℕ
-other false = 33292289
-other true = 16515073
+abbrev other : Prime → ℕ
+other Prime.First = 33292289
+other Prime.Second = 16515073
 
-q-is : (s : Bool) → q ≡ other s * prime s
-q-is false = refl
-q-is true = refl
+q-is : (s : Prime) → q ≡ other s * prime s
+q-is Prime.First = refl
+q-is Prime.Second = refl
 
 -- what is congruent modulo q is congruent modulo each prime
-pub each-prime : (s : Bool) {x y : ℕ} → Eqv q x y → Eqv (prime s) x y
+pub each-prime : (s : Prime) {x y : ℕ} → Eqv q x y → Eqv (prime s) x y
 each-prime s h = coarser (prime s) q (other s) (q-is s) h
 
 both-moduli : (m n u v : ℕ) → u * m ≡ 1 + v * n → {x y : ℕ} → Eqv m x y → Eqv n x y → Eqv (m * n) x y
@@ -48,7 +48,7 @@ crt-two : (a b : ℕ) → b < 16515073 → Eqv 33292289 (crt_of a b) a
 crt-two a b h = ≈by (16515073 * (((a + (33292289 - b)) * 520194) / 33292289)) (1 + 258049 * (a + (33292289 - b))) (omega arith)
 
 crt-low : (a b : ℕ) → b < 16515073 → crt_of a b < q
-crt-low a b h = omega (arith, mod-lt ((a + (33292289 - b)) * 520194) (prime-pos true))
+crt-low a b h = omega (arith, mod-lt ((a + (33292289 - b)) * 520194) (prime-pos Prime.Second))
 
 -- the number below q with the rests of x
 pub crt-is : (x a b : ℕ) → b < 16515073 → Eqv 33292289 a x → Eqv 16515073 b x → crt_of a b ≡ x % q
@@ -79,35 +79,35 @@ map2-rests (x ∷ xs) [] = refl
 map2-rests (x ∷ xs) (y ∷ ys) = ap (λ (l : List ℕ). crt_of (x % 33292289) (y % 16515073) ∷ l) (map2-rests xs ys)
 
 -- a list below q from its rests
-pub crt-mods : (xs : List ℕ) → Below q xs → map2 crt_of (mods (prime true) xs) (mods (prime false) xs) ≡ xs
+pub crt-mods : (xs : List ℕ) → Below q xs → map2 crt_of (mods (prime Prime.Second) xs) (mods (prime Prime.First) xs) ≡ xs
 unfolding map_n
 crt-mods [] l = refl
 crt-mods (x ∷ xs) l =
     cc (
-      crt-is x (x % 33292289) (x % 16515073) (mod-lt x (prime-pos false)) (≈mod x) (≈mod x),
+      crt-is x (x % 33292289) (x % 16515073) (mod-lt x (prime-pos Prime.First)) (≈mod x) (≈mod x),
       mod-eq_of_lt l.0,
       crt-mods xs l.1,
     )
 
-pub lists-by-rests : (xs ys : List ℕ) → Below q xs → Below q ys → ((s : Bool) → mods (prime s) xs ≡ mods (prime s) ys) → xs ≡ ys
-lists-by-rests xs ys hx hy e = sym (crt-mods xs hx) ∙ maps crt_of (e true) (e false) ∙ crt-mods ys hy
+pub lists-by-rests : (xs ys : List ℕ) → Below q xs → Below q ys → ((s : Prime) → mods (prime s) xs ≡ mods (prime s) ys) → xs ≡ ys
+lists-by-rests xs ys hx hy e = sym (crt-mods xs hx) ∙ maps crt_of (e Prime.Second) (e Prime.First) ∙ crt-mods ys hy
 
 -- the rests of a list made of its rests
-pub mods-crt-false : (xs ys : List ℕ) → length xs ≡ length ys → Below 16515073 ys → mods (prime false) (map2 crt_of xs ys) ≡ ys
+pub mods-crt-first : (xs ys : List ℕ) → length xs ≡ length ys → Below 16515073 ys → mods (prime Prime.First) (map2 crt_of xs ys) ≡ ys
 unfolding map_n
-mods-crt-false [] [] e l = refl
-mods-crt-false [] (y ∷ ys) e l = absurd (omega arith)
-mods-crt-false (x ∷ xs) [] e l = absurd (omega arith)
-mods-crt-false (x ∷ xs) (y ∷ ys) e l =
-    cc ((crt-one x y).same, mod-eq_of_lt l.0, mods-crt-false xs ys (omega arith) l.1)
+mods-crt-first [] [] e l = refl
+mods-crt-first [] (y ∷ ys) e l = absurd (omega arith)
+mods-crt-first (x ∷ xs) [] e l = absurd (omega arith)
+mods-crt-first (x ∷ xs) (y ∷ ys) e l =
+    cc ((crt-one x y).same, mod-eq_of_lt l.0, mods-crt-first xs ys (omega arith) l.1)
 
-pub mods-crt-true : (xs ys : List ℕ) → length xs ≡ length ys → Below 33292289 xs → Below 16515073 ys → mods (prime true) (map2 crt_of xs ys) ≡ xs
+pub mods-crt-second : (xs ys : List ℕ) → length xs ≡ length ys → Below 33292289 xs → Below 16515073 ys → mods (prime Prime.Second) (map2 crt_of xs ys) ≡ xs
 unfolding map_n
-mods-crt-true [] [] e k l = refl
-mods-crt-true [] (y ∷ ys) e k l = absurd (omega arith)
-mods-crt-true (x ∷ xs) [] e k l = absurd (omega arith)
-mods-crt-true (x ∷ xs) (y ∷ ys) e k l =
-    cc ((crt-two x y l.0).same, mod-eq_of_lt k.0, mods-crt-true xs ys (omega arith) k.1 l.1)
+mods-crt-second [] [] e k l = refl
+mods-crt-second [] (y ∷ ys) e k l = absurd (omega arith)
+mods-crt-second (x ∷ xs) [] e k l = absurd (omega arith)
+mods-crt-second (x ∷ xs) (y ∷ ys) e k l =
+    cc ((crt-two x y l.0).same, mod-eq_of_lt k.0, mods-crt-second xs ys (omega arith) k.1 l.1)
 
 -- ---- rests of products
 
@@ -124,7 +124,7 @@ mods-map2 p h k l (x ∷ xs) (y ∷ ys) (z ∷ zs) e =
     let t : mods p ys ≡ mods p zs = cc in
     cc (l x y z yz, mods-map2 p h k l xs ys zs t)
 
-pub mods-times : (s : Bool) (xs ys : List ℕ) → mods (prime s) (map2 (timesp q) xs ys) ≡ map2 (timesp (prime s)) (mods (prime s) xs) (mods (prime s) ys)
+pub mods-times : (s : Prime) (xs ys : List ℕ) → mods (prime s) (map2 (timesp q) xs ys) ≡ map2 (timesp (prime s)) (mods (prime s) xs) (mods (prime s) ys)
 mods-times s xs ys =
     mods-map2 (prime s) (timesp q) (timesp (prime s)) one xs ys (mods (prime s) ys) (sym (mods-mods (prime s) ys))
   where
@@ -149,7 +149,7 @@ unfolding map_n
 mods-zeros pos zero = refl
 mods-zeros pos (suc n) = cc (mod-eq_of_lt pos, mods-zeros pos n)
 
-module _ (s : Bool) where
+module _ (s : Prime) where
   neg-rest : (x y : ℕ) → Eqv (prime s) x y → Eqv (prime s) (neg q x) (neg (prime s) y)
   neg-rest x y k =
       ≈cancel y

@@ -1,9 +1,8 @@
 -- The laws of SampleQ (000, Algorithm 5): draws kept of a stream in stretches, one after another, and over refills of a buffer; the polynomial
 -- that they make, and the answers of both samplers.
 use mathlib.Core.Path.{◌≡◌, refl, sym, ap, ◌∙◌}
-use mathlib.Core.Bool.{Bool, true, false}
 use mathlib.Core.List.{List, [], ◌∷◌, ◌++◌, append-nil, append_assoc}
-use mathlib.Core.Option.{Option, some, none}
+use mathlib.Core.Option.{some, none}
 use Prim.Native.Nat.{ℕ, zero, suc, min, ◌+◌, ◌-◌, ◌*◌, ◌/◌, ◌%◌, ◌^◌, ◌≤◌, ◌<◌}
 use native.Mathlib.Nat.{add-zero, add-suc}
 use native.Mathlib.Numerals.{add-one}
@@ -11,9 +10,12 @@ use native.Mathlib.Decide.{dec_lt}
 use native.Mathlib.Omega.{arith}
 use borrow.Author.Tests.{lt-ltb, le-ltb, le-leb, lt-leb, eq-eqb, ne_eqb}
 use lib.Dec.{ltb, leb}
-use lib.ListN.{length, get_or, take, drop, set, replicate, length-append, length-set, length-take}
+use lib.ListN.{length, get_or, take, drop, set, length-append, length-set, length-take}
 use lib.Seq.{take_at, take_all, take-set-le, take-suc-set, length-take-le, take-append-le, get_or-drop}
-use Rattle.hash.specs.Lists.{table, pick}
+use Rattle.std.specs.Prelude.{Ok, Err}
+use Rattle.hash.specs.Lists.{table, zeros, pick}
+use Rattle.hash.specs.Refusal.{unless}
+use Rattle.hash.specs.declared.refusal.Refusal.{Refusal}
 use Rattle.hash.specs.Endian.{le}
 use Rattle.hash.specs.Keccak.{State, keccak_f}
 use Rattle.hash.specs.Shake.{absorbed, after, stream, shake256}
@@ -23,8 +25,7 @@ use Rattle.hash.proofs.Word.{le_same}
 use Rattle.ring.specs.Words.{q, Below, Words}
 use Rattle.ring.specs.Checks.{filled}
 use Rattle.ring.specs.Uniform.{draw, keep, kept, draws, uniform, sample_q, sampled_of}
-use Rattle.ring.specs.UniformSteps.{held_of, Gathered}
-use Rattle.ring.specs.declared.uniform.Sampled.{Sampled}
+use Rattle.ring.specs.UniformSteps.{poly_of, Gathered}
 use Rattle.ring.proofs.Sums.{below-append, below-take, words-zeros}
 
 -- a draw by its seven bytes
@@ -229,26 +230,18 @@ sample_q-words hdr seed f e = uniform-words (shake256 (hdr ++ seed) 5439) f e
 -- ---- Algorithm 5 over its stream
 
 module _ (hdr seed a : List ℕ) (S : State) (n r : ℕ) (e : S ≡ absorbed (hdr ++ seed)) (v : Gathered (table (stream S) 5439) n [] 0 a r) where
-  pub held-some : n ≤ 777 → r ≡ 512 → (true ≡ (held_of (sample_q hdr seed)).ok) × (a ≡ (held_of (sample_q hdr seed)).poly) × Words 512 a
-  unfolding sample_q held_of
+  pub held-some : n ≤ 777 → r ≡ 512
+      → (Ok tt ≡ unless Refusal.UniformNotFilled (filled (sample_q hdr seed))) × (a ≡ poly_of (sample_q hdr seed)) × Words 512 a
+  unfolding sample_q filled poly_of
   held-some h g =
       let d : n ≤ draws (length (table (stream S) 5439)) = rw length-table h in
       let f : sample_q hdr seed ≡ some a = rw (← e) (fills (table (stream S) 5439) [] a n r v d g) in
-      (ap (λ (o : Option (List ℕ)). (held_of o).ok) (sym f), ap (λ (o : Option (List ℕ)). (held_of o).poly) (sym f), sample_q-words hdr seed a f)
+      (rw f refl, rw f refl, sample_q-words hdr seed a f)
 
-  pub held_none : (z : List ℕ) → z ≡ replicate 512 0 → n ≡ 777 → (r ≡ 512 → ⊥)
-      → (false ≡ (held_of (sample_q hdr seed)).ok) × (z ≡ (held_of (sample_q hdr seed)).poly) × Words 512 z
-  unfolding sample_q held_of
+  pub held_none : (z : List ℕ) → z ≡ zeros 512 → n ≡ 777 → (r ≡ 512 → ⊥)
+      → (Err Refusal.UniformNotFilled ≡ unless Refusal.UniformNotFilled (filled (sample_q hdr seed))) × (z ≡ poly_of (sample_q hdr seed)) × Words 512 z
+  unfolding sample_q filled poly_of
   held_none z w h g =
       let d : n ≡ draws (length (table (stream S) 5439)) = rw length-table h in
-      let f : sample_q hdr seed ≡ none = rw (← e) (unfilled (table (stream S) 5439) [] a n r v d g) in (
-        ap (λ (o : Option (List ℕ)). (held_of o).ok) (sym f),
-        w ∙ ap (λ (o : Option (List ℕ)). (held_of o).poly) (sym f),
-        rw w (words-zeros 512),
-      )
-
--- an answer told by its two fields
-pub held_both : (h : Sampled) (b : Bool) (f : List ℕ) → b ≡ h.ok → f ≡ h.poly → ◌≡◌ {A = Sampled} (record { ok = b; poly = f }) h
-held_both h b f e g =
-    let o : Bool → List ℕ → Sampled = λ x l. record { ok = x; poly = l } in
-    ap (λ (x : Bool). o x f) e ∙ ap (o h.ok) g
+      let f : sample_q hdr seed ≡ none = rw (← e) (unfilled (table (stream S) 5439) [] a n r v d g) in
+      (rw f refl, rw f w, rw w (words-zeros 512))

@@ -12,7 +12,7 @@ use Rattle.ring.specs.Loose.{Loose, LooseList, Stepped}
 use Rattle.ring.proofs.Cong.{times-rest}
 use Rattle.ring.proofs.Sums.{below_at, below_set, below_wider, below-append}
 use Rattle.ring.proofs.Places.{length-mods, mods-set, mods-at}
-use Rattle.ring.proofs.Pairs.{Paired, paired-start, paired-more, paired-end, Each, each_start, each_more, each-end, map2-map_n}
+use Rattle.ring.proofs.Pairs.{Paired, paired-start, paired-more, paired-end, Each, each_more, each-end, map2-map_n}
 
 -- ---- two halves: the rests are made by h1 and h2, and a bound m, p at the least, becomes g m
 
@@ -84,10 +84,6 @@ pub record LooseEach (p f n : ℕ) (A : List ℕ) (i : ℕ) (a : List ℕ) : Typ
   pub front : Below (n * p) (take i a)
 
 module _ (p f n : ℕ) (A : List ℕ) where
-  pub loose-each-start : LooseEach p f n A 0 A
-  loose-each-start =
-      record { upto = omega arith; long = refl; rests = each_start _ (mods p A) (mods p A); ahead = λ j h. refl; front = tt }
-
   module _ (pos : 0 < p) (i : ℕ) (a : List ℕ) (s : LooseEach p f n A i a) where
     pub loose-each-low : (m : ℕ) → 0 < m → Below m A → get_or a i 0 < m
     loose-each-low m o h = subst (λ (x : ℕ). x < m) (sym (s.ahead i (omega arith))) (below_at m o A h i)

@@ -1,6 +1,5 @@
 -- Residues kept apart and what they stand for: rests, words of two, and products added to unreduced sums.
 use mathlib.Core.Path.{◌≡◌, refl, ap, sym, ◌∙◌, subst}
-use mathlib.Core.Bool.{Bool, true, false}
 use mathlib.Core.List.{List, [], ◌∷◌, ◌++◌}
 use Prim.Native.Nat.{ℕ, zero, suc, ◌+◌, ◌*◌, ◌-◌, ◌%◌, ◌^◌, ◌<◌, ◌≤◌}
 use native.Mathlib.Nat.{mul-le-mul}
@@ -8,6 +7,7 @@ use native.Mathlib.Omega.{arith}
 use lib.Dec.{lit<, lit≤}
 use lib.ListN.{length, take, drop}
 use Rattle.hash.specs.Lists.{zeros}
+use Rattle.ring.specs.declared.prime.Prime.{Prime}
 use Rattle.ring.specs.Words.{q, addq, subq, add_w, sub_w, zip_to, Below, Residues, Words}
 use Rattle.ring.specs.Poly.{map_n, map2}
 use Rattle.ring.specs.Residue.{prime, zeta, mods, timesp, fwd, back_one, crt_of}
@@ -15,7 +15,7 @@ use Rattle.ring.specs.Transform.{intt, pointwise}
 use Rattle.ring.specs.Loose.{LooseList}
 use Rattle.ring.specs.Rns.{residue_in, words_of, recombined, times_in, multiple, Accrued}
 use Rattle.ring.proofs.Cong.{Eqv, ≈refl, ≈sym, ≈trans, ≈eq, ≈by, ≈mod, ≈kit, ≈cancel}
-use Rattle.ring.proofs.Crt.{each-prime, below-crt, mods-crt-false, mods-crt-true, lists-by-rests}
+use Rattle.ring.proofs.Crt.{each-prime, below-crt, mods-crt-first, mods-crt-second, lists-by-rests}
 use Rattle.ring.proofs.Mapped.{length-map, map-append, map-take, map-drop}
 use Rattle.ring.proofs.Rests.{pointwise-rest}
 use Rattle.ring.proofs.Places.{length-map2, map2-low, length-mods, below-mods, residues-mods, maps}
@@ -27,33 +27,33 @@ use Rattle.ring.proofs.Theorems.{pointwise-words}
 -- ---- what residues stand for
 
 -- the residues modulo a prime, of both lists
-abbrev side : Bool → List ℕ → List ℕ → List ℕ
-side true hi lo = hi
-side false hi lo = lo
+abbrev side : Prime → List ℕ → List ℕ → List ℕ
+side Prime.Second hi lo = hi
+side Prime.First hi lo = lo
 
 module _ (hi lo : List ℕ) (e : length hi ≡ 512) (g : length lo ≡ 512) where
-  same-long : length (mods (prime true) hi) ≡ length (mods (prime false) lo)
-  same-long = length-mods (prime true) hi ∙ e ∙ sym (length-mods (prime false) lo ∙ g)
+  same-long : length (mods (prime Prime.Second) hi) ≡ length (mods (prime Prime.First) lo)
+  same-long = length-mods (prime Prime.Second) hi ∙ e ∙ sym (length-mods (prime Prime.First) lo ∙ g)
 
   recombined-words : Words 512 (recombined hi lo)
   unfolding recombined
   recombined-words =
       record {
-        long = length-map2 crt_of (mods (prime true) hi) (mods (prime false) lo) same-long ∙ length-mods (prime true) hi ∙ e;
-        low = below-crt (mods (prime true) hi) (mods (prime false) lo) (below-mods (prime-pos false) lo);
+        long = length-map2 crt_of (mods (prime Prime.Second) hi) (mods (prime Prime.First) lo) same-long ∙ length-mods (prime Prime.Second) hi ∙ e;
+        low = below-crt (mods (prime Prime.Second) hi) (mods (prime Prime.First) lo) (below-mods (prime-pos Prime.First) lo);
       }
 
-  recombined-rest : (s : Bool) → mods (prime s) (recombined hi lo) ≡ mods (prime s) (side s hi lo)
+  recombined-rest : (s : Prime) → mods (prime s) (recombined hi lo) ≡ mods (prime s) (side s hi lo)
   unfolding recombined
-  recombined-rest true =
-      mods-crt-true (mods (prime true) hi) (mods (prime false) lo) same-long (below-mods (prime-pos true) hi) (below-mods (prime-pos false) lo)
-  recombined-rest false =
-      mods-crt-false (mods (prime true) hi) (mods (prime false) lo) same-long (below-mods (prime-pos false) lo)
+  recombined-rest Prime.Second =
+      mods-crt-second (mods (prime Prime.Second) hi) (mods (prime Prime.First) lo) same-long (below-mods (prime-pos Prime.Second) hi) (below-mods (prime-pos Prime.First) lo)
+  recombined-rest Prime.First =
+      mods-crt-first (mods (prime Prime.Second) hi) (mods (prime Prime.First) lo) same-long (below-mods (prime-pos Prime.First) lo)
 
   -- the inverse of the transform from the sums modulo each prime
-  pub intt-recombined : map2 crt_of (back_one true (mods (prime true) hi)) (back_one false (mods (prime false) lo)) ≡ intt (recombined hi lo)
+  pub intt-recombined : map2 crt_of (back_one Prime.Second (mods (prime Prime.Second) hi)) (back_one Prime.First (mods (prime Prime.First) lo)) ≡ intt (recombined hi lo)
   unfolding intt
-  intt-recombined = maps crt_of (ap (back_one true) (sym (recombined-rest true))) (ap (back_one false) (sym (recombined-rest false)))
+  intt-recombined = maps crt_of (ap (back_one Prime.Second) (sym (recombined-rest Prime.Second))) (ap (back_one Prime.First) (sym (recombined-rest Prime.First)))
 
 pub recombined-zeros : (n : ℕ) → recombined (zeros n) (zeros n) ≡ zeros n
 unfolding recombined map_n
@@ -61,24 +61,24 @@ recombined-zeros zero = refl
 recombined-zeros (suc n) = ap (λ (t : List ℕ). 0 ∷ t) (recombined-zeros n)
 
 -- from residues whose least ones are known
-pub recombined-is : (hi lo : List ℕ) {u v : List ℕ} → mods (prime true) hi ≡ u → mods (prime false) lo ≡ v → recombined hi lo ≡ map2 crt_of u v
+pub recombined-is : (hi lo : List ℕ) {u v : List ℕ} → mods (prime Prime.Second) hi ≡ u → mods (prime Prime.First) lo ≡ v → recombined hi lo ≡ map2 crt_of u v
 unfolding recombined
 recombined-is hi lo e g = maps crt_of e g
 
 -- residues below n primes, n at most 32, have 30 bits
-pub loose-residues : (s : Bool) (n : ℕ) → n ≤ 32 → (xs rs : List ℕ) → length xs ≡ 512 → LooseList (prime s) n xs rs → Residues (2 ^ 30) 512 rs
+pub loose-residues : (s : Prime) (n : ℕ) → n ≤ 32 → (xs rs : List ℕ) → length xs ≡ 512 → LooseList (prime s) n xs rs → Residues (2 ^ 30) 512 rs
 loose-residues s n h xs rs e l =
     record {
       long = sym (length-mods (prime s) rs) ∙ ap length l.same ∙ e;
       low = below_wider (n * prime s) (2 ^ 30) (bits s) rs l.low;
     }
   where
-    bits : (s : Bool) → n * prime s ≤ 2 ^ 30
-    bits true = omega (arith, h)
-    bits false = omega (arith, h)
+    bits : (s : Prime) → n * prime s ≤ 2 ^ 30
+    bits Prime.Second = omega (arith, h)
+    bits Prime.First = omega (arith, h)
 
 -- .. at the end of a transform
-pub forth-residues : (s : Bool) (f rs : List ℕ) → length f ≡ 512 → LooseList (prime s) 32 (fwd (prime s) (zeta s) 9 1 (mods (prime s) f)) rs → Residues (2 ^ 30) 512 rs
+pub forth-residues : (s : Prime) (f rs : List ℕ) → length f ≡ 512 → LooseList (prime s) 32 (fwd (prime s) (zeta s) 9 1 (mods (prime s) f)) rs → Residues (2 ^ 30) 512 rs
 forth-residues s f rs e l =
     loose-residues s 32 (lit≤ tt) (fwd (prime s) (zeta s) 9 1 (mods (prime s) f)) rs
     (residues-fwd (prime-pos s) (zeta s) 9 1 (mods (prime s) f) (residues-mods (prime-pos s) f e)).long l
@@ -87,7 +87,7 @@ forth-residues s f rs e l =
 
 -- what they stand for, word by word
 abbrev word_of : ℕ → ℕ
-word_of x = crt_of (residue_in true x % prime true) (residue_in false x % prime false)
+word_of x = crt_of (residue_in Prime.Second x % prime Prime.Second) (residue_in Prime.First x % prime Prime.First)
 
 words-each : (xs : List ℕ) → words_of xs ≡ map_n word_of xs
 unfolding words_of recombined map_n
@@ -100,7 +100,7 @@ length-words xs = ap length (words-each xs) ∙ length-map word_of xs
 pub below-words : (xs : List ℕ) → Below q (words_of xs)
 unfolding words_of recombined
 below-words xs =
-    below-crt (mods (prime true) (map_n (residue_in true) xs)) (mods (prime false) (map_n (residue_in false) xs)) (below-mods (prime-pos false) (map_n (residue_in false) xs))
+    below-crt (mods (prime Prime.Second) (map_n (residue_in Prime.Second) xs)) (mods (prime Prime.First) (map_n (residue_in Prime.First) xs)) (below-mods (prime-pos Prime.First) (map_n (residue_in Prime.First) xs))
 
 -- a part of them, and a part put in its place
 pub words-part : (xs : List ℕ) (a k : ℕ) → words_of (take k (drop a xs)) ≡ take k (drop a (words_of xs))
@@ -113,12 +113,12 @@ words-put xs ys a k =
     words-each (take a xs ++ (ys ++ drop k (drop a xs))) ∙ map-append word_of (take a xs) (ys ++ drop k (drop a xs))
     ∙ cc (map-append word_of ys (drop k (drop a xs)), map-take word_of a xs, map-drop word_of k (drop a xs), map-drop word_of a xs, words-each xs, words-each ys)
 
-words-rest : (s : Bool) (xs : List ℕ) → length xs ≡ 512 → mods (prime s) (words_of xs) ≡ mods (prime s) (map_n (residue_in s) xs)
+words-rest : (s : Prime) (xs : List ℕ) → length xs ≡ 512 → mods (prime s) (words_of xs) ≡ mods (prime s) (map_n (residue_in s) xs)
 unfolding words_of
-words-rest true xs e =
-    recombined-rest (map_n (residue_in true) xs) (map_n (residue_in false) xs) (length-map (residue_in true) xs ∙ e) (length-map (residue_in false) xs ∙ e) true
-words-rest false xs e =
-    recombined-rest (map_n (residue_in true) xs) (map_n (residue_in false) xs) (length-map (residue_in true) xs ∙ e) (length-map (residue_in false) xs ∙ e) false
+words-rest Prime.Second xs e =
+    recombined-rest (map_n (residue_in Prime.Second) xs) (map_n (residue_in Prime.First) xs) (length-map (residue_in Prime.Second) xs ∙ e) (length-map (residue_in Prime.First) xs ∙ e) Prime.Second
+words-rest Prime.First xs e =
+    recombined-rest (map_n (residue_in Prime.Second) xs) (map_n (residue_in Prime.First) xs) (length-map (residue_in Prime.Second) xs ∙ e) (length-map (residue_in Prime.First) xs ∙ e) Prime.First
 
 -- two residues to a word
 pub two-words : (a b : List ℕ) → Below (2 ^ 30) b → words_of (map2 (λ (x y : ℕ). x * 2 ^ 30 + y) a b) ≡ recombined a b
@@ -126,8 +126,8 @@ unfolding words_of recombined map_n
 two-words [] b h = refl
 two-words (x ∷ a) [] h = refl
 two-words (x ∷ a) (y ∷ b) h =
-    let e : residue_in true (x * 2 ^ 30 + y) ≡ x = omega (arith, h.0) in
-    let g : residue_in false (x * 2 ^ 30 + y) ≡ y = omega (arith, h.0) in
+    let e : residue_in Prime.Second (x * 2 ^ 30 + y) ≡ x = omega (arith, h.0) in
+    let g : residue_in Prime.First (x * 2 ^ 30 + y) ≡ y = omega (arith, h.0) in
     cc (e, g, two-words a b h.1)
 
 pub below_two : (a b : List ℕ) → Below (2 ^ 30) a → Below (2 ^ 30) b → Below (2 ^ 60) (map2 (λ (x y : ℕ). x * 2 ^ 30 + y) a b)
@@ -135,9 +135,9 @@ below_two = map2-low (2 ^ 60) (2 ^ 30) (2 ^ 30) (λ (x y : ℕ). x * 2 ^ 30 + y)
 
 -- ---- products and sums
 
-residue-in-low : (s : Bool) (x : ℕ) → x < 2 ^ 60 → residue_in s x < 2 ^ 30
-residue-in-low true x h = omega arith
-residue-in-low false x h = omega arith
+residue-in-low : (s : Prime) (x : ℕ) → x < 2 ^ 60 → residue_in s x < 2 ^ 30
+residue-in-low Prime.Second x h = omega arith
+residue-in-low Prime.First x h = omega arith
 
 -- a product of two residues
 pub times-low : (y z : ℕ) → y < 2 ^ 30 → z < 2 ^ 30 → y * z < 2 ^ 60
@@ -146,23 +146,23 @@ times-low y z h g =
     let b : z ≤ 1073741823 = omega arith in
     omega (arith, mul-le-mul a b)
 
-below-times : (s : Bool) (a x : List ℕ) → Below (2 ^ 60) a → Below (2 ^ 60) x → Below (2 ^ 60) (map2 (times_in s) a x)
+below-times : (s : Prime) (a x : List ℕ) → Below (2 ^ 60) a → Below (2 ^ 60) x → Below (2 ^ 60) (map2 (times_in s) a x)
 below-times s =
     map2-low (2 ^ 60) (2 ^ 60) (2 ^ 60) (times_in s) (λ y z h g. times-low (residue_in s y) (residue_in s z) (residue-in-low s y h) (residue-in-low s z g))
 
-pub multiple-above : (s : Bool) → 2 ^ 60 ≤ multiple s
-multiple-above true = lit≤ tt
-multiple-above false = lit≤ tt
+pub multiple-above : (s : Prime) → 2 ^ 60 ≤ multiple s
+multiple-above Prime.Second = lit≤ tt
+multiple-above Prime.First = lit≤ tt
 
-multiple-rest : (s : Bool) → Eqv (prime s) (multiple s) 0
-multiple-rest true = ≈by 0 34630286449 refl
-multiple-rest false = ≈by 0 69810257854 refl
+multiple-rest : (s : Prime) → Eqv (prime s) (multiple s) 0
+multiple-rest Prime.Second = ≈by 0 34630286449 refl
+multiple-rest Prime.First = ≈by 0 69810257854 refl
 
-pub times_long : (s : Bool) (a x : List ℕ) → Residues (2 ^ 60) 512 a → Residues (2 ^ 60) 512 x → length (map2 (times_in s) a x) ≡ 512
+pub times_long : (s : Prime) (a x : List ℕ) → Residues (2 ^ 60) 512 a → Residues (2 ^ 60) 512 x → length (map2 (times_in s) a x) ≡ 512
 times_long s a x ra rx = length-map2 (times_in s) a x (ra.long ∙ sym rx.long) ∙ ra.long
 
 -- the rests of the product are those of the products of residues
-module _ (s : Bool) where
+module _ (s : Prime) where
   times-rests : (a x : List ℕ)
       → map2 (timesp (prime s)) (mods (prime s) (map_n (residue_in s) a)) (mods (prime s) (map_n (residue_in s) x)) ≡ mods (prime s) (map2 (times_in s) a x)
   unfolding map_n
@@ -214,11 +214,11 @@ module _ (s : Bool) where
 -- ---- a step on the sums
 
 -- by f modulo q where it goes by g s modulo each prime
-module _ (n : ℕ) (f : ℕ → ℕ → ℕ) (g : Bool → ℕ → ℕ → ℕ)
-    (h : (s : Bool) (x y u v : ℕ) → Eqv (prime s) x u → Eqv (prime s) y v → y < q → v < 2 ^ 60 → f x y % prime s ≡ g s u v % prime s)
-    (f-low : (x y : ℕ) → f x y < q) (g-low : (s : Bool) (m u v : ℕ) → u < m → v < 2 ^ 60 → g s u v < m + n)
+module _ (n : ℕ) (f : ℕ → ℕ → ℕ) (g : Prime → ℕ → ℕ → ℕ)
+    (h : (s : Prime) (x y u v : ℕ) → Eqv (prime s) x u → Eqv (prime s) y v → y < q → v < 2 ^ 60 → f x y % prime s ≡ g s u v % prime s)
+    (f-low : (x y : ℕ) → f x y < q) (g-low : (s : Prime) (m u v : ℕ) → u < m → v < 2 ^ 60 → g s u v < m + n)
     (a x hi lo hi' lo' : List ℕ) (ra : Residues (2 ^ 60) 512 a) (rx : Residues (2 ^ 60) 512 x) (eh : length hi ≡ 512) (el : length lo ≡ 512) where
-  step-residues : (s : Bool) (m : ℕ) (U : List ℕ) → Residues m 512 U → Residues (m + n) 512 (map2 (g s) U (map2 (times_in s) a x))
+  step-residues : (s : Prime) (m : ℕ) (U : List ℕ) → Residues m 512 U → Residues (m + n) 512 (map2 (g s) U (map2 (times_in s) a x))
   step-residues s m U r =
       let e = times_long s a x ra rx in
       record {
@@ -226,41 +226,41 @@ module _ (n : ℕ) (f : ℕ → ℕ → ℕ) (g : Bool → ℕ → ℕ → ℕ)
         low = map2-low (m + n) m (2 ^ 60) (g s) (g-low s m) U (map2 (times_in s) a x) r.low (below-times s a x ra.low rx.low);
       }
 
-  both-accrued : hi' ≡ map2 (g true) hi (map2 (times_in true) a x) → lo' ≡ map2 (g false) lo (map2 (times_in false) a x)
+  both-accrued : hi' ≡ map2 (g Prime.Second) hi (map2 (times_in Prime.Second) a x) → lo' ≡ map2 (g Prime.First) lo (map2 (times_in Prime.First) a x)
       → Accrued (zip_to f) n a x hi lo hi' lo'
   both-accrued e k =
       let P = pointwise (words_of a) (words_of x) in
       let wp : Words 512 P = pointwise-words (words_of a) (words_of x) (length-words a ∙ ra.long) (length-words x ∙ rx.long) in
       let wr : Words 512 (recombined hi lo) = recombined-words hi lo eh el in
-      let lh : length hi' ≡ 512 = ap length e ∙ length-map2 (g true) hi (map2 (times_in true) a x) (eh ∙ sym (times_long true a x ra rx)) ∙ eh in
-      let ll : length lo' ≡ 512 = ap length k ∙ length-map2 (g false) lo (map2 (times_in false) a x) (el ∙ sym (times_long false a x ra rx)) ∙ el in
-      let rest : (s : Bool) → mods (prime s) (side s hi' lo') ≡ mods (prime s) (map2 (g s) (side s hi lo) (map2 (times_in s) a x)) = sides in
+      let lh : length hi' ≡ 512 = ap length e ∙ length-map2 (g Prime.Second) hi (map2 (times_in Prime.Second) a x) (eh ∙ sym (times_long Prime.Second a x ra rx)) ∙ eh in
+      let ll : length lo' ≡ 512 = ap length k ∙ length-map2 (g Prime.First) lo (map2 (times_in Prime.First) a x) (el ∙ sym (times_long Prime.First a x ra rx)) ∙ el in
+      let rest : (s : Prime) → mods (prime s) (side s hi' lo') ≡ mods (prime s) (map2 (g s) (side s hi lo) (map2 (times_in s) a x)) = sides in
       record {
         same =
             lists-by-rests (recombined hi' lo') (zip_to f (recombined hi lo) P) (recombined-words hi' lo' lh ll).low (below-zip q f f-low (recombined hi lo) P wr.low)
-            (λ (s : Bool).
+            (λ (s : Prime).
             recombined-rest hi' lo' lh ll s ∙ rest s
             ∙ sym (zip-rest s f (g s) (h s) (recombined hi lo) P (side s hi lo) (map2 (times_in s) a x) (recombined-rest hi lo eh el s)
             (product-rest s a x ra.long rx.long) (wr.long ∙ sym wp.long) wp.low (below-times s a x ra.low rx.low)));
-        low = λ (m : ℕ) u v. (subst (Residues (m + n) 512) (sym e) (step-residues true m hi u), subst (Residues (m + n) 512) (sym k) (step-residues false m lo v));
+        low = λ (m : ℕ) u v. (subst (Residues (m + n) 512) (sym e) (step-residues Prime.Second m hi u), subst (Residues (m + n) 512) (sym k) (step-residues Prime.First m lo v));
       }
     where
-      sides : (s : Bool) → mods (prime s) (side s hi' lo') ≡ mods (prime s) (map2 (g s) (side s hi lo) (map2 (times_in s) a x))
-      sides true = ap (mods (prime true)) e
-      sides false = ap (mods (prime false)) k
+      sides : (s : Prime) → mods (prime s) (side s hi' lo') ≡ mods (prime s) (map2 (g s) (side s hi lo) (map2 (times_in s) a x))
+      sides Prime.Second = ap (mods (prime Prime.Second)) e
+      sides Prime.First = ap (mods (prime Prime.First)) k
 
 pub add-accrued : (a x hi lo hi' lo' : List ℕ) → Residues (2 ^ 60) 512 a → Residues (2 ^ 60) 512 x → length hi ≡ 512 → length lo ≡ 512
-    → hi' ≡ map2 (λ (y z : ℕ). y + z) hi (map2 (times_in true) a x) → lo' ≡ map2 (λ (y z : ℕ). y + z) lo (map2 (times_in false) a x)
+    → hi' ≡ map2 (λ (y z : ℕ). y + z) hi (map2 (times_in Prime.Second) a x) → lo' ≡ map2 (λ (y z : ℕ). y + z) lo (map2 (times_in Prime.First) a x)
     → Accrued add_w (2 ^ 60) a x hi lo hi' lo'
 add-accrued a x hi lo hi' lo' ra rx eh el =
-    both-accrued (2 ^ 60) addq (λ (s : Bool) (y z : ℕ). y + z) rest-added addq-lt (λ s m u v l b. omega arith) a x hi lo hi' lo' ra rx eh el
+    both-accrued (2 ^ 60) addq (λ (s : Prime) (y z : ℕ). y + z) rest-added addq-lt (λ s m u v l b. omega arith) a x hi lo hi' lo' ra rx eh el
 
-pub multiple-low : (s : Bool) → multiple s < 2 ^ 61
-multiple-low true = lit< tt
-multiple-low false = lit< tt
+pub multiple-low : (s : Prime) → multiple s < 2 ^ 61
+multiple-low Prime.Second = lit< tt
+multiple-low Prime.First = lit< tt
 
 pub sub-accrued : (a x hi lo hi' lo' : List ℕ) → Residues (2 ^ 60) 512 a → Residues (2 ^ 60) 512 x → length hi ≡ 512 → length lo ≡ 512
-    → hi' ≡ map2 (λ (y z : ℕ). y + (multiple true - z)) hi (map2 (times_in true) a x)
-    → lo' ≡ map2 (λ (y z : ℕ). y + (multiple false - z)) lo (map2 (times_in false) a x) → Accrued sub_w (2 ^ 61) a x hi lo hi' lo'
+    → hi' ≡ map2 (λ (y z : ℕ). y + (multiple Prime.Second - z)) hi (map2 (times_in Prime.Second) a x)
+    → lo' ≡ map2 (λ (y z : ℕ). y + (multiple Prime.First - z)) lo (map2 (times_in Prime.First) a x) → Accrued sub_w (2 ^ 61) a x hi lo hi' lo'
 sub-accrued a x hi lo hi' lo' ra rx eh el =
-    both-accrued (2 ^ 61) subq (λ (s : Bool) (y z : ℕ). y + (multiple s - z)) rest-taken subq-lt (λ s m u v l b. omega (arith, multiple-low s)) a x hi lo hi' lo' ra rx eh el
+    both-accrued (2 ^ 61) subq (λ (s : Prime) (y z : ℕ). y + (multiple s - z)) rest-taken subq-lt (λ s m u v l b. omega (arith, multiple-low s)) a x hi lo hi' lo' ra rx eh el

@@ -5,12 +5,12 @@ use mathlib.Core.List.{List, [], ◌∷◌, ◌++◌}
 use Prim.Native.Nat.{ℕ, zero, suc, ◌+◌, ◌-◌, ◌%◌, ◌≤◌, ◌<◌}
 use native.Mathlib.Nat.{le_of_suc-le-suc, not-suc-le-zero, mod-lt, mod-eq_of_lt}
 use native.Mathlib.Decide.{dec_lt}
-use native.Mathlib.Numerals.{add-one}
 use native.Mathlib.Omega.{arith}
-use borrow.Author.Tests.{ltb-true, lt-ltb, le-ltb}
+use borrow.Author.Tests.{ltb-true, lt-ltb}
 use lib.Dec.{ltb, lit<}
-use lib.ListN.{length, take, drop, get_or, set, length-append, length-drop, length-replicate, drop_of_length-le}
-use lib.Seq.{drop-cons, ext_get_or, length-take-le}
+use lib.ListN.{length, take, drop, get_or, set, length-append, length-drop, length-replicate}
+use lib.Seq.{ext_get_or, length-take-le}
+use Rattle.std.specs.Prelude.{EachIndex, IsTrue, ◌↔◌}
 use Rattle.hash.specs.Lists.{pick, zeros}
 use Rattle.ring.specs.Words.{q, addq, subq, zip_to, add_w, sub_w, Below, all_below, Residues, Words, Linear}
 
@@ -92,19 +92,7 @@ module _ (p : ℕ) where
   below-zeros pos zero = tt
   below-zeros pos (suc n) = (pos, below-zeros pos n)
 
-  -- the test, its turns, and what it tells
-  pub below_more : (xs : List ℕ) (i : ℕ) → i < length xs → get_or xs i 0 < p → all_below p (drop i xs) ≡ all_below p (drop (i + 1) xs)
-  unfolding all_below
-  below_more xs i h g = ap (all_below p) (drop-cons xs i 0 h) ∙ simp (lt-ltb _ _ g, add-one)
-
-  pub below-stop : (xs : List ℕ) (i : ℕ) → i < length xs → p ≤ get_or xs i 0 → all_below p (drop i xs) ≡ false
-  unfolding all_below
-  below-stop xs i h g = ap (all_below p) (drop-cons xs i 0 h) ∙ simp (le-ltb _ _ g)
-
-  pub below_end : (xs : List ℕ) (i : ℕ) → length xs ≤ i → all_below p (drop i xs) ≡ true
-  unfolding all_below
-  below_end xs i h = ap (all_below p) (drop_of_length-le xs h)
-
+  -- the test, and what it tells
   pub all-below : (xs : List ℕ) → all_below p xs ≡ true → Below p xs
   unfolding all_below
   all-below [] e = tt
@@ -113,6 +101,24 @@ module _ (p : ℕ) where
       go : (b : Bool) → ltb x p ≡ b → pick b (all_below p xs) false ≡ true → (all_below p xs ≡ true → Below p xs) → Below p (x ∷ xs)
       go true h k r = (ltb-true x p h, r k)
       go false h k r = let z : ◌≡◌ {A = ℕ} 0 1 = cc in absurd (omega arith)
+
+  each-below : (xs : List ℕ) → EachIndex xs (λ k. get_or xs k 0 < p) → all_below p xs ≡ true
+  unfolding all_below
+  each-below [] h = refl
+  each-below (x ∷ xs) h = simp (lt-ltb x p (h 0 (omega arith))) (each-below xs (λ k l. h (suc k) (omega arith)))
+
+  below-each : (xs : List ℕ) → Below p xs → EachIndex xs (λ k. get_or xs k 0 < p)
+  below-each [] h k l = absurd (omega arith)
+  below-each (x ∷ xs) h zero l = h.0
+  below-each (x ∷ xs) h (suc k) l = below-each xs h.1 k (omega arith)
+
+  pub below-tested : (xs : List ℕ) (b : Bool) → (IsTrue b ↔ EachIndex xs (λ k. get_or xs k 0 < p)) → b ≡ all_below p xs
+  below-tested xs true h = sym (each-below xs (h.0 refl))
+  below-tested xs false h = go (all_below p xs) refl
+    where
+      go : (t : Bool) → all_below p xs ≡ t → false ≡ t
+      go false e = refl
+      go true e = h.1 (below-each xs (all-below xs e))
 
   pub below-zip : (f : ℕ → ℕ → ℕ) → ((a b : ℕ) → f a b < p) → (xs ys : List ℕ) → Below p xs → Below p (zip_to f xs ys)
   unfolding zip_to

@@ -1,6 +1,6 @@
 -- The powers of g modulo both primes meet what the transform asks of them: tests that antt computes.
 use mathlib.Core.Path.{◌≡◌, refl}
-use mathlib.Core.Bool.{Bool, true, false}
+use mathlib.Core.Bool.{Bool}
 use Prim.Native.Nat.{ℕ, zero, suc, ◌+◌, ◌*◌, ◌-◌, ◌%◌, ◌/◌, ◌^◌, ◌<◌}
 use native.Mathlib.Nat.{not-suc-le-zero, mod-lt}
 use native.Mathlib.Omega.{arith}
@@ -9,20 +9,21 @@ use lib.ListN.{get_or}
 use Rattle.hash.specs.Lists.{table, pick}
 use Rattle.hash.proofs.Computed.{below, at}
 use Rattle.hash.proofs.Table.{get_d-table}
+use Rattle.ring.specs.declared.prime.Prime.{Prime}
 use Rattle.ring.specs.Residue.{rev, prime, gen, over512, power, zeta, powers}
 use Rattle.ring.proofs.Cong.{Eqv}
 use Rattle.ring.proofs.Values.{Roots, pts}
 
-pub prime-pos : (s : Bool) → 0 < prime s
-prime-pos false = lit< tt
-prime-pos true = lit< tt
+pub prime-pos : (s : Prime) → 0 < prime s
+prime-pos Prime.First = lit< tt
+prime-pos Prime.Second = lit< tt
 
 -- the table of powers, and its entries
-pub powers-at : (s : Bool) (k : ℕ) → k < 512 → get_or (powers s) k 0 ≡ zeta s k
+pub powers-at : (s : Prime) (k : ℕ) → k < 512 → get_or (powers s) k 0 ≡ zeta s k
 unfolding powers
 powers-at s k h = get_d-table (zeta s) 512 k h
 
-pub zeta-low : (s : Bool) (k : ℕ) → zeta s k < prime s
+pub zeta-low : (s : Prime) (k : ℕ) → zeta s k < prime s
 unfolding power
 zeta-low s k = mod-lt _ (prime-pos s)
 
@@ -120,31 +121,31 @@ mirror-right : T (below t-mirror-right 511)
 unfolding below mir mirrored
 mirror-right = tt
 
-pub roots-at : (s : Bool) → Roots (prime s) 512 (zeta s) (node (prime s) (gen s)) mirrored
-roots-at false = roots-of 16515073 12686483 511 (lit< tt) square1 left1 right1 mirror1 mirror-left mirror-right
-roots-at true = roots-of 33292289 11827776 511 (lit< tt) square2 left2 right2 mirror2 mirror-left mirror-right
+pub roots-at : (s : Prime) → Roots (prime s) 512 (zeta s) (node (prime s) (gen s)) mirrored
+roots-at Prime.First = roots-of 16515073 12686483 511 (lit< tt) square1 left1 right1 mirror1 mirror-left mirror-right
+roots-at Prime.Second = roots-of 33292289 11827776 511 (lit< tt) square2 left2 right2 mirror2 mirror-left mirror-right
 
-pub top-at : (s : Bool) → Eqv (prime s) (node (prime s) (gen s) 1 + 1) 0
+pub top-at : (s : Prime) → Eqv (prime s) (node (prime s) (gen s) 1 + 1) 0
 unfolding rev
-top-at false = record { same = refl }
-top-at true = record { same = refl }
+top-at Prime.First = record { same = refl }
+top-at Prime.Second = record { same = refl }
 
 pub mirror-top : mirrored 1 ≡ 1
 unfolding mir mirrored
 mirror-top = refl
 
-pub over-at : (s : Bool) → Eqv (prime s) (over512 s * 512) 1
-over-at false = record { same = refl }
-over-at true = record { same = refl }
+pub over-at : (s : Prime) → Eqv (prime s) (over512 s * 512) 1
+over-at Prime.First = record { same = refl }
+over-at Prime.Second = record { same = refl }
 
 -- ---- the leaves
 
 -- point i of the transform modulo the prime
-unfoldable pub point : Bool → ℕ → ℕ
+unfoldable pub point : Prime → ℕ → ℕ
 point s i = gen s ^ (2 * rev 9 i + 1) % prime s
 
 -- the leaves of the tree are the points, in their order
-pub leaves : (s : Bool) → pts (node (prime s) (gen s)) 9 1 ≡ table (point s) 512
+pub leaves : (s : Prime) → pts (node (prime s) (gen s)) 9 1 ≡ table (point s) 512
 unfolding rev pts table point
-leaves false = refl
-leaves true = refl
+leaves Prime.First = refl
+leaves Prime.Second = refl

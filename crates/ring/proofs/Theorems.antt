@@ -1,12 +1,12 @@
 -- The theorems about the definitions of specs/Transform: what the layers above cite.
 use mathlib.Core.Path.{◌≡◌, ap, sym, ◌∙◌, subst}
-use mathlib.Core.Bool.{Bool, true, false}
 use mathlib.Core.List.{List}
 use Prim.Native.Nat.{ℕ, ◌+◌, ◌*◌, ◌%◌, ◌<◌}
 use native.Mathlib.Nat.{mod-lt}
 use lib.Dec.{lit<}
 use lib.ListN.{length}
 use Rattle.hash.proofs.Paste.{table_same}
+use Rattle.ring.specs.declared.prime.Prime.{Prime}
 use Rattle.ring.specs.Words.{q, addq, add_w, sub_w, Words, Linear}
 use Rattle.ring.specs.Poly.{eval, map2}
 use Rattle.ring.specs.Residue.{prime, zeta, mods, timesp, fwd, back_one, crt_of}
@@ -29,11 +29,11 @@ ntt-words f = residues-table (λ (i : ℕ). eval f (root i) % q) (λ (i : ℕ). 
 pub intt-words : (x : List ℕ) → Words 512 x → Words 512 (intt x)
 unfolding intt
 intt-words x h =
-    let a = back-rest true x h.long in
-    let b = back-rest false x h.long in
+    let a = back-rest Prime.Second x h.long in
+    let b = back-rest Prime.First x h.long in
     record {
-      long = length-map2 crt_of (back_one true (mods (prime true) x)) (back_one false (mods (prime false) x)) (a.long ∙ sym b.long) ∙ a.long;
-      low = below-crt (back_one true (mods (prime true) x)) (back_one false (mods (prime false) x)) b.low;
+      long = length-map2 crt_of (back_one Prime.Second (mods (prime Prime.Second) x)) (back_one Prime.First (mods (prime Prime.First) x)) (a.long ∙ sym b.long) ∙ a.long;
+      low = below-crt (back_one Prime.Second (mods (prime Prime.Second) x)) (back_one Prime.First (mods (prime Prime.First) x)) b.low;
     }
 
 pub mul_words : (f h : List ℕ) → length h ≡ 512 → Words 512 (mul f h)
@@ -48,15 +48,15 @@ pointwise-words a b ha hb = residues-map2 (timesp q) (λ (x : ℕ) (y : ℕ). mo
 
 -- the transform from those modulo the primes
 pub ntt-by-rests : (f : List ℕ) → length f ≡ 512
-    → map2 crt_of (fwd (prime true) (zeta true) 9 1 (mods (prime true) f)) (fwd (prime false) (zeta false) 9 1 (mods (prime false) f)) ≡ ntt f
+    → map2 crt_of (fwd (prime Prime.Second) (zeta Prime.Second) 9 1 (mods (prime Prime.Second) f)) (fwd (prime Prime.First) (zeta Prime.First) 9 1 (mods (prime Prime.First) f)) ≡ ntt f
 ntt-by-rests f e =
-    maps crt_of (sym (ntt-rest true f e)) (sym (ntt-rest false f e)) ∙ crt-mods (ntt f) (ntt-words f).low
+    maps crt_of (sym (ntt-rest Prime.Second f e)) (sym (ntt-rest Prime.First f e)) ∙ crt-mods (ntt f) (ntt-words f).low
 
 -- a product modulo q from those modulo the primes: r1 the least residue, r2 any
 pub pointwise-rests : (a b r2 r1 : ℕ) → r2 % 33292289 ≡ (a % 33292289) * (b % 33292289) % 33292289
     → r1 ≡ (a % 16515073) * (b % 16515073) % 16515073 → crt_of r2 r1 ≡ (a * b) % q
 pointwise-rests a b r2 r1 e g =
-    crt-is (a * b) r2 r1 (subst (λ (x : ℕ). x < 16515073) (sym g) (mod-lt ((a % 16515073) * (b % 16515073)) (prime-pos false)))
+    crt-is (a * b) r2 r1 (subst (λ (x : ℕ). x < 16515073) (sym g) (mod-lt ((a % 16515073) * (b % 16515073)) (prime-pos Prime.First)))
     (≈trans {b = (a % 33292289) * (b % 33292289)} (record { same = e }) (rests 33292289))
     (≈trans (≈eq g) (≈trans (≈mod ((a % 16515073) * (b % 16515073))) (rests 16515073)))
   where
@@ -68,14 +68,14 @@ pointwise-rests a b r2 r1 e g =
 pub intt-ntt : (f : List ℕ) → Words 512 f → intt (ntt f) ≡ f
 intt-ntt f h =
     lists-by-rests (intt (ntt f)) f (intt-words (ntt f) (ntt-words f)).low h.low
-    (λ (s : Bool).
+    (λ (s : Prime).
     intt-rest s (ntt f) (ntt-words f).long ∙ ap (back_one s) (ntt-rest s f h.long)
     ∙ back-forth s (mods (prime s) f) (residues-mods (prime-pos s) f h.long))
 
 pub ntt-intt : (x : List ℕ) → Words 512 x → ntt (intt x) ≡ x
 ntt-intt x h =
     lists-by-rests (ntt (intt x)) x (ntt-words (intt x)).low h.low
-    (λ (s : Bool).
+    (λ (s : Prime).
     ntt-rest s (intt x) (intt-words x h).long ∙ ap (fwd (prime s) (zeta s) 9 1) (intt-rest s x h.long)
     ∙ forth-back s (mods (prime s) x) (residues-mods (prime-pos s) x h.long))
 
@@ -85,7 +85,7 @@ pub ntt-mul : (f h : List ℕ) → Words 512 f → Words 512 h → ntt (mul f h)
 ntt-mul f h wf wh =
     lists-by-rests (ntt (mul f h)) (pointwise (ntt f) (ntt h)) (ntt-words (mul f h)).low
     (pointwise-words (ntt f) (ntt h) (ntt-words f).long (ntt-words h).long).low
-    (λ (s : Bool).
+    (λ (s : Prime).
     ntt-rest s (mul f h) (mul_words f h wh.long).long ∙ ap (fwd (prime s) (zeta s) 9 1) (mul-rest s f h)
     ∙ forth-prod s (mods (prime s) f) (residues-mods (prime-pos s) f wf.long) (mods (prime s) h) (residues-mods (prime-pos s) h wh.long)
     ∙ sym (pointwise-rest s (ntt f) (ntt h) ∙ maps (timesp (prime s)) (ntt-rest s f wf.long) (ntt-rest s h wh.long)))

@@ -1,7 +1,8 @@
 -- Inside the layer: the transform and its inverse modulo one prime, by halves (000, 2.7.2), and the number below q with two given rests.
 -- No layer above cites this file.
-use Rattle.std.specs.Prelude.{Bool, true, false, List, ◌++◌, ℕ, zero, suc, ◌+◌, ◌*◌, ◌-◌, ◌%◌, ◌/◌, ◌^◌, take, drop}
+use Rattle.std.specs.Prelude.{List, ◌++◌, ℕ, zero, suc, ◌+◌, ◌*◌, ◌-◌, ◌%◌, ◌/◌, ◌^◌, take, drop}
 use Rattle.hash.specs.Lists.{table}
+use Rattle.ring.specs.declared.prime.Prime.{Prime}
 use Rattle.ring.specs.Poly.{map_n, map2}
 
 -- the lowest b bits of k, in reverse (2.7.1)
@@ -10,27 +11,27 @@ rev zero k = 0
 rev (suc b) k = (k % 2) * 2 ^ b + rev b (k / 2)
 
 -- the two primes, q = q1 q2, and g modulo each
-abbrev pub prime : Bool → ℕ
-prime false = 16515073
-prime true = 33292289
+abbrev pub prime : Prime → ℕ
+prime Prime.First = 16515073
+prime Prime.Second = 33292289
 
-abbrev pub gen : Bool → ℕ
-gen false = 12686483
-gen true = 11827776
+abbrev pub gen : Prime → ℕ
+gen Prime.First = 12686483
+gen Prime.Second = 11827776
 
 -- 1 / 512 modulo the prime
-abbrev pub over512 : Bool → ℕ
-over512 false = 16482817
-over512 true = 33227265
+abbrev pub over512 : Prime → ℕ
+over512 Prime.First = 16482817
+over512 Prime.Second = 33227265
 
 -- the factor at node k of the tree of halves, 1 at its top, 2 k and 2 k + 1 below k; and the table of them
 unfoldable pub power : ℕ → ℕ → ℕ → ℕ
 power p g k = g ^ rev 9 k % p
 
-abbrev pub zeta : Bool → ℕ → ℕ
+abbrev pub zeta : Prime → ℕ → ℕ
 zeta s k = power (prime s) (gen s) k
 
-unfoldable pub powers : Bool → List ℕ
+unfoldable pub powers : Prime → List ℕ
 powers s = table (zeta s) 512
 
 -- a + w b and a - w b
@@ -76,9 +77,9 @@ abbrev pub timesp : ℕ → ℕ → ℕ → ℕ
 timesp p a b = (a * b) % p
 
 -- the inverse transform modulo one prime
-unfoldable pub back_one : Bool → List ℕ → List ℕ
+unfoldable pub back_one : Prime → List ℕ → List ℕ
 back_one s f = scale (prime s) (over512 s) (bwd (prime s) (zeta s) 9 1 f)
 
 -- the number below q with the least residue r1 modulo q1, and congruent to r2 modulo q2; 520194 is 1 / q1 modulo q2
 abbrev pub crt_of : ℕ → ℕ → ℕ
-crt_of r2 r1 = r1 + prime false * (((r2 + (prime true - r1)) * 520194) % prime true)
+crt_of r2 r1 = r1 + prime Prime.First * (((r2 + (prime Prime.Second - r1)) * 520194) % prime Prime.Second)

@@ -1,6 +1,7 @@
 -- The number theoretic transform of R_q (000, 2.7.1).
-use Rattle.std.specs.Prelude.{true, false, List, ℕ, ◌+◌, ◌*◌, ◌%◌, ◌^◌}
+use Rattle.std.specs.Prelude.{List, ℕ, ◌+◌, ◌*◌, ◌%◌, ◌^◌}
 use Rattle.hash.specs.Lists.{table}
+use Rattle.ring.specs.declared.prime.Prime.{Prime}
 use Rattle.ring.specs.Words.{q}
 use Rattle.ring.specs.Poly.{eval, map2, prod}
 use Rattle.ring.specs.Residue.{rev, prime, mods, back_one, crt_of}
@@ -19,7 +20,7 @@ ntt f = table (λ (i : ℕ). eval f (root i) % q) 512
 -- its inverse: the one polynomial of 512 words whose transform is x, as the contract of `poly::intt` promises (theorem `ntt-intt`; that
 -- there is no other: `intt-ntt`)
 unfoldable pub intt : List ℕ → List ℕ
-intt x = map2 crt_of (back_one true (mods (prime true) x)) (back_one false (mods (prime false) x))
+intt x = map2 crt_of (back_one Prime.Second (mods (prime Prime.Second) x)) (back_one Prime.First (mods (prime Prime.First) x))
 
 -- the pointwise product f^ o g^
 unfoldable pub pointwise : List ℕ → List ℕ → List ℕ

@@ -1,13 +1,19 @@
 -- Steps (what the code leaves on its way; no call's contract reaches these): the answer of SampleQ as the code gives it, and the draws that it gathers.
-use Rattle.std.specs.Prelude.{ℕ, ◌≡◌, true, false, List, ◌++◌, length, take, replicate}
+use Rattle.std.specs.Prelude.{ℕ, ◌≡◌, List, ◌++◌, length, take, Some, None}
+use Rattle.std.specs.Prelude as code
 use Rattle.std.proofs.Math.Option.{Option, some, none}
+use Rattle.hash.specs.Lists.{zeros}
+use Rattle.ring.specs.Checks.{held_or}
 use Rattle.ring.specs.Uniform.{kept}
-use Rattle.ring.specs.declared.uniform.Sampled.{Sampled}
+
+-- what may not be there, as the code's Option
+unfoldable pub option_of : {A : Type 0} → Option A → code.Option A
+option_of none = None
+option_of (some a) = Some a
 
 -- a polynomial, or zero where there is none
-unfoldable pub held_of : Option (List ℕ) → Sampled
-held_of (some f) = record { ok = true; poly = f }
-held_of none = record { ok = false; poly = replicate 512 0 }
+unfoldable pub poly_of : Option (List ℕ) → List ℕ
+poly_of o = held_or o (zeros 512)
 
 -- those kept of the first n draws of s, behind the first k words of a, and no more than 512 in all: they are the first r words of a'
 pub record Gathered (s : List ℕ) (n : ℕ) (a : List ℕ) (k : ℕ) (a' : List ℕ) (r : ℕ) : Type 0 where

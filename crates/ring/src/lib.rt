@@ -4,6 +4,7 @@
 
 pub mod poly;
 mod powers;
+mod prime;
 mod residue;
 pub mod rns;
 pub mod uniform;

@@ -1,20 +1,18 @@
 // Polynomials of R_q, by value: 512 coefficients below q, or the 512 values of the transform (000, 2.2 and 2.7.1).
-ghost use Rattle.std.specs.Prelude.{◌≡◌, ◌*◌, ◌%◌, ◌^◌, ◌<◌, length};
+ghost use Rattle.std.specs.Prelude.{◌≡◌, ◌*◌, ◌%◌, ◌^◌, ◌<◌, ◌≤◌, length};
 ghost use Rattle.ring.specs.Words.{q, addq, subq, add_w, sub_w, Below, all_below, Residues, Words};
 ghost use Rattle.ring.specs.Transform.{ntt, intt, pointwise};
-ghost use Rattle.ring.specs.Round.{rounded, round_t, round_w, scaled_t, centred, residue, residues};
+ghost use Rattle.ring.specs.Round.{rounded, scaled_t, centred, residue, residues};
+ghost use Rattle.ring.specs.Poly.{map_n};
 
-use crate::residue::{backward, combine, combined, forward, mul, narrow, reduce};
+use crate::prime::Prime;
+use crate::residue::{backward_both, combine, combined, forward, mul, narrow, reduce};
 
 // The modulus q (000, Tables 2 to 4).
 pub const Q: u64 = 549824583172097;
 
-// Rounding divides t by 2^42 and w by 2^44 (2.2): 2^42, and half of each.
+// 2^42: rounding divides t by it (2.2).
 const SCALE_T: u64 = 4398046511104;
-
-const HALF_T: u64 = 2199023255552;
-
-const HALF_W: u64 = 8796093022208;
 
 // 2^63 - q: with it, a word from q on reaches bit 63.
 const UP_TO_63: u64 = 9222822212271603711;
@@ -25,8 +23,8 @@ pub fn ntt(f: [u64; 512]) -> [u64; 512]
 {
     let mut a = f;
     let mut b = f;
-    forward(true, &mut a);
-    forward(false, &mut b);
+    forward(Prime::Second, &mut a);
+    forward(Prime::First, &mut b);
     combined(&mut a, &b);
     a
 }
@@ -37,9 +35,7 @@ pub fn intt(x: [u64; 512]) -> [u64; 512]
 {
     let mut a = x;
     let mut b = x;
-    backward(true, &mut a);
-    backward(false, &mut b);
-    combined(&mut a, &b);
+    backward_both(&mut a, &mut b);
     a
 }
 
@@ -69,35 +65,24 @@ fn sub_word(x: u64, y: u64) -> u64
 fn mul_word(x: u64, y: u64) -> u64
     ensures { result ≡ (x * y) % q }
 {
-    let r2 = mul(true, reduce(true, x), reduce(true, y));
-    let r1 = mul(false, reduce(false, x), reduce(false, y));
-    combine(r2, narrow(false, r1))
+    let r2 = mul(
+        Prime::Second,
+        reduce(Prime::Second, x),
+        reduce(Prime::Second, y),
+    );
+    let r1 = mul(
+        Prime::First,
+        reduce(Prime::First, x),
+        reduce(Prime::First, y),
+    );
+    combine(r2, narrow(Prime::First, r1))
 }
 
 // Is every word below p?
 pub fn all_below(s: &[u64], p: u64) -> bool
     ensures { result ≡ all_below p s.now }
 {
-    let mut i = 0;
-    while i < s.len() {
-        if p <= s[i] {
-            return false;
-        }
-        i += 1;
-    }
-    true
-}
-
-// p into s, which is as long.
-pub fn copy_into(s: &mut [u64], p: &[u64])
-    requires { length s.old ≡ length p.now }
-    ensures { s.new ≡ p.now }
-{
-    let mut i: usize = 0;
-    while i < p.len() {
-        s[i] = p[i];
-        i += 1;
-    }
+    s.iter().all(|x| *x < p)
 }
 
 // s + p, place by place, into s.
@@ -105,10 +90,8 @@ pub fn add_into(s: &mut [u64], p: &[u64])
     requires { (length s.old ≡ length p.now) × Below q s.old × Below q p.now }
     ensures { (s.new ≡ add_w s.old p.now) × Below q s.new }
 {
-    let mut i = 0;
-    while i < s.len() {
+    for i in 0..s.len() {
         s[i] = add_word(s[i], p[i]);
-        i += 1;
     }
 }
 
@@ -117,10 +100,8 @@ pub fn sub_into(s: &mut [u64], p: &[u64])
     requires { (length s.old ≡ length p.now) × Below q s.old × Below q p.now }
     ensures { (s.new ≡ sub_w s.old p.now) × Below q s.new }
 {
-    let mut i = 0;
-    while i < s.len() {
+    for i in 0..s.len() {
         s[i] = sub_word(s[i], p[i]);
-        i += 1;
     }
 }
 
@@ -129,10 +110,8 @@ fn mul_into(s: &mut [u64], p: &[u64])
     requires { length s.old ≡ length p.now }
     ensures { (s.new ≡ pointwise s.old p.now) × Below q s.new }
 {
-    let mut i = 0;
-    while i < s.len() {
+    for i in 0..s.len() {
         s[i] = mul_word(s[i], p[i]);
-        i += 1;
     }
 }
 
@@ -165,45 +144,22 @@ pub fn pointwise(a: [u64; 512], b: [u64; 512]) -> [u64; 512]
     r
 }
 
-// Rounding by 42 bits to the modulus 125, and by 44 bits to 31 (2.2).
-fn rounded_t(x: u64) -> u64
-    requires { x < q }
-    ensures { result ≡ rounded 42 125 x }
+// Rounding by BITS bits to the modulus M (2.2): half is added, the low bits go.
+fn rounded<const BITS: usize, const M: u64>(x: u64) -> u64
+    requires { (x < q) × (1 ≤ BITS) × (BITS ≤ 63) × (0 < M) }
+    ensures { result ≡ rounded BITS M x }
 {
-    ((x + HALF_T) >> 42) % 125
+    ((x + (1 << (BITS - 1))) >> BITS) % M
 }
 
-fn rounded_w(x: u64) -> u64
-    requires { x < q }
-    ensures { result ≡ rounded 44 31 x }
-{
-    ((x + HALF_W) >> 44) % 31
-}
-
-// The rounded t of a public key.
-pub fn round_t(f: [u64; 512]) -> [u64; 512]
-    requires { Words 512 f }
-    ensures { (result ≡ round_t f) × Residues 125 512 result }
+// .. of each coefficient: 42 bits and 125 for the t of a public key, 44 bits and 31 for a commitment w.
+pub fn round<const BITS: usize, const M: u64>(f: [u64; 512]) -> [u64; 512]
+    requires { Words 512 f × (1 ≤ BITS) × (BITS ≤ 63) × (0 < M) }
+    ensures { (result ≡ map_n (rounded BITS M) f) × Residues M 512 result }
 {
     let mut r = f;
-    let mut i = 0;
-    while i < 512 {
-        r[i] = rounded_t(r[i]);
-        i += 1;
-    }
-    r
-}
-
-// The rounded commitment w.
-pub fn round_w(f: [u64; 512]) -> [u64; 512]
-    requires { Words 512 f }
-    ensures { (result ≡ round_w f) × Residues 31 512 result }
-{
-    let mut r = f;
-    let mut i = 0;
-    while i < 512 {
-        r[i] = rounded_w(r[i]);
-        i += 1;
+    for x in r.iter_mut() {
+        *x = rounded::<BITS, M>(*x);
     }
     r
 }
@@ -221,10 +177,8 @@ pub fn scale_t(f: [u64; 512]) -> [u64; 512]
     ensures { (result ≡ scaled_t f) × Words 512 result }
 {
     let mut r = f;
-    let mut i = 0;
-    while i < 512 {
-        r[i] = scaled_t(r[i]);
-        i += 1;
+    for x in r.iter_mut() {
+        *x = scaled_t(*x);
     }
     r
 }
@@ -236,7 +190,7 @@ fn signed(c: i8) -> u64
     if 0 <= c {
         c as u64
     } else {
-        Q - ((0 - (c as i64)) as u64)
+        Q - (-(c as i64) as u64)
     }
 }
 
@@ -245,10 +199,8 @@ pub fn from_signed(c: [i8; 512]) -> [u64; 512]
     ensures { (result ≡ residues q c) × Words 512 result }
 {
     let mut r = [0u64; 512];
-    let mut i = 0;
-    while i < 512 {
-        r[i] = signed(c[i]);
-        i += 1;
+    for (i, x) in r.iter_mut().enumerate() {
+        *x = signed(c[i]);
     }
     r
 }
@@ -261,6 +213,6 @@ pub fn centred(x: u64, m: u64) -> i64
     if x <= m / 2 {
         x as i64
     } else {
-        0 - ((m - x) as i64)
+        -((m - x) as i64)
     }
 }

@@ -2,6 +2,8 @@
 ghost use Rattle.std.specs.Prelude.{◌≡◌};
 ghost use Rattle.ring.specs.Residue.{powers};
 
+use crate::prime::Prime;
+
 const FIRST: [u64; 512] = [
     1, 7082569, 4370030, 8577186, 9823824, 7865294, 1813556, 4449468, 2419755, 10651816, 15396699,
     14804527, 12679402, 15267332, 9031366, 444669, 16282964, 15388545, 15975317, 439657, 5134148,
@@ -115,8 +117,11 @@ const SECOND: [u64; 512] = [
 ];
 
 // The table of one prime. It is laid on the stack where it is asked for: make it once for a transform, and lend it.
-pub fn powers(second: bool) -> [u64; 512]
-    ensures { result ≡ powers second }
+pub fn powers(which: Prime) -> [u64; 512]
+    ensures { result ≡ powers which }
 {
-    if second { SECOND } else { FIRST }
+    match which {
+        Prime::First => FIRST,
+        Prime::Second => SECOND,
+    }
 }

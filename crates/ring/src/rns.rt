@@ -6,8 +6,8 @@ ghost use Rattle.ring.specs.Poly.{map2};
 ghost use Rattle.ring.specs.Transform.{ntt, intt};
 ghost use Rattle.ring.specs.Rns.{residue_in, words_of, recombined, times_in, multiple, Accrued};
 
-use crate::poly::copy_into;
-use crate::residue::{backward, combined, forward_words, low32, reduce_words};
+use crate::prime::Prime;
+use crate::residue::{backward_both, forward_words, low32, reduce_words};
 
 // 2^30
 const TWO_30: u64 = 1073741824;
@@ -21,21 +21,23 @@ fn word_of_two(r2: u64, r1: u64) -> u64
 }
 
 // The residue modulo a prime in a word of two, seen to have 32 bits.
-fn residue_in(second: bool, x: u64) -> u64
+fn residue_in(which: Prime, x: u64) -> u64
     requires { x < 2 ^ 60 }
-    ensures { (result ≡ residue_in second x) × (result < 2 ^ 30) }
+    ensures { (result ≡ residue_in which x) × (result < 2 ^ 30) }
 {
-    if second { low32(x >> 30) } else { x % TWO_30 }
+    match which {
+        Prime::First => x % TWO_30,
+        Prime::Second => low32(x >> 30),
+    }
 }
 
 // A multiple of the prime above every product of two residues.
-fn multiple(second: bool) -> u64
-    ensures { result ≡ multiple second }
+fn multiple(which: Prime) -> u64
+    ensures { result ≡ multiple which }
 {
-    if second {
-        1152921504612891761
-    } else {
-        1152921504607633342
+    match which {
+        Prime::First => 1152921504607633342,
+        Prime::Second => 1152921504612891761,
     }
 }
 
@@ -44,10 +46,8 @@ fn words_of_two(a: &mut [u64], b: &[u64])
     requires { Residues (2 ^ 30) 512 a.old × Residues (2 ^ 30) 512 b.now }
     ensures { (words_of a.new ≡ recombined a.old b.now) × Residues (2 ^ 60) 512 a.new }
 {
-    let mut i = 0;
-    while i < a.len() {
+    for i in 0..a.len() {
         a[i] = word_of_two(a[i], b[i]);
-        i += 1;
     }
 }
 
@@ -57,9 +57,9 @@ pub fn ntt_residues(a: &mut [u64])
     ensures { (words_of a.new ≡ ntt a.old) × Residues (2 ^ 60) 512 a.new }
 {
     let mut b = [0u64; 512];
-    copy_into(&mut b, a);
-    forward_words(true, a);
-    forward_words(false, &mut b);
+    b.copy_from_slice(a);
+    forward_words(Prime::Second, a);
+    forward_words(Prime::First, &mut b);
     words_of_two(a, &b);
 }
 
@@ -70,36 +70,32 @@ pub fn residues_of(f: [u64; 512]) -> [u64; 512]
 {
     let mut a = f;
     let mut b = f;
-    reduce_words(true, &mut a);
-    reduce_words(false, &mut b);
+    reduce_words(Prime::Second, &mut a);
+    reduce_words(Prime::First, &mut b);
     words_of_two(&mut a, &b);
     a
 }
 
 // The products of the residues of a and x modulo one prime, added to s, not reduced.
-fn add_times(second: bool, s: &mut [u64], a: &[u64], x: &[u64])
+fn add_times(which: Prime, s: &mut [u64], a: &[u64], x: &[u64])
     requires { Residues (15 * 2 ^ 60) 512 s.old × Residues (2 ^ 60) 512 a.now × Residues (2 ^ 60) 512 x.now }
-    ensures { s.new ≡ map2 (λ (y z : ℕ). y + z) s.old (map2 (times_in second) a.now x.now) }
+    ensures { s.new ≡ map2 (λ (y z : ℕ). y + z) s.old (map2 (times_in which) a.now x.now) }
 {
-    let mut i = 0;
-    while i < s.len() {
-        s[i] = s[i] + residue_in(second, a[i]) * residue_in(second, x[i]);
-        i += 1;
+    for i in 0..s.len() {
+        s[i] += residue_in(which, a[i]) * residue_in(which, x[i]);
     }
 }
 
 // The same, subtracted from a multiple of the prime.
-fn sub_times(second: bool, s: &mut [u64], a: &[u64], x: &[u64])
+fn sub_times(which: Prime, s: &mut [u64], a: &[u64], x: &[u64])
     requires { Residues (14 * 2 ^ 60) 512 s.old × Residues (2 ^ 60) 512 a.now × Residues (2 ^ 60) 512 x.now }
-    ensures { s.new ≡ map2 (λ (y z : ℕ). y + (multiple second - z)) s.old
-        (map2 (times_in second) a.now x.now) }
+    ensures { s.new ≡ map2 (λ (y z : ℕ). y + (multiple which - z)) s.old
+        (map2 (times_in which) a.now x.now) }
 {
-    let mut i = 0;
-    while i < s.len() {
-        let m = multiple(second);
-        let t = residue_in(second, a[i]) * residue_in(second, x[i]);
-        s[i] = s[i] + (m - t);
-        i += 1;
+    for i in 0..s.len() {
+        let m = multiple(which);
+        let t = residue_in(which, a[i]) * residue_in(which, x[i]);
+        s[i] += m - t;
     }
 }
 
@@ -110,8 +106,8 @@ pub fn add_product(hi: &mut [u64], lo: &mut [u64], a: &[u64], x: &[u64])
     ensures { Accrued add_w (2 ^ 60) a.now x.now hi.old lo.old hi.new
         lo.new }
 {
-    add_times(true, hi, a, x);
-    add_times(false, lo, a, x);
+    add_times(Prime::Second, hi, a, x);
+    add_times(Prime::First, lo, a, x);
 }
 
 // .. subtracted from them.
@@ -121,8 +117,8 @@ pub fn sub_product(hi: &mut [u64], lo: &mut [u64], a: &[u64], x: &[u64])
     ensures { Accrued sub_w (2 ^ 61) a.now x.now hi.old lo.old hi.new
         lo.new }
 {
-    sub_times(true, hi, a, x);
-    sub_times(false, lo, a, x);
+    sub_times(Prime::Second, hi, a, x);
+    sub_times(Prime::First, lo, a, x);
 }
 
 // Sums reduced, turned back and recombined.
@@ -131,8 +127,6 @@ pub fn intt_sums(hi: [u64; 512], lo: [u64; 512]) -> [u64; 512]
 {
     let mut a = hi;
     let mut b = lo;
-    backward(true, &mut a);
-    backward(false, &mut b);
-    combined(&mut a, &b);
+    backward_both(&mut a, &mut b);
     a
 }

@@ -27,7 +27,7 @@ fn digest_of<R: Read>(from: &mut R) -> io::Result<[u8; 32]>
         n = read_full(from, &mut buf)?;
     }
     let last = shake::absorb(s, 0, &buf[..n]);
-    Ok(shake::digest_32(shake::finish(last, n)))
+    Ok(shake::digest(shake::finish(last, n)))
 }
 
 fn main(rt: HostRuntime) -> io::Result<()> {

@@ -1,19 +1,22 @@
 -- Lists added to the shares of one sharing, share by share, and the places of the seeds from which noise is made (000, Algorithm 8).
 use mathlib.Core.Path.{◌≡◌, sym, ap, ◌∙◌}
 use mathlib.Core.List.{List}
-use Prim.Native.Nat.{ℕ, ◌+◌, ◌*◌, ◌≤◌, ◌<◌}
+use Prim.Native.Nat.{ℕ, ◌+◌, ◌*◌, ◌/◌, ◌≤◌, ◌<◌}
 use native.Mathlib.Nat.{mul-le-mul, mul-le-mul_right, zero-mul}
 use native.Mathlib.Omega.{arith}
 use lib.ListN.{length}
+use Rattle.hash.specs.declared.params.Params.{Params}
 use Rattle.ring.specs.Words.{q, add_w, Below}
 use Rattle.sharing.specs.Blocks.{block, build}
 use Rattle.sharing.specs.Region.{span, Wrote}
-use Rattle.sharing.specs.Encoding.{Generator, skip, zero_at, add_rep}
+use Rattle.sharing.specs.Encoding.{Generator, skip}
 use Rattle.sharing.specs.Noise.{noise_header, sample_u}
+use Rattle.sharing.specs.NoiseSteps.{NoiseAt, NoiseFor}
+use Rattle.sharing.specs.declared.repeat.LentNoise.{LentNoise}
 use Rattle.sharing.proofs.Lists.{inside, block_words, build-add, blocks-all}
 use Rattle.sharing.proofs.Regions.{span-words, wrote_value, wrote-turn, wrote-end}
 use Rattle.sharing.proofs.Totals.{skip-none}
-use Rattle.sharing.proofs.Turns.{block-rest, rep-start, rep_turn}
+use Rattle.sharing.proofs.Turns.{block-rest}
 
 -- f j added to share j of X
 abbrev pub added : (ℕ → List ℕ) → List ℕ → ℕ → List ℕ
@@ -36,14 +39,6 @@ module _ (f : ℕ → List ℕ) (d at j : ℕ) (s₀ s : List ℕ) (u : Wrote 0 
       build-add 512 d (λ (i : ℕ). block 512 i X) f (λ (i : ℕ) (l : i < d). (block_words d i X w l).long) lf
       ∙ ap (λ (x : List ℕ). add_w x (build d f)) (blocks-all 512 d X w.long) in
       wrote_value m (wrote-end 512 (added f X) e u)
-
--- one repetition
-pub rep-once : (G : Generator) (d : ℕ) (g : G.State) (n at : ℕ) (f : ℕ → List ℕ) (s₀ t t' : List ℕ) → Below q s₀
-    → Wrote n at (d * 512) (add_w (span s₀ at (d * 512)) (f 0)) s₀ t
-    → Wrote n at (d * 512) (add_w (span t at (d * 512)) (zero_at G d 0 g)) t t'
-    → Wrote n at (d * 512) (add_rep G d g 1 f (span s₀ at (d * 512))) s₀ t'
-rep-once G d g n at f s₀ t t' b v w =
-    rep_turn G d g g n at 0 f s₀ s₀ t t' (sym (skip-none G d g)) (rep-start G d g n at f s₀ b) v w
 
 -- no repetition yet
 pub skip-start : (G : Generator) (d r : ℕ) (g : G.State) → g ≡ skip G d (0 * r) g
@@ -74,3 +69,9 @@ module _ (i rep d : ℕ) where
   -- the seeds of polynomial i are among those of m
   pub seeds-inside : (m n : ℕ) → i < m → (i * rep + rep) * d * n ≤ m * rep * d * n
   seeds-inside m n h = mul-le-mul_right n (mul-le-mul_right d (inside i m rep h))
+
+-- the noise of polynomial i is among that of m
+pub noise-inside : (p : Params) (i m : ℕ) → i < m → (noise : LentNoise) → NoiseFor p m noise → NoiseAt p i noise
+noise-inside p i m h (LentNoise.Seeds u seeds) w =
+    (omega (arith, seeds-inside i p.rep p.shares m (p.kappa / 8) h, w.0), w.1, omega arith, w.3, w.4)
+noise-inside p i m h (LentNoise.Words words) w = (omega (arith, inside i m (p.shares * 512) h, w.0), w.1)

@@ -26,9 +26,8 @@ use Rattle.ring.proofs.Draws.{draw-by, kept-stretch, Front, front_read, fills, u
 use Rattle.ring.proofs.Filled.{some-filled, none_filled}
 use Rattle.ring.proofs.Sums.{words-zeros}
 use Rattle.sharing.specs.declared.masks.MaskGen.{MaskGen}
-use Rattle.sharing.specs.declared.masks.Drawn.{Drawn}
 use Rattle.sharing.specs.Encoding.{later, zero_after, skip}
-use Rattle.sharing.specs.Masks.{state_of, place_in, held_at, bytes_ahead, mask_draw, mask_moved, drawn, flagged, used, mask_poly, mask_next, mask_start, masks}
+use Rattle.sharing.specs.Masks.{state_of, place_in, held_at, bytes_ahead, mask_draw, mask_moved, flagged, used, mask_poly, mask_next, mask_start, masks}
 use Rattle.sharing.proofs.Totals.{later-add}
 
 -- the state of a generator that was moved
@@ -109,11 +108,12 @@ used-stays s i (suc m) h =
     ap (used s) (add-suc i m) ∙ rw (used, le-leb _ _ l) (used-stays s i m h)
 
 -- one draw more
-pub draw-more : (h₀ h : MaskGen) (x : Drawn) (p : List ℕ) (i k : ℕ) → h ≡ mask_moved i h₀ → x ≡ drawn h → i < 777 → Front (bytes_ahead h₀) [] i p k → k < 512
-    → (x.word ≡ draw (bytes_ahead h₀) i) × (x.next ≡ mask_moved (i + 1) h₀) × (used (bytes_ahead h₀) (i + 1) ≡ i + 1)
-draw-more h₀ h x p i k e d l v n = (
-  ap (λ (x : Drawn). x.word) d ∙ ap mask_draw e ∙ draw-on i h₀ l,
-  ap (λ (x : Drawn). x.next) d ∙ ap (mask_moved 1) e ∙ moved-add i h₀ 1,
+pub draw-more : (h₀ h h' : MaskGen) (w : ℕ) (p : List ℕ) (i k : ℕ) → h ≡ mask_moved i h₀ → w ≡ mask_draw h → h' ≡ mask_moved 1 h → i < 777
+    → Front (bytes_ahead h₀) [] i p k → k < 512
+    → (w ≡ draw (bytes_ahead h₀) i) × (h' ≡ mask_moved (i + 1) h₀) × (used (bytes_ahead h₀) (i + 1) ≡ i + 1)
+draw-more h₀ h h' w p i k e d n l v o = (
+  d ∙ ap mask_draw e ∙ draw-on i h₀ l,
+  n ∙ ap (mask_moved 1) e ∙ moved-add i h₀ 1,
   used-more (bytes_ahead h₀) i (omega (arith, v.count)),
 )
 

@@ -24,7 +24,6 @@ use Rattle.hash.proofs.Word.{le_same, le-byte_of, byte-under}
 use Rattle.hash.proofs.Flat.{flat, flat-unflat}
 use Rattle.ring.proofs.Draws.{draw-by}
 use Rattle.sharing.specs.declared.masks.MaskGen.{MaskGen}
-use Rattle.sharing.specs.declared.masks.Neighbours.{Neighbours}
 use Rattle.sharing.specs.Masks.{state_of, place_in, held_at, bytes_ahead, mask_draw, mask_moved}
 
 -- ---- 49 bits of two lanes
@@ -184,11 +183,3 @@ goes_on g h =
     let d : (place_in g + 7 * 1) / 136 ≡ 1 = omega arith in
     let e : (place_in g + 7 * 1) % 136 ≡ place_in g - 129 = omega arith in
     rw (d, e, after_next, after_none)
-
--- two lanes of a list
-pub neighbours : (l : List ℕ) (k i : ℕ) → k ≡ i → ◌≡◌ {A = Neighbours} (record { low = get_or l i 0; high = get_or l (i + 1) 0 }) (record { low = get_or l k 0; high = get_or l (k + 1) 0 })
-neighbours l k i e = λ j. record { low = get_or l (sym e j) 0; high = get_or l (sym e j + 1) 0 }
-
--- a number from i on, and not i
-pub from_next : (k i : ℕ) → (k ≡ i → ⊥) → i ≤ k → i + 1 ≤ k
-from_next k i h l = omega arith

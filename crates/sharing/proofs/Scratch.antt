@@ -10,17 +10,13 @@ use Rattle.sharing.specs.EncodingSteps.{last_zero}
 use Rattle.sharing.proofs.Totals.{zero-later, zero-here}
 
 module _ (G : Generator) (d : ℕ) where
-  -- none, and one
+  -- none
   pub last_none : (g : G.State) (xs : List ℕ) → xs ≡ last_zero G d g 0 xs
   unfolding last_zero
   last_none g xs = refl
 
   pub last-start : (r : ℕ) (g : G.State) (xs : List ℕ) → xs ≡ last_zero G d g (0 * r) xs
   last-start r g xs = last_none g xs ∙ ap (λ (k : ℕ). last_zero G d g k xs) (sym (zero-mul r))
-
-  pub last_one : (g : G.State) (xs : List ℕ) → zero_at G d 0 g ≡ last_zero G d g 1 xs
-  unfolding last_zero
-  last_one g xs = refl
 
   -- one more, behind n of them
   pub last-next : (n : ℕ) (g x : G.State) (xs z : List ℕ) → x ≡ skip G d n g → z ≡ zero_at G d 0 x → z ≡ last_zero G d g (n + 1) xs

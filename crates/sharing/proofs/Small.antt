@@ -1,15 +1,15 @@
 -- Samples cut from a buffer: where they lie, and 2 ^ u for u bits, u from 1 to 48 (000, Algorithm 7).
-use mathlib.Core.Path.{◌≡◌, sym, ap, ◌∙◌}
+use mathlib.Core.Path.{◌≡◌, ap, ◌∙◌}
 use mathlib.Core.List.{List}
 use Prim.Native.Nat.{ℕ, suc, ◌+◌, ◌-◌, ◌*◌, ◌/◌, ◌%◌, ◌^◌, ◌≤◌, ◌<◌}
-use native.Mathlib.Nat.{mod-lt, one-mul, mul-suc, mul-le-mul_left}
+use native.Mathlib.Nat.{mod-lt, one-mul}
 use native.Mathlib.Numerals.{add-one}
 use native.Mathlib.Omega.{arith}
 use lib.Dec.{lit<}
 use lib.ListN.{length, take, set}
-use lib.Seq.{take_at, take-suc-set}
+use lib.Seq.{take_at, take-suc-set, length-take-le}
 use lib.Pow.{pow_pos, pow_mono, shl_exact}
-use borrow.Rule.Slice.PartMut.{mid_of, post_of, put_mid, same_len_mid, mid_len}
+use borrow.Rule.Slice.PartMut.{mid_of, post_of, put_mid}
 use Rattle.hash.specs.Keccak.{State}
 use Rattle.hash.specs.Lists.{table}
 use Rattle.hash.specs.Shake.{stream}
@@ -17,31 +17,21 @@ use Rattle.hash.proofs.Table.{table-next, length-table}
 
 -- ---- numbers of w bytes, 512 of them
 
--- number i lies within n bytes
-pub number-inside : (w i n : ℕ) → i < 512 → w * 512 ≤ n → w * i + w ≤ n
-number-inside w i n h l =
-    let m : w * suc i ≤ w * 512 = mul-le-mul_left w h in
-    omega (arith, m, mul-suc w i)
-
 -- one number more
 pub sample-more : (f : ℕ → ℕ) (p : List ℕ) (i v : ℕ) → i < length p → take i p ≡ table f i → v ≡ f i
     → take (i + 1) (set p i v) ≡ table f (i + 1)
 sample-more f p i v h e d = rw (add-one, take-suc-set p i v h, e, d, table-next f i)
 
 -- the first n bytes of a buffer xs, written with a stream and read back
-module _ (xs ys : List ℕ) (n : ℕ) (A : State) (h : n ≤ length xs) (e : ys ≡ table (stream A) (length (mid_of 0 (n - 0) xs))) where
-  long : length ys ≡ n - 0
-  long = ap (λ l. length l) e ∙ length-table (stream A) (length (mid_of 0 (n - 0) xs)) ∙ mid_len 0 n xs h
+module _ (xs ys : List ℕ) (n : ℕ) (A : State) (h : n ≤ length xs) (e : ys ≡ table (stream A) (length (mid_of 0 n xs))) where
+  mid-long : length (mid_of 0 n xs) ≡ n
+  mid-long = length-take-le n xs h
 
-  pub stream-in : n ≤ length (put_mid 0 (n - 0) xs ys)
-  stream-in =
-      let l : length (put_mid 0 (n - 0) xs ys) ≡ length xs = same_len_mid 0 (n - 0) xs ys (long ∙ sym (mid_len 0 n xs h)) in
-      rw l h
+  long : length ys ≡ n
+  long = ap length e ∙ length-table (stream A) (length (mid_of 0 n xs)) ∙ mid-long
 
-  pub stream-is : take (n - 0) (put_mid 0 (n - 0) xs ys) ≡ table (stream A) n
-  stream-is =
-      let z : n - 0 ≡ n = omega arith in
-      take_at ys (post_of 0 (n - 0) xs) (n - 0) long ∙ e ∙ ap (table (stream A)) (mid_len 0 n xs h ∙ z)
+  pub stream-is : take n (put_mid 0 n xs ys) ≡ table (stream A) n
+  stream-is = take_at ys (post_of 0 n xs) n long ∙ e ∙ ap (table (stream A)) mid-long
 
 -- ---- 2 ^ u
 

@@ -5,7 +5,7 @@ use Prim.Native.Nat.{ℕ, ◌+◌, ◌-◌, ◌*◌, ◌/◌, ◌%◌, ◌<◌}
 use lib.ListN.{get_or}
 use Rattle.hash.specs.declared.params.Edition.{Edition}
 use Rattle.hash.specs.declared.params.Params.{Params}
-use Rattle.hash.specs.declared.params.Selected.{Selected}
+use Rattle.std.specs.Prelude.{Ok}
 use Rattle.hash.specs.Params.{lookup_of}
 use Rattle.hash.proofs.Worked.{Counts, counts-1, counts-2, counts-32}
 use Rattle.ring.specs.Words.{q, addq, Words}
@@ -35,11 +35,11 @@ unfolding noise_bytes
 noise-counts κ d k l r p h = rw (h.kappa-is, h.shares-is, h.k-is, h.l-is, h.rep-is)
 
 -- those of 128-1, 128-2 and 128-32, in either edition
-pub p12-1 : (e : Edition) → (p : Params) × ((lookup_of 128 1 e ≡ Selected.Found p) × (noise_bytes p ≡ 1152))
+pub p12-1 : (e : Edition) → (p : Params) × ((lookup_of 128 1 e ≡ Ok p) × (noise_bytes p ≡ 1152))
 p12-1 e = let c = counts-1 e in (c.0, (c.1.0, noise-counts 128 1 5 4 8 c.0 c.1.1))
 
-pub p12-2 : (e : Edition) → (p : Params) × ((lookup_of 128 2 e ≡ Selected.Found p) × (noise_bytes p ≡ 1152))
+pub p12-2 : (e : Edition) → (p : Params) × ((lookup_of 128 2 e ≡ Ok p) × (noise_bytes p ≡ 1152))
 p12-2 e = let c = counts-2 e in (c.0, (c.1.0, noise-counts 128 2 5 4 4 c.0 c.1.1))
 
-pub p12-32 : (e : Edition) → (p : Params) × ((lookup_of 128 32 e ≡ Selected.Found p) × (noise_bytes p ≡ 18432))
+pub p12-32 : (e : Edition) → (p : Params) × ((lookup_of 128 32 e ≡ Ok p) × (noise_bytes p ≡ 18432))
 p12-32 e = let c = counts-32 e in (c.0, (c.1.0, noise-counts 128 32 5 4 4 c.0 c.1.1))

@@ -9,7 +9,7 @@ ghost use Rattle.sharing.specs.EncodingSteps.{WroteMasked};
 ghost use Rattle.sharing.specs.Masks.{masks};
 
 use crate::masks::{MaskGen, fill};
-use crate::region::{add_at, clear, load, sub_at};
+use crate::region::{add_at, load, sub_at};
 use hash::params::Params;
 
 // Algorithm 12, the pairs: for each of h a polynomial of masking words, added on the left, subtracted on the right.
@@ -34,7 +34,7 @@ pub fn zero_encoding(s: &mut [u64], d: usize, g: MaskGen) -> MaskGen
     ensures { (s.new ≡ zero_encoding masks (order_index d) g) × (result ≡ zero_after masks (order_index d) g) }
 {
     if d == 1 {
-        clear(s);
+        s.fill(0);
         return g;
     }
     let h = d / 2;
@@ -49,8 +49,7 @@ pub fn zero_encoding_at(s: &mut [u64], at: usize, d: usize, g: MaskGen) -> MaskG
     requires { ShareCount d × (at + d * 512 ≤ length s.old) × Below q s.old }
     ensures { Wrote 0 at (d * 512) (zero_at masks d 0 g) s.old s.new × (result ≡ skip masks d 1 g) }
 {
-    let e = at + d * 512;
-    zero_encoding(&mut s[at..e], d, g)
+    zero_encoding(&mut s[at..at + d * 512], d, g)
 }
 
 // The sharing in the scratch is added to the one at `at`.

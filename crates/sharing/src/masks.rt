@@ -5,8 +5,6 @@ ghost use Rattle.hash.specs.Keccak.{lanes};
 ghost use Rattle.sharing.specs.declared.masks.Neighbours.{Neighbours};
 ghost use Rattle.sharing.specs.Masks.{held_at, mask_draw, mask_moved, mask_start, drawn, flagged, mask_poly, mask_next};
 
-use crate::region::clear;
-use hash::num::least;
 use ring::poly::Q;
 
 // A state of SHAKE256, its lanes in the order of FIPS 202, 3.1.2; the place of the next draw, a byte of its block; and whether no polynomial ran dry.
@@ -58,8 +56,8 @@ fn hold(s: [[u64; 5]; 5], at: usize, ok: bool) -> MaskGen
             a[0], a[1], a[2], a[3], a[4], b[0], b[1], b[2], b[3], b[4], c[0], c[1], c[2], c[3],
             c[4], d[0], d[1], d[2], d[3], d[4], e[0], e[1], e[2], e[3], e[4],
         ],
-        at: at,
-        ok: ok,
+        at,
+        ok,
     }
 }
 
@@ -75,11 +73,9 @@ pub fn start(seed: &[u8]) -> MaskGen
 fn settled(g: MaskGen) -> MaskGen
     ensures { result ≡ mask_moved 0 g }
 {
-    let l = g.lanes;
     MaskGen {
-        lanes: l,
-        at: least(g.at, 135),
-        ok: g.ok,
+        at: g.at.min(135),
+        ..g
     }
 }
 
@@ -176,30 +172,25 @@ fn step(g: MaskGen) -> Drawn
     ensures { result ≡ drawn g }
 {
     let l = g.lanes;
-    let ok = g.ok;
     let place = g.at;
     if place < 129 {
         let n = lanes_from(l, place / 8);
         let word = draw_bits(n.low, n.high, place % 8);
         return Drawn {
-            word: word,
-            next: MaskGen {
-                lanes: l,
-                at: place + 7,
-                ok: ok,
-            },
+            word,
+            next: MaskGen { at: place + 7, ..g },
         };
     }
-    let at = least(place, 135);
+    let at = place.min(135);
     let s = hash::keccak::permute(planes(l));
     let word = draw_bits(l[16], s[0][0], at % 8);
     Drawn {
-        word: word,
-        next: hold(s, at - 129, ok),
+        word,
+        next: hold(s, at - 129, g.ok),
     }
 }
 
-// A draw: the generator is lent, and moved on. It has one caller, as draw_value has, so that both are compiled into fill.
+// A draw: the generator is lent, and moved on. It has one caller, so that it is compiled into fill.
 pub fn draw(g: &mut MaskGen) -> u64
     ensures { (result ≡ mask_draw g.old) × (g.new ≡ mask_moved 1 g.old) }
 {
@@ -208,25 +199,11 @@ pub fn draw(g: &mut MaskGen) -> u64
     x.word
 }
 
-// The same with the generator by value.
-pub fn draw_value(g: MaskGen) -> Drawn
-    ensures { result ≡ drawn g }
-{
-    let mut h = g;
-    let w = draw(&mut h);
-    Drawn { word: w, next: h }
-}
-
 // The generator, dry.
 fn dried(g: MaskGen) -> MaskGen
     ensures { result ≡ flagged false g }
 {
-    let l = g.lanes;
-    MaskGen {
-        lanes: l,
-        at: g.at,
-        ok: false,
-    }
+    MaskGen { ok: false, ..g }
 }
 
 // The next polynomial into p, and the generator behind it: draws below q until there are 512, at most 777 draws. Else p is zero and the generator
@@ -236,25 +213,21 @@ pub fn fill(p: &mut [u64], g: MaskGen) -> MaskGen
     ensures { (p.new ≡ mask_poly g) × (result ≡ mask_next g) }
 {
     if !g.ok {
-        clear(p);
+        p.fill(0);
         return g;
     }
     let mut h = settled(g);
     let mut k: usize = 0;
-    let mut i: usize = 0;
-    while k < 512 {
-        if i == 777 {
-            clear(p);
-            return dried(h);
-        }
-        let x = draw_value(h);
-        h = x.next;
-        i += 1;
-        let w = x.word;
+    for _ in 0..777usize {
+        let w = draw(&mut h);
         p[k] = w;
         if w < Q {
             k += 1;
         }
+        if k == 512 {
+            return h;
+        }
     }
-    h
+    p.fill(0);
+    dried(h)
 }

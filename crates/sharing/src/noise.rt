@@ -33,17 +33,12 @@ fn samples(b: &[u8], u: usize) -> [u64; 512]
     requires { (1 ≤ u) × (u ≤ 48) × (width u * 512 ≤ length b.now) }
     ensures { result ≡ table (sample_at u b.now) 512 }
 {
-    let w = (u + 7) / 8;
-    if w == 1 {
-        return cut(b, u, 1);
+    match (u + 7) / 8 {
+        1 => cut(b, u, 1),
+        5 => cut(b, u, 5),
+        6 => cut(b, u, 6),
+        w => cut(b, u, w),
     }
-    if w == 5 {
-        return cut(b, u, 5);
-    }
-    if w == 6 {
-        return cut(b, u, 6);
-    }
-    cut(b, u, w)
 }
 
 // Algorithm 7: 512 samples of the stream of a header and a seed.
@@ -53,6 +48,6 @@ pub fn sample_u(header: &[u8; 8], seed: &[u8], u: usize) -> [u64; 512]
 {
     let n = (u + 7) / 8 * 512;
     let mut b = [0u8; 3072];
-    hash::shake::squeeze(hash::shake::begin(header, seed), &mut b[0..n]);
-    samples(&b[0..n], u)
+    hash::shake::squeeze(hash::shake::begin(header, seed), &mut b[..n]);
+    samples(&b[..n], u)
 }

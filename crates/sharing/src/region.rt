@@ -4,16 +4,15 @@ ghost use Rattle.ring.specs.Words.{q, add_w, sub_w, Below, Words};
 ghost use Rattle.hash.specs.Lists.{zeros};
 ghost use Rattle.sharing.specs.Region.{span, put, Wrote};
 
-use ring::poly::{add_into, copy_into, sub_into};
+use ring::poly::{add_into, sub_into};
 
 // The polynomial at `at`.
 pub fn load(s: &[u64], at: usize) -> [u64; 512]
     requires { (at + 512 ≤ length s.now) × Below q s.now }
     ensures { (result ≡ span s.now at 512) × Words 512 result }
 {
-    let e = at + 512;
     let mut p = [0u64; 512];
-    copy_into(&mut p, &s[at..e]);
+    p.copy_from_slice(&s[at..at + 512]);
     p
 }
 
@@ -22,17 +21,14 @@ pub fn store_at(s: &mut [u64], at: usize, p: &[u64; 512])
     requires { (at + 512 ≤ length s.old) × Below q s.old × Below q p.now }
     ensures { Wrote 0 at 512 p.now s.old s.new }
 {
-    let e = at + 512;
-    copy_into(&mut s[at..e], p);
+    s[at..at + 512].copy_from_slice(p);
 }
 
 // Zero everywhere.
 pub fn clear(s: &mut [u64])
     ensures { s.new ≡ zeros (length s.old) }
 {
-    for i in 0..s.len() {
-        s[i] = 0;
-    }
+    s.fill(0);
 }
 
 // p added to the polynomial at `at`.
@@ -40,8 +36,7 @@ pub fn add_at(s: &mut [u64], at: usize, p: &[u64; 512])
     requires { (at + 512 ≤ length s.old) × Below q s.old × Below q p.now }
     ensures { s.new ≡ put s.old at 512 (add_w (span s.old at 512) p.now) }
 {
-    let e = at + 512;
-    add_into(&mut s[at..e], p);
+    add_into(&mut s[at..at + 512], p);
 }
 
 // p subtracted from it.
@@ -49,6 +44,5 @@ pub fn sub_at(s: &mut [u64], at: usize, p: &[u64; 512])
     requires { (at + 512 ≤ length s.old) × Below q s.old × Below q p.now }
     ensures { s.new ≡ put s.old at 512 (sub_w (span s.old at 512) p.now) }
 {
-    let e = at + 512;
-    sub_into(&mut s[at..e], p);
+    sub_into(&mut s[at..at + 512], p);
 }

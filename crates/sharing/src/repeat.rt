@@ -1,6 +1,6 @@
 // Noise added to sharings, a refresh behind each repetition (000, Algorithm 8; 01, "Streams and shares"): from seeds, or explicit. u is the bits of a
 // sample, u_t or u_w of the record; a seed is kappa bits.
-ghost use Rattle.std.specs.Prelude.{◌+◌, ◌*◌, ◌/◌, ◌≤◌, ◌<◌, length};
+ghost use Rattle.std.specs.Prelude.{◌≡◌, ◌+◌, ◌*◌, ◌/◌, ◌≤◌, ◌<◌, length};
 ghost use Rattle.hash.specs.Params.{ShareCount};
 ghost use Rattle.ring.specs.Words.{q, add_w, Below};
 ghost use Rattle.sharing.specs.Blocks.{block};
@@ -8,7 +8,8 @@ ghost use Rattle.sharing.specs.Region.{span, Wrote};
 ghost use Rattle.sharing.specs.Encoding.{add_rep, add_noise};
 ghost use Rattle.sharing.specs.EncodingSteps.{WroteMasked};
 ghost use Rattle.sharing.specs.Masks.{masks};
-ghost use Rattle.sharing.specs.Noise.{noise_header, sample_u, seed_noise, explicit_noise};
+ghost use Rattle.sharing.specs.Noise.{noise_header, sample_u, seed_noise};
+ghost use Rattle.sharing.specs.NoiseSteps.{noise_reps, lent_noise, NoiseAt, NoiseFor};
 
 use crate::encoding::refresh_at;
 use crate::masks::MaskGen;
@@ -16,6 +17,23 @@ use crate::noise::sample_u;
 use crate::region::add_at;
 use crate::shares::add_shares_at;
 use hash::params::Params;
+
+// Noise that is lent: seeds, of samples of u bits, or the words of all shares, below q, which are added once (01: noise tape, bench form).
+#[derive(Clone, Copy)]
+pub enum LentNoise<'a> {
+    Seeds { u: usize, seeds: &'a [u8] },
+    Words(&'a [u64]),
+}
+
+// How often it is added to each polynomial.
+fn noise_reps(p: Params, noise: LentNoise) -> usize
+    ensures { result ≡ noise_reps p noise.entry }
+{
+    match noise {
+        LentNoise::Seeds { u: _, seeds: _ } => p.rep,
+        LentNoise::Words(_) => 1,
+    }
+}
 
 // Lines 5 and 6 of Algorithm 8: the noise of repetition t, polynomial i, share j, added to the polynomial at `at`.
 fn add_sample_at(
@@ -62,68 +80,57 @@ fn add_samples_at(s: &mut [u64], at: usize, p: Params, u: usize, i: usize, t: us
     }
 }
 
-// Algorithm 8 at polynomial i, its sharing at `at`: rep repetitions, and a refresh behind each.
-pub fn add_rep_noise_at(
+// .. in either form.
+fn add_once_at(s: &mut [u64], at: usize, p: Params, noise: LentNoise, i: usize, t: usize)
+    requires shares_in_bounds { (at + p.shares * 512 ≤ length s.old) × Below q s.old × (p.shares < 256) }
+    requires t_lt_reps { NoiseAt p i noise × (t < noise_reps p noise) }
+    ensures { Wrote 0 at (p.shares * 512)
+        (add_w (span s.old at (p.shares * 512)) (lent_noise p noise.entry i t))
+        s.old s.new }
+{
+    match noise {
+        LentNoise::Seeds { u, seeds } => add_samples_at(s, at, p, u, i, t, seeds),
+        LentNoise::Words(words) => add_shares_at(s, at, words, i * (p.shares * 512), p),
+    }
+}
+
+// Algorithm 8 at polynomial i, its sharing at `at`: all repetitions, and a refresh behind each.
+pub fn add_noise_at(
     s: &mut [u64],
     at: usize,
     p: Params,
-    u: usize,
+    noise: LentNoise,
     i: usize,
-    seeds: &[u8],
     g: MaskGen,
 ) -> MaskGen
     requires share_count { ShareCount p.shares × (p.shares * 512 ≤ at) × (at + p.shares * 512 ≤ length s.old) × Below q s.old }
-    requires kappa_in_bounds { ((i * p.rep + p.rep) * p.shares * (p.kappa / 8) ≤ length seeds.now) × (p.rep < 256) × (i < 256) × (1 ≤ u)
-        × (u ≤ 48) }
-    ensures { WroteMasked p.shares p.rep g result at (p.shares * 512)
-        (add_rep masks p.shares g p.rep (seed_noise p.shares p.rep u (p.kappa / 8) seeds.now i)
+    requires noise_in_bounds { NoiseAt p i noise }
+    ensures { WroteMasked p.shares (noise_reps p noise.entry) g result at (p.shares * 512)
+        (add_rep masks p.shares g (noise_reps p noise.entry) (lent_noise p noise.entry i)
         (span s.old at (p.shares * 512)))
         s.old s.new }
 {
-    let r = p.rep;
     let mut x = g;
-    for t in 0..r {
-        add_samples_at(s, at, p, u, i, t, seeds);
+    for t in 0..noise_reps(p, noise) {
+        add_once_at(s, at, p, noise, i, t);
         x = refresh_at(s, at, p, x);
     }
     x
 }
 
-// The same with explicit noise, one repetition: the d shares of polynomial i of the lent words.
-pub fn add_explicit_noise_at(
-    s: &mut [u64],
-    at: usize,
-    p: Params,
-    i: usize,
-    words: &[u64],
-    g: MaskGen,
-) -> MaskGen
-    requires share_count { ShareCount p.shares × (p.shares * 512 ≤ at) × (at + p.shares * 512 ≤ length s.old) × Below q s.old }
-    requires shares_in_bounds { (i * (p.shares * 512) + p.shares * 512 ≤ length words.now) × Below q words.now }
-    ensures { WroteMasked p.shares 1 g result at (p.shares * 512)
-        (add_rep masks p.shares g 1 (explicit_noise p.shares words.now i) (span s.old at (p.shares * 512)))
-        s.old s.new }
-{
-    let d = p.shares;
-    let from = i * (d * 512);
-    add_shares_at(s, at, words, from, p);
-    refresh_at(s, at, p, g)
-}
-
-// Algorithm 8 at m polynomials, from seeds.
+// .. at m polynomials.
 pub fn noise_vector(
     s: &mut [u64],
     at: usize,
     m: usize,
     p: Params,
-    u: usize,
-    seeds: &[u8],
+    noise: LentNoise,
     g: MaskGen,
 ) -> MaskGen
     requires share_count { ShareCount p.shares × (p.shares * 512 ≤ at) × (at + m * (p.shares * 512) ≤ length s.old) × Below q s.old }
-    requires kappa_in_bounds { (m * p.rep * p.shares * (p.kappa / 8) ≤ length seeds.now) × (p.rep < 256) × (m ≤ 256) × (1 ≤ u) × (u ≤ 48) }
-    ensures { WroteMasked p.shares (m * p.rep) g result at (m * (p.shares * 512))
-        (add_noise masks p.shares g m p.rep (seed_noise p.shares p.rep u (p.kappa / 8) seeds.now)
+    requires noise_in_bounds { NoiseFor p m noise }
+    ensures { WroteMasked p.shares (m * noise_reps p noise.entry) g result at (m * (p.shares * 512))
+        (add_noise masks p.shares g m (noise_reps p noise.entry) (lent_noise p noise.entry)
         (span s.old at (m * (p.shares * 512))))
         s.old s.new }
 {
@@ -131,32 +138,7 @@ pub fn noise_vector(
     let mut x = g;
     for i in 0..m {
         let a = at + i * (d * 512);
-        x = add_rep_noise_at(s, a, p, u, i, seeds, x);
-    }
-    x
-}
-
-// .. and with explicit noise.
-pub fn explicit_vector(
-    s: &mut [u64],
-    at: usize,
-    m: usize,
-    p: Params,
-    words: &[u64],
-    g: MaskGen,
-) -> MaskGen
-    requires share_count { ShareCount p.shares × (p.shares * 512 ≤ at) × (at + m * (p.shares * 512) ≤ length s.old) × Below q s.old }
-    requires shares_in_bounds { (m * (p.shares * 512) ≤ length words.now) × Below q words.now }
-    ensures { WroteMasked p.shares m g result at (m * (p.shares * 512))
-        (add_noise masks p.shares g m 1 (explicit_noise p.shares words.now)
-        (span s.old at (m * (p.shares * 512))))
-        s.old s.new }
-{
-    let d = p.shares;
-    let mut x = g;
-    for i in 0..m {
-        let a = at + i * (d * 512);
-        x = add_explicit_noise_at(s, a, p, i, words, x);
+        x = add_noise_at(s, a, p, noise, i, x);
     }
     x
 }

@@ -1,7 +1,6 @@
 // Sharings in a work buffer: their sums (000, Algorithm 13), and shares added to shares (01, "Streams and shares").
 ghost use Rattle.std.specs.Prelude.{◌≡◌, ◌+◌, ◌*◌, ◌≤◌, length};
 ghost use Rattle.ring.specs.Words.{q, add_w, Below, Words};
-ghost use Rattle.hash.specs.Lists.{zeros};
 ghost use Rattle.sharing.specs.Blocks.{total};
 ghost use Rattle.sharing.specs.Region.{span, Wrote};
 
@@ -9,20 +8,13 @@ use crate::region::{load, store_at};
 use hash::params::Params;
 use ring::poly::add_into;
 
-// The zero polynomial.
-fn zero_poly() -> [u64; 512]
-    ensures { result ≡ zeros 512 }
-{
-    [0u64; 512]
-}
-
 // Algorithm 13: the sum of the d shares at `at`.
 pub fn sum_shares(s: &[u64], at: usize, p: Params) -> [u64; 512]
     requires { (at + p.shares * 512 ≤ length s.now) × Below q s.now }
     ensures { (result ≡ total p.shares (span s.now at (p.shares * 512))) × Words 512 result }
 {
     let d = p.shares;
-    let mut acc = zero_poly();
+    let mut acc = [0u64; 512];
     for j in 0..d {
         let x = load(s, at + j * 512);
         add_into(&mut acc, &x);
@@ -47,8 +39,6 @@ pub fn add_shares_at(s: &mut [u64], at: usize, words: &[u64], from: usize, p: Pa
         (add_w (span s.old at (p.shares * 512)) (span words.now from (p.shares * 512))) s.old
         s.new }
 {
-    let d = p.shares;
-    let e = at + d * 512;
-    let f = from + d * 512;
-    add_into(&mut s[at..e], &words[from..f]);
+    let m = p.shares * 512;
+    add_into(&mut s[at..at + m], &words[from..from + m]);
 }

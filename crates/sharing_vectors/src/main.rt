@@ -4,8 +4,8 @@
 ghost use Rattle.std.specs.Prelude.{◌≤◌};
 ghost use Rattle.hash.specs.Params.{ShareCount};
 
-use hash::params::{Edition, Params, Selected, lookup};
-use hash::{endian, shake};
+use hash::params::{Edition, Params, lookup};
+use hash::shake;
 use ring::poly;
 use sharing::{encoding, masks};
 use std::io;
@@ -14,14 +14,12 @@ use std::io::Write;
 // SHAKE256 of words of eight bytes, the low one first.
 fn print_digest<W: Write>(out: &mut W, s: &[u64]) -> io::Result<()> {
     let mut a = shake::start();
-    let mut b = [0u8; 8];
-    for i in 0..s.len() {
-        endian::put_word(&mut b, 0, s[i]);
-        let next = shake::absorb(a, 8 * (i % 17), &b);
+    for (i, x) in s.iter().enumerate() {
+        let next = shake::absorb(a, 8 * (i % 17), &x.to_le_bytes());
         a = next;
     }
     let n = 8 * (s.len() % 17);
-    hexio::print_line(out, &shake::digest_32(shake::finish(a, n)))?;
+    hexio::print_line(out, &shake::digest::<32>(shake::finish(a, n)))?;
     Ok(())
 }
 
@@ -47,9 +45,8 @@ fn refreshed<W: Write>(out: &mut W, p: Params) -> io::Result<()>
 // .. with the record of set 128 and d shares.
 fn refreshed_with<W: Write>(out: &mut W, d: u64) -> io::Result<()> {
     match lookup(128, d, Edition::Printed) {
-        Selected::Found(p) => refreshed(out, p),
-        Selected::NoSet => Ok(()),
-        Selected::NoShares => Ok(()),
+        Ok(p) => refreshed(out, p),
+        Err(_) => Ok(()),
     }
 }
 

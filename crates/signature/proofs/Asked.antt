@@ -6,10 +6,12 @@ use Prim.Native.Nat.{ℕ, zero, suc, ◌*◌}
 use borrow.Author.Tests.{eqb-true}
 use lib.Dec.{eqb}
 use lib.ListN.{length, drop}
-use Rattle.hash.specs.Params.{lookup_of}
+use Rattle.hash.specs.Params.{lookup_of, refusal_of}
+use Rattle.hash.specs.Refusal.{number_of}
 use Rattle.hash.specs.declared.params.Edition.{Edition}
 use Rattle.hash.specs.declared.params.Params.{Params}
-use Rattle.hash.specs.declared.params.Selected.{Selected}
+use Rattle.std.specs.Prelude.{Ok, Err}
+use Rattle.hash.specs.declared.params.Unknown.{Unknown}
 use Rattle.ring.specs.Words.{q, Below}
 use Rattle.ring.proofs.Sums.{all-below}
 use Rattle.ring.proofs.Checks.{asked, no-before, yes-before, both_true}
@@ -54,15 +56,12 @@ refreshable p K mask bytes words e =
     record { key-long = s3.0; shares-long = s3.1; shares-low = all-below q K.words a5.0; bytes-long = s8.0; words_long = s8.1 }
 
 module _ (set d : ℕ) (K : ExpandedKey) (mask bytes words : List ℕ) where
-  pub refresh-no-set : Selected.NoSet ≡ lookup_of set d Edition.Printed → outcome 1 bytes words ≡ refresh_call set d K mask bytes words
+  pub refresh-unknown : (u : Unknown) → Err u ≡ lookup_of set d Edition.Printed → outcome (number_of (refusal_of u)) bytes words ≡ refresh_call set d K mask bytes words
   unfolding refresh_call
-  refresh-no-set e = rw (← e) refl
+  refresh-unknown Unknown.Set e = rw (← e) refl
+  refresh-unknown Unknown.Shares e = rw (← e) refl
 
-  pub refresh-no-shares : Selected.NoShares ≡ lookup_of set d Edition.Printed → outcome 2 bytes words ≡ refresh_call set d K mask bytes words
-  unfolding refresh_call
-  refresh-no-shares e = rw (← e) refl
-
-  module _ (p : Params) (f : Selected.Found p ≡ lookup_of set d Edition.Printed) where
+  module _ (p : Params) (f : Ok p ≡ lookup_of set d Edition.Printed) where
     refresh-is : key_leaves (first_no (refresh_behind p K mask bytes words)) (refreshed_of p K mask) bytes words ≡ refresh_call set d K mask bytes words
     unfolding refresh_call
     refresh-is = rw (← f) refl
@@ -105,15 +104,12 @@ expandable p key bytes words e =
     }
 
 module _ (ed : Edition) (set d : ℕ) (key bytes words : List ℕ) where
-  pub expand-no-set : Selected.NoSet ≡ lookup_of set d ed → outcome 1 bytes words ≡ expand_call ed set d key bytes words
+  pub expand-unknown : (u : Unknown) → Err u ≡ lookup_of set d ed → outcome (number_of (refusal_of u)) bytes words ≡ expand_call ed set d key bytes words
   unfolding expand_call
-  expand-no-set e = rw (← e) refl
+  expand-unknown Unknown.Set e = rw (← e) refl
+  expand-unknown Unknown.Shares e = rw (← e) refl
 
-  pub expand-no-shares : Selected.NoShares ≡ lookup_of set d ed → outcome 2 bytes words ≡ expand_call ed set d key bytes words
-  unfolding expand_call
-  expand-no-shares e = rw (← e) refl
-
-  module _ (p : Params) (f : Selected.Found p ≡ lookup_of set d ed) where
+  module _ (p : Params) (f : Ok p ≡ lookup_of set d ed) where
     abbrev last : List (ℕ × Bool)
     last = (10, filled (expand_of p key)) ∷ []
 

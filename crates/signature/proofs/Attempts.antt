@@ -1,6 +1,6 @@
 -- Attempts of signing (000, Algorithm 2): lines 4 to 16 on the work buffer are the definition's, an attempt by its ends, and the attempts in
 -- order. n is how many attempts are left, a how many are behind, s the key's shares.
-use mathlib.Core.Path.{◌≡◌, refl, sym, ap, ◌∙◌}
+use mathlib.Core.Path.{◌≡◌, sym, ap, ◌∙◌}
 use mathlib.Core.Bool.{Bool, true, false}
 use mathlib.Core.List.{List, [], ◌++◌}
 use mathlib.Core.Option.{Option, some, none}
@@ -21,14 +21,16 @@ use Rattle.sharing.specs.Masks.{masks}
 use Rattle.sharing.specs.declared.masks.MaskGen.{MaskGen}
 use Rattle.signature.specs.AttemptSteps.{key_in, Begun, LastRow, Committed, Responded, Answered, commitment_of, hash_of}
 use Rattle.signature.specs.Challenge.{headed, ordered, challenge, chal_hash, chal_poly}
-use Rattle.signature.specs.ChallengeSteps.{chal_held}
+use Rattle.std.specs.Prelude.{Some, None}
+use Rattle.std.specs.Option.{is_some}
+use Rattle.ring.specs.UniformSteps.{option_of}
+use Rattle.ring.proofs.Filled.{some_same, held-there, held-missing, held-some, held-none}
 use Rattle.signature.specs.Form.{Fields}
 use Rattle.signature.specs.Layout.{at_s, at_r, at_t, at_x}
 use Rattle.signature.specs.Masked.{Noise, decoded, masked_noise, masked_image}
 use Rattle.signature.specs.Outcome.{answer}
 use Rattle.signature.specs.Sign.{Public, Attempted, made, over, stuck, dry, Coins, signed_fields, finished, responded, challenged, concluded, masked_response, refreshed_key, refreshed_noise, refreshed_response, attempted, noise_at, mask_at, sign_from}
 use Rattle.signature.specs.declared.attempt.Reply.{Reply}
-use Rattle.signature.specs.declared.challenge.Challenged.{Challenged}
 use Rattle.ring.proofs.Checks.{absurd-bool}
 use Rattle.signature.proofs.Masking.{masked-words}
 
@@ -69,25 +71,17 @@ module _ (p : Params) (N : Noise) (g x y : MaskGen) (A c s s₁ s₂ s₃ : List
 
 -- ---- lines 9 to 16 behind the commitment: s₁ before them, s₂ behind the challenge, s₃ behind the response
 
-filled-yes : (o : Option (List ℤ)) (c : List ℤ) → o ≡ some c → ((chal_held o).ok ≡ true) × ((chal_held o).poly ≡ c)
-unfolding chal_held
-filled-yes o c e = (ap (λ (x : Option (List ℤ)). (chal_held x).ok) e, ap (λ (x : Option (List ℤ)). (chal_held x).poly) e)
-
-filled-no : (o : Option (List ℤ)) → o ≡ none → (chal_held o).ok ≡ false
-unfolding chal_held
-filled-no o e = ap (λ (x : Option (List ℤ)). (chal_held x).ok) e
-
 module _ (p : Params) (N : Noise) (h g : MaskGen) (A mu s s₁ s₂ hash : List ℕ) (o : Reply) (u : Committed p N h A s g s₁)
     (w : Wrote 0 (at_t p.l p.shares) (p.k * 512) (round_w (span s₁ (at_t p.l p.shares) (p.k * 512))) s₁ s₂)
     (eh : hash ≡ shake256 (headed 104 p.k ++ ordered p.edition (round_w (span s₁ (at_t p.l p.shares) (p.k * 512))) mu) (p.kappa / 4))
-    (eo : o.challenge ≡ chal_held (challenge p.edition p.omega (shake256 (headed 99 p.omega ++ hash) 2176))) where
+    (eo : o.challenge ≡ option_of (challenge p.edition p.omega (shake256 (headed 99 p.omega ++ hash) 2176))) where
   hash-there : hash ≡ hash_of p N h A mu
   unfolding chal_hash
   hash-there = eh ∙ ap (λ (W : List ℕ). shake256 (headed 104 p.k ++ ordered p.edition (round_w W) mu) (p.kappa / 4)) u.image
 
-  challenge-there : o.challenge ≡ chal_held (chal_poly p (hash_of p N h A mu))
+  challenge-there : o.challenge ≡ option_of (chal_poly p (hash_of p N h A mu))
   unfolding chal_poly
-  challenge-there = eo ∙ ap (λ (x : List ℕ). chal_held (challenge p.edition p.omega (shake256 (headed 99 p.omega ++ x) 2176))) hash-there
+  challenge-there = eo ∙ ap (λ (x : List ℕ). option_of (challenge p.edition p.omega (shake256 (headed 99 p.omega ++ x) 2176))) hash-there
 
   commitment-there : span s₂ (at_t p.l p.shares) (p.k * 512) ≡ round_w (commitment_of p N h A)
   commitment-there = w.new ∙ ap round_w u.image
@@ -95,11 +89,11 @@ module _ (p : Params) (N : Noise) (h g : MaskGen) (A mu s s₁ s₂ hash : List 
   row-there : LastRow p N h A s₂
   row-there i e = w.front (p.shares * 512) (p.shares * 512) (omega arith) (omega arith) ∙ u.row i e
 
-  pub answer-none : o.challenge.ok ≡ false → o.full ≡ g.ok → Answered p N h A mu s o hash s₂
+  pub answer-none : o.challenge ≡ None → o.full ≡ g.ok → Answered p N h A mu s o hash s₂
   answer-none e full =
       let no : (c : List ℤ) → chal_poly p (hash_of p N h A mu) ≡ some c → true ≡ false =
       λ (c : List ℤ) (f : chal_poly p (hash_of p N h A mu) ≡ some c).
-      sym (filled-yes (chal_poly p (hash_of p N h A mu)) c f).0 ∙ sym (ap (λ (x : Challenged). x.ok) challenge-there) ∙ e in
+      ap is_some (held-there _ c f ∙ sym challenge-there ∙ e) in
       record {
         hash-is = hash-there;
         challenge-is = challenge-there;
@@ -116,19 +110,20 @@ module _ (p : Params) (N : Noise) (h g : MaskGen) (A mu s s₁ s₂ hash : List 
         response = λ (c : List ℤ) f. absurd-bool (no c f);
       }
 
-  pub answer-made : (power : p.shares ≡ 2 ^ order_index p.shares) (r s₃ : List ℕ) (y : MaskGen) → o.challenge.ok ≡ true
-      → r ≡ residues q o.challenge.poly → o.full ≡ y.ok → Responded p.k p.l p.shares r g y s₂ s₃
+  pub answer-made : (power : p.shares ≡ 2 ^ order_index p.shares) (x : List ℤ) (r s₃ : List ℕ) (y : MaskGen) → o.challenge ≡ Some x
+      → r ≡ residues q x → o.full ≡ y.ok → Responded p.k p.l p.shares r g y s₂ s₃
       → Answered p N h A mu s o hash s₃
-  answer-made power r s₃ y ok er full v =
+  answer-made power x r s₃ y ok er full v =
       let L = p.l * (p.shares * 512) in
+      let is : chal_poly p (hash_of p N h A mu) ≡ some x = held-some _ x (sym ok ∙ challenge-there) in
       let poly : (c : List ℤ) → chal_poly p (hash_of p N h A mu) ≡ some c → r ≡ residues q c =
       λ (c : List ℤ) (f : chal_poly p (hash_of p N h A mu) ≡ some c).
-      er ∙ ap (residues q) (ap (λ (x : Challenged). x.poly) challenge-there ∙ (filled-yes (chal_poly p (hash_of p N h A mu)) c f).1) in
+      er ∙ ap (residues q) (some_same _ _ (sym is ∙ f)) in
       let hs = w.front (at_s p.shares) L (omega arith) (omega arith) in
       let hr = w.front (at_r p.l p.shares) L (omega arith) (omega arith) in
       let no : chal_poly p (hash_of p N h A mu) ≡ none → true ≡ false =
       λ (f : chal_poly p (hash_of p N h A mu) ≡ none).
-      sym ok ∙ ap (λ (x : Challenged). x.ok) challenge-there ∙ filled-no (chal_poly p (hash_of p N h A mu)) f in
+      ap is_some (sym ok ∙ challenge-there) ∙ sym (ap is_some (held-missing _ f)) in
       record {
         hash-is = hash-there;
         challenge-is = challenge-there;
@@ -197,42 +192,29 @@ module _ (p : Params) (P : Public) (N : Noise) (g : MaskGen) (s : List ℕ) wher
       attempt-on f = attempt-asks ∙ ap at-challenge e ∙ ap at-response f
 
 -- by what lines 4 to 16 left: o is the challenge, ys the work buffer
-chal-none : (o : Option (List ℤ)) → (chal_held o).ok ≡ false → o ≡ none
-unfolding chal_held
-chal-none none e = refl
-chal-none (some c) e = absurd-bool e
-
-chal-some : (o : Option (List ℤ)) → (chal_held o).ok ≡ true → o ≡ some (chal_held o).poly
-unfolding chal_held
-chal-some none e = absurd-bool (sym e)
-chal-some (some c) e = refl
-
 module _ (p : Params) (P : Public) (N : Noise) (g : MaskGen) (s hash ys : List ℕ) (o : Reply)
     (u : Answered p N g P.matrix P.mu s o hash ys) where
-  chal-there : o.challenge.ok ≡ false → chal_poly p (hash_of p N g P.matrix P.mu) ≡ none
-  chal-there e = chal-none (chal_poly p (hash_of p N g P.matrix P.mu)) (sym (ap (λ (x : Challenged). x.ok) u.challenge-is) ∙ e)
+  chal-there : o.challenge ≡ None → chal_poly p (hash_of p N g P.matrix P.mu) ≡ none
+  chal-there e = held-none _ (sym e ∙ u.challenge-is)
 
-  pub left-stuck : commitment_fills p P N g ≡ true → o.challenge.ok ≡ false → attempted p P N g s ≡ stuck
+  pub left-stuck : commitment_fills p P N g ≡ true → o.challenge ≡ None → attempted p P N g s ≡ stuck
   left-stuck f e = attempt-stuck p P N g s f (chal-there e)
 
-  pub left-idle : o.challenge.ok ≡ false → Begun p N g s ys
+  pub left-idle : o.challenge ≡ None → Begun p N g s ys
   left-idle e = u.idle (chal-there e)
 
-  module _ (e : o.challenge.ok ≡ true) where
-    chal-is : chal_poly p (hash_of p N g P.matrix P.mu) ≡ some o.challenge.poly
-    chal-is =
-        chal-some (chal_poly p (hash_of p N g P.matrix P.mu)) (sym (ap (λ (x : Challenged). x.ok) u.challenge-is) ∙ e)
-        ∙ ap (λ (x : Challenged). some x.poly) (sym u.challenge-is)
+  module _ (c : List ℤ) (e : o.challenge ≡ Some c) where
+    chal-is : chal_poly p (hash_of p N g P.matrix P.mu) ≡ some c
+    chal-is = held-some _ c (sym e ∙ u.challenge-is)
 
     pub left-dry : commitment_fills p P N g ≡ true → o.full ≡ false → attempted p P N g s ≡ dry
-    left-dry f d = attempt-late p P N g s f o.challenge.poly chal-is (sym (u.masks-are o.challenge.poly chal-is) ∙ d)
+    left-dry f d = attempt-late p P N g s f c chal-is (sym (u.masks-are c chal-is) ∙ d)
 
     -- what is left to do is lines 17 to 20
     pub left-on : commitment_fills p P N g ≡ true → o.full ≡ true
         → attempted p P N g s
-        ≡ finished p (signed_fields p P (span ys (at_t p.l p.shares) (p.k * 512)) hash (span ys (at_x p.k p.l p.shares) (p.l * 512)) o.challenge.poly)
+        ≡ finished p (signed_fields p P (span ys (at_t p.l p.shares) (p.k * 512)) hash (span ys (at_x p.k p.l p.shares) (p.l * 512)) c)
     left-on f d =
-        let c = o.challenge.poly in
         let Z = totals p.l p.shares (refreshed_response p N g P.matrix s (residues q c)).shares in
         attempt-on p P N g s f c chal-is (sym (u.masks-are c chal-is) ∙ d)
         ∙ ap (λ (W : List ℕ). finished p (signed_fields p P W (hash_of p N g P.matrix P.mu) Z c)) (sym u.commitment)
@@ -241,7 +223,7 @@ module _ (p : Params) (P : Public) (N : Noise) (g : MaskGen) (s hash ys : List �
         (sym (u.response c chal-is))
 
     pub left_key : key_in p ys ≡ (refreshed_key p N g P.matrix s).shares
-    left_key = u.key o.challenge.poly chal-is
+    left_key = u.key c chal-is
 
 -- ---- the attempts in order
 

@@ -1,6 +1,5 @@
 -- Laws of the challenge's bytes: the blocks of the stream and of lent bytes, and the two hashes.
 use mathlib.Core.Path.{◌≡◌, refl, sym, ap, ap₂, ◌∙◌}
-use mathlib.Core.Bool.{Bool, true, false}
 use mathlib.Core.List.{List, ◌++◌, append-nil}
 use Prim.Native.Nat.{ℕ, ◌+◌, ◌*◌, ◌%◌, ◌≤◌, ◌<◌}
 use native.Mathlib.Numerals.{add-one}
@@ -16,52 +15,51 @@ use Rattle.hash.proofs.Output.{after_none, after_next, finish-mod}
 use Rattle.hash.proofs.Table.{length-table, get_d-table, filled_more}
 use Rattle.hash.proofs.Sponge.{absorb-append, finish-two, stream-block}
 use Rattle.signature.specs.Challenge.{chal_draw, chal_draws, ordered}
+use Rattle.signature.specs.declared.challenge.Source.{Source}
 use Rattle.signature.specs.ChallengeSteps.{bytes_of, draws_of, block_of, next_of, behind}
 
 -- ---- blocks
 
--- the state that gives block i
-abbrev pub state_of : Bool → ℕ → State → State
-state_of true i S = after i S
-state_of false i S = S
+-- the source that gives block i
+abbrev pub source_at : ℕ → Source → Source
+source_at i (Source.Stream S) = Source.Stream (after i S)
+source_at i (Source.Lent bytes) = Source.Lent bytes
 
-pub state-first : (b : Bool) (S : State) → S ≡ state_of b 0 S
-state-first true S = sym (after_none S)
-state-first false S = refl
+pub source-first : (x : Source) → x ≡ source_at 0 x
+source-first (Source.Stream S) = ap Source.Stream (sym (after_none S))
+source-first (Source.Lent bytes) = refl
 
-pub state-next : (b : Bool) (i : ℕ) (S : State) → next_of b (state_of b i S) ≡ state_of b (i + 1) S
-state-next true i S = sym (ap (λ (n : ℕ). after n S) (add-one i) ∙ after_next i S)
-state-next false i S = refl
+pub source-next : (i : ℕ) (x : Source) → next_of (source_at i x) ≡ source_at (i + 1) x
+source-next i (Source.Stream S) = ap Source.Stream (sym (ap (λ (n : ℕ). after n S) (add-one i) ∙ after_next i S))
+source-next i (Source.Lent bytes) = refl
 
-pub draws-are : (b : Bool) (S : State) (lent : List ℕ) → chal_draws (length (bytes_of b S lent)) ≡ draws_of b (length lent)
-draws-are true S lent = rw length-table
-draws-are false S lent = refl
+pub draws-are : (x : Source) → chal_draws (length (bytes_of x)) ≡ draws_of x
+draws-are (Source.Stream S) = rw length-table
+draws-are (Source.Lent bytes) = refl
 
-pub draws-low : (b : Bool) (n : ℕ) → draws_of b n ≤ 1088
-draws-low true n = omega arith
-draws-low false n = omega arith
+pub draws-low : (x : Source) → draws_of x ≤ 1088
+draws-low (Source.Stream S) = omega arith
+draws-low (Source.Lent bytes) = omega arith
 
-get_or-block_of : (b : Bool) (S : State) (lent : List ℕ) (i j : ℕ) → i < 16 → j < 136
-    → get_or (block_of b (state_of b i S) lent i) j 0 ≡ get_or (bytes_of b S lent) (i * 136 + j) 0
-get_or-block_of true S lent i j h l =
+get_or-block_of : (x : Source) (i j : ℕ) → i < 16 → j < 136 → get_or (block_of (source_at i x) i) j 0 ≡ get_or (bytes_of x) (i * 136 + j) 0
+get_or-block_of (Source.Stream S) i j h l =
     let e : 136 * i + j ≡ i * 136 + j = omega arith in
     sym (stream-block S i j l) ∙ ap (stream S) e ∙ sym (get_d-table (stream S) 2176 (i * 136 + j) (omega arith))
-get_or-block_of false S lent i j h l = get_d-table (λ (k : ℕ). get_or lent (i * 136 + k) 0) 136 j l
+get_or-block_of (Source.Lent bytes) i j h l = get_d-table (λ (k : ℕ). get_or bytes.now (i * 136 + k) 0) 136 j l
 
-pub draw-of : (b : Bool) (S : State) (lent : List ℕ) (i j : ℕ) → i < 16 → j < 68
-    → chal_draw (block_of b (state_of b i S) lent i) j ≡ chal_draw (bytes_of b S lent) (i * 68 + j)
-draw-of b S lent i j h l =
+pub draw-of : (x : Source) (i j : ℕ) → i < 16 → j < 68 → chal_draw (block_of (source_at i x) i) j ≡ chal_draw (bytes_of x) (i * 68 + j)
+draw-of x i j h l =
     let e : i * 136 + j * 2 ≡ (i * 68 + j) * 2 = omega arith in
     let f : i * 136 + (j * 2 + 1) ≡ (i * 68 + j) * 2 + 1 = omega arith in
-    let x : get_or (block_of b (state_of b i S) lent i) (j * 2) 0 ≡ get_or (bytes_of b S lent) ((i * 68 + j) * 2) 0 =
-    get_or-block_of b S lent i (j * 2) h (omega arith) ∙ ap (λ (k : ℕ). get_or (bytes_of b S lent) k 0) e in
-    let y : get_or (block_of b (state_of b i S) lent i) (j * 2 + 1) 0 ≡ get_or (bytes_of b S lent) ((i * 68 + j) * 2 + 1) 0 =
-    get_or-block_of b S lent i (j * 2 + 1) h (omega arith) ∙ ap (λ (k : ℕ). get_or (bytes_of b S lent) k 0) f in
-    ap₂ (λ (u v : ℕ). u + v * 256) x y
+    let y : get_or (block_of (source_at i x) i) (j * 2) 0 ≡ get_or (bytes_of x) ((i * 68 + j) * 2) 0 =
+    get_or-block_of x i (j * 2) h (omega arith) ∙ ap (λ (k : ℕ). get_or (bytes_of x) k 0) e in
+    let z : get_or (block_of (source_at i x) i) (j * 2 + 1) 0 ≡ get_or (bytes_of x) ((i * 68 + j) * 2 + 1) 0 =
+    get_or-block_of x i (j * 2 + 1) h (omega arith) ∙ ap (λ (k : ℕ). get_or (bytes_of x) k 0) f in
+    ap₂ (λ (u v : ℕ). u + v * 256) y z
 
-pub block-draws : (b : Bool) (S A : State) (lent bytes : List ℕ) (i m : ℕ) → A ≡ state_of b i S → bytes ≡ block_of b A lent i → i < 16 → m ≤ 68
-    → (j : ℕ) → j < m → chal_draw bytes j ≡ chal_draw (bytes_of b S lent) (i * 68 + j)
-block-draws b S A lent bytes i m e f h l j g = rw (f, e) (draw-of b S lent i j h (omega arith))
+pub block-draws : (x y : Source) (bytes : List ℕ) (i m : ℕ) → y ≡ source_at i x → bytes ≡ block_of y i → i < 16 → m ≤ 68
+    → (j : ℕ) → j < m → chal_draw bytes j ≡ chal_draw (bytes_of x) (i * 68 + j)
+block-draws x y bytes i m e f h l j g = rw (f, e) (draw-of x i j h (omega arith))
 
 -- a block filled byte by byte
 pub byte_more : (f : ℕ → ℕ) (l₀ l : List ℕ) (j v : ℕ) → l ≡ table f j ++ drop j l₀ → j < length l₀ → v ≡ f j → set l j v ≡ table f (j + 1) ++ drop (j + 1) l₀

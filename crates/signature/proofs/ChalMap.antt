@@ -1,17 +1,18 @@
 -- Laws of the map of taken positions: a bit that was clear, set, is one more one; and every other bit is as it was.
-use Prim.Native.Nat.{ℕ, zero, suc, ◌+◌, ◌*◌, ◌-◌, ◌/◌, ◌%◌, ◌^◌, ◌<◌}
-use mathlib.Core.Path.{◌≡◌, sym, ap, ◌∙◌}
+use Prim.Native.Nat.{ℕ, zero, suc, ◌+◌, ◌*◌, ◌-◌, ◌/◌, ◌%◌, ◌^◌, ◌<◌, ◌≤◌}
+use mathlib.Core.Path.{◌≡◌, refl, sym, ap, ◌∙◌}
 use mathlib.Core.List.{List, [], ◌∷◌}
 use native.Mathlib.Omega.{arith}
 use native.Mathlib.Nat.{add-zero, one-mul, div-eq_of_lt, mul-mod_left, mod-lt, not-suc-le-zero, le_of_suc-le-suc}
-use native.Mathlib.Numerals.{add-one}
 use native.Mathlib.Decide.{dec_lt, ℕ_discrete}
 use lib.Dec.{lit<}
-use lib.ListN.{length, get_or, set, take}
+use lib.ListN.{length, get_or, set}
 use lib.Seq.{get_or-set_same, get_or-set_other}
 use lib.Pow.{pow_pos, pow-add, split, pow-lt, shl-shr}
 use lib.Bits.{bit_or, or_block, or_zero_r, or_shr, or_mod}
-use lib.Count.{ones, ones_cat}
+use lib.Count.{ones, ones-le, ones_cat}
+use Rattle.std.specs.List.{sum_by}
+use Rattle.std.proofs.lemmas.List.Sums.{sum_by-cons}
 use Rattle.signature.specs.ChallengeSteps.{bit_at, ones_of}
 
 -- ---- one word
@@ -73,14 +74,14 @@ module _ (x k : ℕ) where
 
 -- ---- the words
 
-ones-take-suc : (m : List ℕ) (i : ℕ) → i < length m → ones_of (take (suc i) m) ≡ ones_of (take i m) + ones (get_or m i 0)
+pub ones-sum : (m : List ℕ) → sum_by ones m ≡ ones_of m
 unfolding ones_of
-ones-take-suc [] i h = absurd (not-suc-le-zero h)
-ones-take-suc (x ∷ m) zero h = omega arith
-ones-take-suc (x ∷ m) (suc i) h = omega (arith, ones-take-suc m i (le_of_suc-le-suc h))
+ones-sum [] = refl
+ones-sum (x ∷ m) = sum_by-cons ones x m ∙ ap (λ (n : ℕ). ones x + n) (ones-sum m)
 
-pub ones-take : (m : List ℕ) (i : ℕ) → i < length m → ones_of (take (i + 1) m) ≡ ones_of (take i m) + ones (get_or m i 0)
-ones-take m i h = rw add-one (ones-take-suc m i h)
+pub ones-few : (m : List ℕ) → ((i : ℕ) → get_or m i 0 < 2 ^ 64) → sum_by ones m ≤ 64 * length m
+ones-few [] h = omega arith
+ones-few (x ∷ m) h = omega (arith, sum_by-cons ones x m, ones-le 64 x (h 0), ones-few m (λ i. h (suc i)))
 
 pub ones-set : (m : List ℕ) (i v : ℕ) → i < length m → ones v ≡ ones (get_or m i 0) + 1 → ones_of (set m i v) ≡ ones_of m + 1
 unfolding ones_of

@@ -2,7 +2,7 @@
 use mathlib.Core.Path.{◌≡◌, refl, sym, ap, ◌∙◌}
 use mathlib.Core.Bool.{Bool, true, false}
 use mathlib.Core.List.{List, [], ◌∷◌, ◌++◌}
-use mathlib.Core.Option.{Option, some, none}
+use mathlib.Core.Option.{some, none}
 use Prim.Native.Nat.{ℕ, zero, suc, ◌/◌, ◌%◌, ◌≤◌}
 use native.Mathlib.Omega.{arith}
 use borrow.Author.Tests.{eq-eqb, ne_eqb, eqb-true}
@@ -10,18 +10,19 @@ use lib.Dec.{eqb}
 use lib.IntN.{ℤ, pos, negsuc, nat_abs}
 use lib.ListN.{length, get_or, set, replicate, length-set, length-replicate}
 use Rattle.hash.specs.Lists.{Bytes, pick}
-use Rattle.hash.specs.Params.{lookup_of}
+use Rattle.hash.specs.Params.{lookup_of, refusal_of}
+use Rattle.hash.specs.Refusal.{number_of}
+use Rattle.signature.proofs.Verified.{never-shares}
 use Rattle.hash.specs.Shake.{shake256}
 use Rattle.hash.specs.declared.params.Edition.{Edition}
 use Rattle.hash.specs.declared.params.Params.{Params}
-use Rattle.hash.specs.declared.params.Selected.{Selected}
+use Rattle.std.specs.Prelude.{Result, Ok, Err, Some, None}
+use Rattle.hash.specs.declared.params.Unknown.{Unknown}
 use Rattle.hash.proofs.Output.{output-length, output-bytes}
 use Rattle.hash.proofs.Rows.{found}
-use Rattle.ring.proofs.Checks.{absurd-bool}
-use Rattle.ring.proofs.Filled.{some-filled, none_filled}
+use Rattle.ring.proofs.Filled.{some-filled, none_filled, held-some, held-none}
 use Rattle.signature.specs.Challenge.{chal_draw, place, minus_bit, sign, nz, weight, step, run, chal_draws, challenge, chal_poly, ordered, chal_hash, sampled_challenge, headed}
-use Rattle.signature.specs.ChallengeSteps.{chal_held}
-use Rattle.signature.specs.declared.challenge.Challenged.{Challenged}
+use Rattle.ring.specs.UniformSteps.{option_of}
 
 -- ---- the polynomial
 
@@ -130,22 +131,13 @@ module _ (p : Params) (w mu : List ℕ) where
 
 -- ---- the answers
 
-pub challenge-there : (o : Option (List ℤ)) (r : Challenged) → r ≡ chal_held o → r.ok ≡ true → o ≡ some r.poly
-unfolding chal_held
-challenge-there (some c) r h e = ap some (sym (ap (λ (x : Challenged). x.poly) h))
-challenge-there none r h e = absurd-bool (sym e ∙ ap (λ (x : Challenged). x.ok) h)
-
-pub challenge-missing : (o : Option (List ℤ)) (r : Challenged) → r ≡ chal_held o → r.ok ≡ false → o ≡ none
-unfolding chal_held
-challenge-missing (some c) r h e = absurd-bool (sym (ap (λ (x : Challenged). x.ok) h) ∙ e)
-challenge-missing none r h e = refl
-
-module _ (set : ℕ) (s : List ℕ) (out : List ℤ) (x : Selected) (is : x ≡ lookup_of set 1 Edition.Printed) where
-  pub no-set : x ≡ Selected.NoSet → (1, out) ≡ sampled_challenge set s out
+module _ (set : ℕ) (s : List ℕ) (out : List ℤ) (x : Result Params Unknown) (is : x ≡ lookup_of set 1 Edition.Printed) where
+  pub no-set : (u : Unknown) → x ≡ Err u → (number_of (refusal_of u), out) ≡ sampled_challenge set s out
   unfolding sampled_challenge
-  no-set h = rw (← is, h)
+  no-set Unknown.Set h = rw (← is, h)
+  no-set Unknown.Shares h = absurd (never-shares Edition.Printed set (sym is ∙ h))
 
-  module _ (p : Params) (known : x ≡ Selected.Found p) where
+  module _ (p : Params) (known : x ≡ Ok p) where
     pub omega-low : p.omega ≤ 44
     omega-low = (found set 1 Edition.Printed p (sym is ∙ known)).rule.weight-low
 
@@ -153,14 +145,15 @@ module _ (set : ℕ) (s : List ℕ) (out : List ℤ) (x : Selected) (is : x ≡ 
     unfolding sampled_challenge
     no_room h = rw (← is, known, ne_eqb _ _ h)
 
-    module _ (room : length out ≡ 512) (r : Challenged) (held : r ≡ chal_held (challenge p.edition p.omega s)) where
-      pub sampled-none : r.ok ≡ false → (11, out) ≡ sampled_challenge set s out
+    module _ (room : length out ≡ 512) where
+      pub sampled-none : None ≡ option_of (challenge p.edition p.omega s) → (11, out) ≡ sampled_challenge set s out
       unfolding sampled_challenge
-      sampled-none h = rw (← is, known, eq-eqb _ _ room, challenge-missing _ r held h, none_filled {A = ℤ} none refl)
+      sampled-none h = rw (← is, known, eq-eqb _ _ room, held-none _ h, none_filled {A = ℤ} none refl)
 
-      pub sampled-some : r.ok ≡ true → (0, r.poly) ≡ sampled_challenge set s out
-      unfolding sampled_challenge
-      sampled-some h = rw (← is, known, eq-eqb _ _ room, challenge-there _ r held h, some-filled (some r.poly) r.poly refl)
+      module _ (c : List ℤ) (h : Some c ≡ option_of (challenge p.edition p.omega s)) where
+        pub sampled-some : (0, c) ≡ sampled_challenge set s out
+        unfolding sampled_challenge
+        sampled-some = rw (← is, known, eq-eqb _ _ room, held-some _ c h, some-filled (some c) c refl)
 
-      pub sampled-length : r.ok ≡ true → length out ≡ length r.poly
-      sampled-length h = room ∙ sym (challenge-length p.edition p.omega s r.poly (challenge-there _ r held h))
+        pub sampled-length : length out ≡ length c
+        sampled-length = room ∙ sym (challenge-length p.edition p.omega s c (held-some _ c h))

@@ -5,7 +5,7 @@ use mathlib.Core.Bool.{Bool, true, false}
 use mathlib.Core.List.{List, [], ◌∷◌}
 use mathlib.Core.Logic.{◌⊎◌, ⊎_elim}
 use Prim.Native.Nat.{ℕ, zero, suc, min, ◌+◌, ◌*◌, ◌/◌, ◌%◌, ◌^◌, ◌≤◌, ◌<◌}
-use native.Mathlib.Nat.{add-zero, add_assoc, zero-div, not-suc-le-zero, le_of_suc-le-suc}
+use native.Mathlib.Nat.{add_assoc, zero-div, not-suc-le-zero, le_of_suc-le-suc}
 use native.Mathlib.Numerals.{add-one}
 use native.Mathlib.Decide.{ℕ_discrete, le_ind}
 use native.Mathlib.Omega.{arith}
@@ -18,12 +18,14 @@ use lib.Seq.{get_or-set_same, get_or-set_other}
 use mir.Syntax.{w8}
 use mir.Val.{to_z, of_z}
 use Rattle.hash.specs.Lists.{pick}
-use Rattle.hash.specs.Keccak.{State}
 use Rattle.hash.specs.declared.params.Edition.{Edition}
 use Rattle.signature.specs.Challenge.{chal_draw, place, minus_bit, sign, nz, weight, step, run, chal_draws, challenge}
-use Rattle.signature.specs.ChallengeSteps.{chal_held, bytes_of, block_of, bit_at, ones_of}
-use Rattle.signature.specs.declared.challenge.Challenged.{Challenged}
-use Rattle.signature.proofs.ChalBytes.{state_of, block-draws}
+use Rattle.std.specs.Prelude.{Some, None}
+use Rattle.ring.specs.UniformSteps.{option_of}
+use Rattle.ring.proofs.Filled.{held-there, held-missing}
+use Rattle.signature.specs.ChallengeSteps.{bytes_of, block_of, bit_at, ones_of}
+use Rattle.signature.specs.declared.challenge.Source.{Source}
+use Rattle.signature.proofs.ChalBytes.{source_at, block-draws}
 use Rattle.signature.proofs.ChalMap.{marked, mark-ones, mark-same, mark-other}
 
 -- ---- weights
@@ -126,9 +128,6 @@ module _ {e : Edition} {s : List ℕ} {w : ℕ} {m : List ℕ} {c : List ℤ} {a
 pub record Carried (e : Edition) (w m : ℕ) (b m₀ : List ℕ) (c₀ : List ℤ) (m₁ : List ℕ) (c₁ : List ℤ) (j : ℕ) : Type 0 where
   pub on : (s : List ℕ) (at : ℕ) → ((i : ℕ) → i < m → chal_draw b i ≡ chal_draw s (at + i)) → Held e s w m₀ c₀ at → Held e s w m₁ c₁ (at + j)
 
-pub carried_none : (e : Edition) (w m : ℕ) (b m₀ : List ℕ) (c₀ : List ℤ) → Carried e w m b m₀ c₀ m₀ c₀ 0
-carried_none e w m b m₀ c₀ = record { on = λ s at h x. rw add-zero x }
-
 module _ {e : Edition} {w m : ℕ} {b m₀ : List ℕ} {c₀ : List ℤ} {m₁ : List ℕ} {c₁ : List ℤ} {j : ℕ} (held : Carried e w m b m₀ c₀ m₁ c₁ j) (inside : j < m)
     (k : ℕ) (is-count : k ≡ ones_of m₁) (few : k ≡ w → ⊥) (d p t : ℕ) (is-draw : d ≡ chal_draw b j) (is-place : p ≡ place d) (is-bit : t ≡ bit_at m₁ p) where
   pub carried_drop : (t ≡ 0 → ⊥) → Carried e w m b m₀ c₀ m₁ c₁ (j + 1)
@@ -141,13 +140,13 @@ module _ {e : Edition} {w m : ℕ} {b m₀ : List ℕ} {c₀ : List ℤ} {m₁ :
     on = λ s at f x. rw add_assoc at (turn-put (held.on s at f x) k is-count few d p t (is-draw ∙ f j inside) is-place is-bit h m' g z y);
   }
 
--- .. of block i of the stream
-pub through : {e : Edition} {w m j : ℕ} {b m₀ : List ℕ} {c₀ : List ℤ} {m₁ : List ℕ} {c₁ : List ℤ} (k : Bool) (S A : State) (lent : List ℕ) (n i : ℕ)
-    → Held e (bytes_of k S lent) w m₀ c₀ (min n (i * 68)) → A ≡ state_of k i S → b ≡ block_of k A lent i → i * 68 < n → n ≤ 1088 → m ≤ 68
-    → Carried e w m b m₀ c₀ m₁ c₁ j → Held e (bytes_of k S lent) w m₁ c₁ (i * 68 + j)
-through {m = m} {b = b} k S A lent n i held e f h l g carried =
-    let x : min n (i * 68) ≡ i * 68 = omega arith in
-    carried.on (bytes_of k S lent) (i * 68) (block-draws k S A lent b i m e f (omega arith) g) (rw x at held)
+-- .. of block i of what is drawn from
+pub through : {e : Edition} {w m j : ℕ} {b m₀ : List ℕ} {c₀ : List ℤ} {m₁ : List ℕ} {c₁ : List ℤ} (x y : Source) (n i : ℕ)
+    → Held e (bytes_of x) w m₀ c₀ (min n (i * 68)) → y ≡ source_at i x → b ≡ block_of y i → i * 68 < n → n ≤ 1088 → m ≤ 68
+    → Carried e w m b m₀ c₀ m₁ c₁ j → Held e (bytes_of x) w m₁ c₁ (i * 68 + j)
+through {m = m} {b = b} x y n i held e f h l g carried =
+    let z : min n (i * 68) ≡ i * 68 = omega arith in
+    carried.on (bytes_of x) (i * 68) (block-draws x y b i m e f (omega arith) g) (rw z at held)
 
 -- a sign that is stored as a byte and read back
 pub stored-sign : (e : Edition) (d : ℕ) (z : ℤ) → z ≡ sign e d → to_z w8 (of_z w8 z) ≡ sign e d
@@ -165,16 +164,15 @@ unfolding run
 stays e s w i n x h = le_ind (λ (k : ℕ). run e s w k ≡ run e s w i) refl (λ k l ih. rw (run, eq-eqb _ _ (ap weight ih ∙ x)) ih) n h
 
 module _ {e : Edition} {s : List ℕ} {w : ℕ} {m : List ℕ} {c : List ℤ} {at : ℕ} (held : Held e s w m c at) (k : ℕ) (is-count : k ≡ ones_of m) where
-  pub full : at ≤ chal_draws (length s) → k ≡ w → ◌≡◌ {A = Challenged} (record { ok = true; poly = c }) (chal_held (challenge e w s))
-  unfolding challenge chal_held
+  pub full : at ≤ chal_draws (length s) → k ≡ w → Some c ≡ option_of (challenge e w s)
+  unfolding challenge
   full h x =
       let f : weight (run e s w at) ≡ w = ap weight (sym held.is) ∙ sym held.count ∙ sym is-count ∙ x in
-      rw (stays e s w at (chal_draws (length s)) f h, eq-eqb _ _ f, ← held.is)
+      held-there _ c (rw (stays e s w at (chal_draws (length s)) f h, eq-eqb _ _ f, ← held.is))
 
-  pub gone : (ones_of m ≡ w) ⊎ (at ≡ chal_draws (length s)) → (k ≡ w → ⊥)
-      → ◌≡◌ {A = Challenged} (record { ok = false; poly = replicate 512 (pos 0) }) (chal_held (challenge e w s))
-  unfolding challenge chal_held
+  pub gone : (ones_of m ≡ w) ⊎ (at ≡ chal_draws (length s)) → (k ≡ w → ⊥) → None ≡ option_of (challenge e w s)
+  unfolding challenge
   gone h x =
       let n : weight (run e s w (chal_draws (length s))) ≡ w → ⊥ =
       λ y. x (is-count ∙ ⊎_elim (λ f. f) (λ f. held.count ∙ ap weight (held.is ∙ ap (run e s w) f) ∙ y) h) in
-      rw (ne_eqb _ _ n)
+      held-missing _ (rw (ne_eqb _ _ n))

@@ -15,8 +15,8 @@ use Rattle.signature.specs.Code.{signs, neg_of, code_of, code, codes, code_bits}
 use Rattle.signature.proofs.Strings.{length-bits, sets-append, bits-val, val-lt, bits-cat}
 use Rattle.signature.proofs.Packing.{val-bits}
 use Rattle.signature.proofs.Words.{val-append}
-use Rattle.signature.proofs.Codes.{code-length, mag-code-are, code-are}
-use Rattle.signature.proofs.Counts.{one-length}
+use Rattle.signature.proofs.Codes.{code-length, neg-lt, same_code, mag-code-are, code-are}
+use Rattle.signature.proofs.Counts.{one-length, code-short}
 use Rattle.signature.proofs.Lists.{write-more}
 
 -- the number of a code is as long as the code
@@ -39,7 +39,7 @@ unfolding val_of
 tail-val zero s h = omega (arith, h refl)
 tail-val (suc m) s h = omega arith
 
-pub zero-plus : (z : ℤ) → nat_abs z ≡ 0 → neg_of z ≡ 0
+zero-plus : (z : ℤ) → nat_abs z ≡ 0 → neg_of z ≡ 0
 zero-plus (pos n) e = refl
 zero-plus (negsuc n) e = let x : ⊥ = omega arith in absurd x
 
@@ -66,7 +66,7 @@ module _ (w m s n : ℕ) (is-n : n ≡ m / 2 ^ w) (plus : m ≡ 0 → s ≡ 0) w
 
   -- as the machine sums it
   module _ (few : w + n + 2 ≤ 56) (bit : s < 2) where
-    pub one-exact : 1 * 2 ^ n % 2 ^ 64 ≡ 2 ^ n
+    one-exact : 1 * 2 ^ n % 2 ^ 64 ≡ 2 ^ n
     one-exact = shl_exact {a = 1} 1 n 64 (lit< tt) (omega arith) ∙ one-mul _
 
     run-exact : (1 * 2 ^ n % 2 ^ 64 - 1) * 2 ^ w % 2 ^ 64 ≡ (2 ^ n - 1) * 2 ^ w
@@ -86,11 +86,36 @@ module _ (w m s n : ℕ) (is-n : n ≡ m / 2 ^ w) (plus : m ≡ 0 → s ≡ 0) w
         omega (arith, val-lt (code_of w m s) (mag-code-are w m s bit), pow_mono {i = length (code_of w m s)} {j = 56} l)
 
     module _ (lo : ℕ) (is-lo : lo ≡ m % 2 ^ w) where
-      pub code_sum : lo + (1 * 2 ^ n % 2 ^ 64 - 1) * 2 ^ w % 2 ^ 64 + s * 2 ^ (w + n + 1) % 2 ^ 64 ≡ val_of (code_of w m s)
+      code_sum : lo + (1 * 2 ^ n % 2 ^ 64 - 1) * 2 ^ w % 2 ^ 64 + s * 2 ^ (w + n + 1) % 2 ^ 64 ≡ val_of (code_of w m s)
       code_sum = omega (arith, is-lo, run-exact, sign-exact, word-val)
 
-      pub word_fits : lo + (1 * 2 ^ n % 2 ^ 64 - 1) * 2 ^ w % 2 ^ 64 + s * 2 ^ (w + n + 1) % 2 ^ 64 < 2 ^ 64
+      word_fits : lo + (1 * 2 ^ n % 2 ^ 64 - 1) * 2 ^ w % 2 ^ 64 + s * 2 ^ (w + n + 1) % 2 ^ 64 < 2 ^ 64
       word_fits = omega (arith, code_sum, word_small)
+
+-- .. of a number z whose code is short: m is its absolute value
+module _ (w : ℕ) (z : ℤ) (m : ℕ) (is-m : m ≡ nat_abs z) (narrow : w ≤ 40) (short : code_bits w z ≤ 56) where
+  pub run-short : w + m / 2 ^ w + 2 ≤ 56
+  run-short = rw is-m (code-short w z (omega arith) short)
+
+  pub ones-fit : 1 ≤ 1 * 2 ^ (m / 2 ^ w) % 2 ^ 64
+  ones-fit = omega (arith, one-exact w m 0 (m / 2 ^ w) refl (λ e. refl) run-short (omega arith), pow_pos (m / 2 ^ w))
+
+  module _ (lo : ℕ) (is-lo : lo ≡ m % 2 ^ w) where
+    pub unsigned-fits : lo + (1 * 2 ^ (m / 2 ^ w) % 2 ^ 64 - 1) * 2 ^ w % 2 ^ 64 < 2 ^ 64
+    unsigned-fits = omega (arith, word_fits w m 0 (m / 2 ^ w) refl (λ e. refl) run-short (omega arith) lo is-lo)
+
+    module _ (s : ℕ) (is-s : s ≡ neg_of z) where
+      no-plus : m ≡ 0 → s ≡ 0
+      no-plus e = is-s ∙ zero-plus z (sym is-m ∙ e)
+
+      sign-lt : s < 2
+      sign-lt = rw is-s (neg-lt z)
+
+      pub signed-fits : lo + (1 * 2 ^ (m / 2 ^ w) % 2 ^ 64 - 1) * 2 ^ w % 2 ^ 64 + s * 2 ^ (w + m / 2 ^ w + 1) % 2 ^ 64 < 2 ^ 64
+      signed-fits = word_fits w m s (m / 2 ^ w) refl no-plus run-short sign-lt lo is-lo
+
+      pub number-is : lo + (1 * 2 ^ (m / 2 ^ w) % 2 ^ 64 - 1) * 2 ^ w % 2 ^ 64 + s * 2 ^ (w + m / 2 ^ w + 1) % 2 ^ 64 ≡ val_of (code w z)
+      number-is = code_sum w m s (m / 2 ^ w) refl no-plus run-short sign-lt lo is-lo ∙ ap val_of (same_code w m s z is-m is-s)
 
 -- ---- codes held: the `have` bits of `held` go to p
 
@@ -112,27 +137,26 @@ hold-more B p have held v n vs l e =
     ∙ ap (λ (k : ℕ). sets (sets B p (bits_of have held)) (p + k) (bits_of n v)) (length-bits have held)
     ∙ ap (sets (sets B p (bits_of have held)) (p + have)) e
 
--- a turn of the writer: number z, the one at place i, goes behind those that are stored or held
-module _ (w : ℕ) (zs : List ℤ) (i : ℕ) (h : i < length zs) (z : ℤ) (is-z : z ≡ get_or zs i (pos 0)) (F B : List ℕ) (at p have held : ℕ)
+-- a turn of the writer: the number at place i goes behind those that are stored or held
+module _ (w : ℕ) (zs : List ℤ) (i : ℕ) (h : i < length zs) (F B : List ℕ) (at p have held : ℕ)
     (so_far : sets B p (bits_of have held) ≡ sets F at (codes w (take i zs))) (place : p + have ≡ at + length (codes w (take i zs))) where
-  after-held : (m : List ℕ) → m ≡ sets (sets B p (bits_of have held)) (p + have) (code w z) → m ≡ sets F at (codes w (take (i + 1) zs))
+  after-held : (m : List ℕ) → m ≡ sets (sets B p (bits_of have held)) (p + have) (code w (get_or zs i (pos 0))) → m ≡ sets F at (codes w (take (i + 1) zs))
   after-held m e =
       write-more w zs i h F (sets B p (bits_of have held)) m at so_far
-      (e ∙ ap (λ (k : ℕ). sets (sets B p (bits_of have held)) k (code w z)) place
-      ∙ ap (λ (y : ℤ). sets (sets B p (bits_of have held)) (at + length (codes w (take i zs))) (code w y)) is-z)
+      (e ∙ ap (λ (k : ℕ). sets (sets B p (bits_of have held)) k (code w (get_or zs i (pos 0)))) place)
 
-  module _ (n v : ℕ) (is-n : n ≡ code_bits w z) (is-v : v ≡ val_of (code w z)) where
-    bits_are : bits_of n v ≡ code w z
-    bits_are = ap (λ (k : ℕ). bits_of k v) is-n ∙ ap (bits_of (code_bits w z)) is-v ∙ code-held w z
+  module _ (n v : ℕ) (is-n : n ≡ code_bits w (get_or zs i (pos 0))) (is-v : v ≡ val_of (code w (get_or zs i (pos 0)))) where
+    bits_are : bits_of n v ≡ code w (get_or zs i (pos 0))
+    bits_are = ap (λ (k : ℕ). bits_of k v) is-n ∙ ap (bits_of (code_bits w (get_or zs i (pos 0)))) is-v ∙ code-held w (get_or zs i (pos 0))
 
     pub turn-hold : held < 2 ^ have → have + n ≤ 56 → v < 2 ^ n
         → sets B p (bits_of (have + n) (held + v * 2 ^ have % 2 ^ 64)) ≡ sets F at (codes w (take (i + 1) zs))
     turn-hold l r k =
         after-held _ (ap (λ (x : ℕ). sets B p (bits_of (have + n) (held + x))) (held-exact have held v n l k r)
-        ∙ hold-more B p have held v n (code w z) l bits_are)
+        ∙ hold-more B p have held v n (code w (get_or zs i (pos 0))) l bits_are)
 
     pub turn-store : (B' : List ℕ) → B' ≡ sets B p (bits_of have held) → sets B' (p + have) (bits_of n v) ≡ sets F at (codes w (take (i + 1) zs))
-    turn-store B' e = after-held _ (ap (sets B' (p + have)) bits_are ∙ ap (λ (l : List ℕ). sets l (p + have) (code w z)) e)
+    turn-store B' e = after-held _ (ap (sets B' (p + have)) bits_are ∙ ap (λ (l : List ℕ). sets l (p + have) (code w (get_or zs i (pos 0)))) e)
 
-  pub turn-slow : (B' B'' : List ℕ) → B' ≡ sets B p (bits_of have held) → B'' ≡ sets B' (p + have) (code w z) → B'' ≡ sets F at (codes w (take (i + 1) zs))
-  turn-slow B' B'' e f = after-held B'' (f ∙ ap (λ (l : List ℕ). sets l (p + have) (code w z)) e)
+  pub turn-slow : (B' B'' : List ℕ) → B' ≡ sets B p (bits_of have held) → B'' ≡ sets B' (p + have) (code w (get_or zs i (pos 0))) → B'' ≡ sets F at (codes w (take (i + 1) zs))
+  turn-slow B' B'' e f = after-held B'' (f ∙ ap (λ (l : List ℕ). sets l (p + have) (code w (get_or zs i (pos 0)))) e)

@@ -1,5 +1,5 @@
 -- The coins of all attempts (01: noise tape, masking tape), and the part of each attempt.
-use mathlib.Core.Path.{◌≡◌, refl, sym, ap, subst}
+use mathlib.Core.Path.{◌≡◌, refl, sym, ap, subst, ◌∙◌}
 use mathlib.Core.Bool.{Bool, true, false}
 use mathlib.Core.List.{List}
 use Prim.Native.Nat.{ℕ, ◌+◌, ◌-◌, ◌*◌, ◌/◌, ◌≤◌, ◌<◌}
@@ -18,15 +18,17 @@ use Rattle.sharing.specs.Blocks.{block}
 use Rattle.sharing.specs.Masks.{mask_start}
 use Rattle.sharing.specs.Noise.{noise_bytes}
 use Rattle.sharing.specs.declared.masks.MaskGen.{MaskGen}
+use Rattle.sharing.proofs.Built.{part-block}
 use Rattle.sharing.proofs.Lists.{inside}
 use Rattle.sharing.proofs.NoisePlaces.{noise-bytes}
 use Rattle.sharing.proofs.Regions.{length-span}
-use Rattle.signature.specs.AttemptSteps.{coins_of, Within, Committed}
+use Rattle.signature.specs.AttemptSteps.{Within, Committed}
 use Rattle.signature.specs.Checks.{both}
 use Rattle.signature.specs.Masked.{Noise, seeded, explicit}
-use Rattle.signature.specs.Sign.{Coins, noise_at, mask_at}
+use Rattle.signature.specs.Sign.{Coins, from_seeds, from_noise, noise_at, mask_at}
 use Rattle.signature.specs.SignCalls.{coins_good}
 use Rattle.signature.specs.Table.{Tabled}
+use Rattle.signature.proofs.Commits.{below-part}
 use Rattle.signature.proofs.Sizes.{coins-low}
 
 -- a part of n words from b on
@@ -50,38 +52,36 @@ module _ (p : Params) (h : Tabled p) (a : ℕ) (few : a ≤ 16) where
       let z : a * ((p.l + p.k) * p.shares * p.rep * (p.kappa / 8)) ≤ 16 * 262144 = mul-le-mul few x in
       (x, omega arith)
 
-module _ (p : Params) (seeds words masks : List ℕ) (a : ℕ) where
-  -- explicit
-  pub explicit-long : (x : Bool) → x ≡ true → Within p (coins_of x seeds words masks) a
-      → a * ((p.l + p.k) * p.shares * 512) + (p.l + p.k) * p.shares * 512 ≤ length words
-  explicit-long true e w = w.noise-long
-  explicit-long false e w = absurd-bool (sym e)
-
-  pub explicit-low : (x : Bool) → x ≡ true → Within p (coins_of x seeds words masks) a → Below q words
-  explicit-low true e w = w.noise-low refl
-  explicit-low false e w = absurd-bool (sym e)
-
-  pub explicit-at : (x : Bool) → x ≡ true
-      → explicit p (block ((p.l + p.k) * p.shares * 512) a words) ≡ noise_at p (coins_of x seeds words masks) a
+-- the part of attempt number a + 1 as it is lent, explicit or of seeds, and its mask seed
+module _ (p : Params) (h : Tabled p) (a : ℕ) (masks : List ℕ) where
+  pub words-taken : (xs : List ℕ) → Within p (from_noise xs masks) a
+      → let n = (p.l + p.k) * p.shares * 512 in
+      let ys = take (a * n + n - a * n) (drop (a * n) xs) in
+      ((length ys ≡ n) × Below q ys) × (explicit p ys ≡ noise_at p (from_noise xs masks) a)
   unfolding noise_at
-  explicit-at true e = refl
-  explicit-at false e = absurd-bool (sym e)
+  words-taken xs w =
+      let n = (p.l + p.k) * p.shares * 512 in
+      ((part-long n (a * n) xs w.noise-long, below-part (a * n + n - a * n) (a * n) xs (w.noise-low refl)), ap (explicit p) (part-block n a xs))
 
-  -- from seeds
-  pub seeds-long : (x : Bool) → x ≡ false → Within p (coins_of x seeds words masks) a
-      → a * ((p.l + p.k) * p.shares * p.rep * (p.kappa / 8)) + (p.l + p.k) * p.shares * p.rep * (p.kappa / 8) ≤ length seeds
-  seeds-long false e w = rw (← noise-bytes p) w.noise-long
-  seeds-long true e w = absurd-bool e
+  pub seeds-inside : (xs : List ℕ) → Within p (from_seeds xs masks) a
+      → let n = (p.l + p.k) * p.shares * p.rep * (p.kappa / 8) in a * n + n ≤ length xs
+  seeds-inside xs w = rw (← noise-bytes p) w.noise-long
 
-  pub seeds-at : (x : Bool) → x ≡ false
-      → seeded p p.uw (block ((p.l + p.k) * p.shares * p.rep * (p.kappa / 8)) a seeds) ≡ noise_at p (coins_of x seeds words masks) a
+  pub seeds-taken : (xs : List ℕ) → Within p (from_seeds xs masks) a
+      → let n = (p.l + p.k) * p.shares * p.rep * (p.kappa / 8) in
+      let ys = take (a * n + n - a * n) (drop (a * n) xs) in
+      ((length ys ≡ noise_bytes p) × (1 ≤ p.uw) × (p.uw ≤ 48)) × (seeded p p.uw ys ≡ noise_at p (from_seeds xs masks) a)
   unfolding noise_at
-  seeds-at false e = ap (λ (n : ℕ). seeded p p.uw (block n a seeds)) (sym (noise-bytes p))
-  seeds-at true e = absurd-bool e
+  seeds-taken xs w =
+      let n = (p.l + p.k) * p.shares * p.rep * (p.kappa / 8) in
+      let e : n ≡ noise_bytes p = sym (noise-bytes p) in (
+        (part-long n (a * n) xs (seeds-inside xs w) ∙ e, h.uw-pos, omega (arith, h.uw-low)),
+        ap (seeded p p.uw) (part-block n a xs ∙ ap (λ (m : ℕ). block m a xs) e),
+      )
 
-  pub mask_at_lem : (x : Bool) → mask_start (block 32 a masks) ≡ mask_at (coins_of x seeds words masks) a
-  unfolding mask_at
-  mask_at_lem x = refl
+pub mask-taken : (T : Coins) (a : ℕ) → mask_start (take (a * 32 + 32 - a * 32) (drop (a * 32) T.masks)) ≡ mask_at T a
+unfolding mask_at
+mask-taken T a = ap mask_start (part-block 32 a T.masks)
 
 pub committed-at : (p : Params) {N M : Noise} {g h : MaskGen} (A : List ℕ) {y : MaskGen} {s ys : List ℕ} → N ≡ M → g ≡ h
     → Committed p N g A s y ys → Committed p M h A s y ys

@@ -1,7 +1,7 @@
 -- The bytes of a key (02, #102): the public key in front, behind it the digest of an expanded key.
 use mathlib.Core.Path.{◌≡◌, refl, sym, ap, ◌∙◌}
-use mathlib.Core.Bool.{Bool, true, false}
-use mathlib.Core.List.{List, [], ◌++◌, append-nil}
+use mathlib.Core.Bool.{Bool}
+use mathlib.Core.List.{List, ◌++◌, append-nil}
 use Prim.Native.Nat.{ℕ, ◌+◌, ◌-◌, ◌*◌, ◌≤◌}
 use native.Mathlib.Omega.{arith}
 use lib.ListN.{length, take, drop, replicate, length-drop, take-append-drop, drop_of_length-le}
@@ -12,7 +12,7 @@ use Rattle.hash.specs.declared.params.Params.{Params}
 use Rattle.ring.specs.Words.{all_below}
 use Rattle.sharing.specs.Region.{put}
 use Rattle.sharing.proofs.Regions.{span-span, put-seam}
-use Rattle.signature.specs.AttemptSteps.{key_from}
+use Rattle.signature.specs.AttemptSteps.{key_lent, key_bytes, BytesHeld}
 use Rattle.signature.specs.Bits.{repack}
 use Rattle.signature.specs.Checks.{public_key_good}
 use Rattle.signature.specs.Digest.{key_hash, digest_for}
@@ -20,6 +20,7 @@ use Rattle.signature.specs.ExpandedKey.{expanded_in, expanded_bytes, vk_in, dige
 use Rattle.signature.specs.Form.{hash_bytes}
 use Rattle.signature.specs.Keys.{packed, expanded, seed_bytes, vk_vector, public_of, digest_of, with_digest, DigestTrue}
 use Rattle.signature.specs.Table.{Tabled}
+use Rattle.signature.specs.declared.lent.LentKey.{LentKey}
 use Rattle.signature.proofs.Fronts.{front_long, front-in, front-is}
 use Rattle.signature.proofs.Sizes.{part-all}
 
@@ -45,38 +46,37 @@ behind-true p vk l = drop_at vk (digest_for p vk) p.vk_bytes l ∙ ap (digest_fo
 pub computed-true : (p : Params) (key words : List ℕ) → p.vk_bytes ≤ length key → DigestTrue p (expanded (expanded_in (with_digest p (packed key)) words))
 computed-true p key words h = behind-true p (vk_in p key) (length-take-le p.vk_bytes key h)
 
--- the words are no part of these
-module _ (p : Params) (key words : List ℕ) where
-  pub public-is : (x : Bool) → public_of p (key_from x key words) ≡ vk_in p key
-  public-is true = refl
-  public-is false = refl
+-- the public key is the front of a key's bytes
+module _ (p : Params) where
+  pub public-is : (K : LentKey) → public_of p (key_lent K) ≡ vk_in p (key_bytes K)
+  public-is (LentKey.Signing key) = refl
+  public-is (LentKey.Expanded bytes words) = refl
 
-  pub public-front : (x : Bool) → take (p.vk_bytes - 0) key ≡ public_of p (key_from x key words)
-  public-front x =
+  pub public-front : (K : LentKey) → take (p.vk_bytes - 0) (key_bytes K) ≡ public_of p (key_lent K)
+  public-front K =
       let e : p.vk_bytes - 0 ≡ p.vk_bytes = omega arith in
-      ap (λ (n : ℕ). take n key) e ∙ sym (public-is x)
+      ap (λ (n : ℕ). take n (key_bytes K)) e ∙ sym (public-is K)
 
-  digest-is-of : (x : Bool) → digest_of p (key_from x key []) ≡ digest_of p (key_from x key words)
-  digest-is-of true = refl
-  digest-is-of false = refl
+  pub public-held : (K : LentKey) → BytesHeld p K → p.vk_bytes ≤ length (key_bytes K)
+  public-held (LentKey.Signing key) h = h
+  public-held (LentKey.Expanded bytes words) h = omega (arith, h)
 
 -- an expanded key's own bytes
-pub bytes-again : (p : Params) (bytes : List ℕ) → with_digest p (key_from false bytes []) ≡ bytes
-bytes-again p bytes = take-append-drop p.vk_bytes bytes
+pub bytes-again : (p : Params) (bytes words : List ℕ) → with_digest p (expanded (expanded_in bytes words)) ≡ bytes
+bytes-again p bytes words = take-append-drop p.vk_bytes bytes
 
 -- ---- what the code writes
 
 -- the digest of either form into out
-module _ (p : Params) (key out : List ℕ) (x : Bool) {ys : List ℕ} where
-  pub digest-computed : x ≡ true → length out ≡ hash_bytes p → ys ≡ shake256 (take (p.vk_bytes - 0) key) (length out) → ys ≡ digest_of p (key_from x key [])
+module _ (p : Params) (key : List ℕ) {ys : List ℕ} where
+  pub digest-computed : (out : List ℕ) → length out ≡ hash_bytes p → ys ≡ shake256 (take (p.vk_bytes - 0) key) (length out) → ys ≡ digest_of p (packed key)
   unfolding key_hash
-  digest-computed t n e =
+  digest-computed out n e =
       let k : p.vk_bytes - 0 ≡ p.vk_bytes = omega arith in
       e ∙ ap (shake256 (take (p.vk_bytes - 0) key)) n ∙ ap (λ (m : ℕ). shake256 (take m key) (hash_bytes p)) k
-      ∙ ap (λ (b : Bool). digest_of p (key_from b key [])) (sym t)
 
-  pub digest-lent : x ≡ false → ys ≡ take (length key - p.vk_bytes) (drop p.vk_bytes key) → ys ≡ digest_of p (key_from x key [])
-  digest-lent f e = e ∙ part-all p.vk_bytes key ∙ ap (λ (b : Bool). digest_of p (key_from b key [])) (sym f)
+  pub digest-lent : ys ≡ take (length key - p.vk_bytes) (drop p.vk_bytes key) → ys ≡ digest_in p key
+  digest-lent e = e ∙ part-all p.vk_bytes key
 
 -- .. that is lent is as long as out
 pub lent-long : (p : Params) (key out : List ℕ) → length key ≡ expanded_bytes p → length out ≡ hash_bytes p
@@ -91,23 +91,19 @@ module _ (p : Params) (h : hash_bytes p ≤ 64) (ys : List ℕ) (l : length ys �
   pub front-digest-in : hash_bytes p ≤ length (put_mid 0 (hash_bytes p - 0) (replicate 64 0) ys)
   front-digest-in = front-in (hash_bytes p) (replicate 64 0) ys h front-digest-long
 
-  pub front-digest-is : (key words : List ℕ) (x : Bool) → ys ≡ digest_of p (key_from x key [])
-      → take (hash_bytes p - 0) (put_mid 0 (hash_bytes p - 0) (replicate 64 0) ys) ≡ digest_of p (key_from x key words)
-  front-digest-is key words x e = front-is (hash_bytes p) (replicate 64 0) ys h front-digest-long ∙ e ∙ digest-is-of p key words x
+  pub front-digest-is : (D : List ℕ) → ys ≡ D → take (hash_bytes p - 0) (put_mid 0 (hash_bytes p - 0) (replicate 64 0) ys) ≡ D
+  front-digest-is D e = front-is (hash_bytes p) (replicate 64 0) ys h front-digest-long ∙ e
 
 -- X, the first e bytes of the key, in front of out, and D in the h bytes behind it
-module _ (key out X : List ℕ) (e h : ℕ) (x : X ≡ take (e - 0) key) (l : e ≤ length key) (o : length out ≡ e + h) where
+module _ (key out X : List ℕ) (e h : ℕ) (x : X ≡ take e key) (l : e ≤ length key) (o : length out ≡ e + h) where
   abbrev out_behind : List ℕ
-  out_behind = drop (e - 0) out
-
-  front_bytes : X ≡ take e key
-  front_bytes = let k : e - 0 ≡ e = omega arith in x ∙ ap (λ (n : ℕ). take n key) k
+  out_behind = drop e out
 
   front-bytes-long : length X ≡ e
-  front-bytes-long = ap (λ (ys : List ℕ). length ys) front_bytes ∙ length-take-le e key l
+  front-bytes-long = ap (λ (ys : List ℕ). length ys) x ∙ length-take-le e key l
 
   out-behind-long : length out_behind ≡ h
-  out-behind-long = length-drop (e - 0) out ∙ omega (arith, o)
+  out-behind-long = length-drop e out ∙ omega (arith, o)
 
   pub behind-long : length (take (e + h - e) (drop e (X ++ out_behind))) ≡ h
   behind-long =
@@ -122,4 +118,4 @@ module _ (key out X : List ℕ) (e h : ℕ) (x : X ≡ take (e - 0) key) (l : e 
       put-seam X out_behind e (e + h - e) D front-bytes-long
       ∙ ap (λ (ys : List ℕ). X ++ (D ++ ys)) (drop_of_length-le out_behind k)
       ∙ ap (λ (ys : List ℕ). X ++ ys) (append-nil D)
-      ∙ ap (λ (ys : List ℕ). ys ++ D) front_bytes
+      ∙ ap (λ (ys : List ℕ). ys ++ D) x

@@ -12,7 +12,7 @@ use native.Mathlib.Omega.{arith}
 use lib.ListN.{length}
 use Rattle.ring.specs.Words.{Words}
 use Rattle.ring.specs.Transform.{ntt, intt}
-use Rattle.ring.specs.UniformSteps.{held_of}
+use Rattle.ring.specs.UniformSteps.{poly_of}
 use Rattle.ring.proofs.Draws.{sample_q-words}
 use Rattle.ring.proofs.Theorems.{ntt-words, intt-ntt}
 use Rattle.ring.proofs.Filled.{none-some, some-filled, none_filled, not-filled, filled-some, held-is}
@@ -33,8 +33,8 @@ joined-none (some a) = refl
 
 joined-yes : (a b : Option (List ℕ)) → filled a ≡ true → filled b ≡ true → filled (joined_to a b) ≡ true
 joined-yes a b e g =
-    some-filled (joined_to a b) ((held_of a).poly ++ (held_of b).poly)
-    (ap (λ (o : Option (List ℕ)). joined_to o b) (filled-some a e) ∙ ap (joined_to (some (held_of a).poly)) (filled-some b g))
+    some-filled (joined_to a b) ((poly_of a) ++ (poly_of b))
+    (ap (λ (o : Option (List ℕ)). joined_to o b) (filled-some a e) ∙ ap (joined_to (some (poly_of a))) (filled-some b g))
 
 joined-left : (a b : Option (List ℕ)) → filled a ≡ false → filled (joined_to a b) ≡ false
 joined-left a b e = none_filled (joined_to a b) (ap (λ (o : Option (List ℕ)). joined_to o b) (not-filled a e))
@@ -66,38 +66,38 @@ all-not (suc n) i f h e = go (dec_lt i n) (λ (k : i < n). all-not n i f k e)
 -- ---- what they are
 
 record Joined (a b : Option (List ℕ)) (c : List ℕ) : Type 0 where
-  pub left : a ≡ some (held_of a).poly
-  pub right : b ≡ some (held_of b).poly
-  pub both : c ≡ (held_of a).poly ++ (held_of b).poly
+  pub left : a ≡ some (poly_of a)
+  pub right : b ≡ some (poly_of b)
+  pub both : c ≡ (poly_of a) ++ (poly_of b)
 
 joined-some : (a b : Option (List ℕ)) (c : List ℕ) → joined_to a b ≡ some c → Joined a b c
 joined-some none b c e = absurd (none-some c e)
 joined-some (some a) none c e = absurd (none-some c e)
 joined-some (some a) (some b) c e =
-    let x : (held_of (some a)).poly ≡ a = held-is (some a) a refl in
-    let y : (held_of (some b)).poly ≡ b = held-is (some b) b refl in
+    let x : (poly_of (some a)) ≡ a = held-is (some a) a refl in
+    let y : (poly_of (some b)) ≡ b = held-is (some b) b refl in
     let z : a ++ b ≡ c = cc in
     record { left = ap some (sym x); right = ap some (sym y); both = cc (x, y, z) }
 
 -- if all are there, the whole is built of them
 pub record All (n : ℕ) (f : ℕ → Option (List ℕ)) (A : List ℕ) : Type 0 where
-  pub here : (i : ℕ) → i < n → f i ≡ some (held_of (f i)).poly
-  pub whole : A ≡ build n (λ (i : ℕ). (held_of (f i)).poly)
+  pub here : (i : ℕ) → i < n → f i ≡ some (poly_of (f i))
+  pub whole : A ≡ build n (λ (i : ℕ). (poly_of (f i)))
 
 pub all-some : (n : ℕ) (f : ℕ → Option (List ℕ)) (A : List ℕ) → build_all n f ≡ some A → All n f A
 unfolding build_all
 all-some zero f A e =
     let z : [] ≡ A = cc in
-    record { here = λ (i : ℕ) (h : i < 0). absurd (not-suc-le-zero h); whole = sym (build-none (λ (i : ℕ). (held_of (f i)).poly) ∙ z) }
+    record { here = λ (i : ℕ) (h : i < 0). absurd (not-suc-le-zero h); whole = sym (build-none (λ (i : ℕ). (poly_of (f i))) ∙ z) }
 all-some (suc n) f A e =
     let j = joined-some (build_all n f) (f n) A e in
-    let r = all-some n f (held_of (build_all n f)).poly j.left in
+    let r = all-some n f (poly_of (build_all n f)) j.left in
     record {
       here = λ (i : ℕ) (h : i < suc n). go i h (dec_lt i n) (r.here i) j.right;
-      whole = j.both ∙ ap (λ (x : List ℕ). x ++ (held_of (f n)).poly) r.whole ∙ sym (build-next n (λ (i : ℕ). (held_of (f i)).poly));
+      whole = j.both ∙ ap (λ (x : List ℕ). x ++ (poly_of (f n))) r.whole ∙ sym (build-next n (λ (i : ℕ). (poly_of (f i))));
     }
   where
-    go : (i : ℕ) → i < suc n → Dec (i < n) → (i < n → f i ≡ some (held_of (f i)).poly) → f n ≡ some (held_of (f n)).poly → f i ≡ some (held_of (f i)).poly
+    go : (i : ℕ) → i < suc n → Dec (i < n) → (i < n → f i ≡ some (poly_of (f i))) → f n ≡ some (poly_of (f n)) → f i ≡ some (poly_of (f i))
     go i h (yes k) r e = r k
     go i h (no k) r e =
         let s : i ≡ n = omega arith in
@@ -114,26 +114,26 @@ module _ (k l : ℕ) (seed A : List ℕ) (e : matrix_of k l seed ≡ some A) whe
   unfolding matrix_of
   rows = all-some k (λ (i : ℕ). build_all l (matrix_at seed i)) A e
 
-  row : (i : ℕ) → i < k → All l (matrix_at seed i) (held_of (build_all l (matrix_at seed i))).poly
-  row i h = all-some l (matrix_at seed i) (held_of (build_all l (matrix_at seed i))).poly (rows.here i h)
+  row : (i : ℕ) → i < k → All l (matrix_at seed i) (poly_of (build_all l (matrix_at seed i)))
+  row i h = all-some l (matrix_at seed i) (poly_of (build_all l (matrix_at seed i))) (rows.here i h)
 
   entry-words : (i m : ℕ) → i < k → m < l → Words 512 (row_entry seed i m)
   unfolding matrix_at
   entry-words i m hi hm = sample_q-words (matrix_header i m) seed (row_entry seed i m) ((row i hi).here m hm)
 
-  row_words : (i : ℕ) → i < k → Words (l * 512) (held_of (build_all l (matrix_at seed i))).poly
+  row_words : (i : ℕ) → i < k → Words (l * 512) (poly_of (build_all l (matrix_at seed i)))
   row_words i h = rw (row i h).whole (words-build l (row_entry seed i) (λ (m : ℕ) (g : m < l). entry-words i m h g))
 
   pub matrix-words : Words (k * l * 512) A
   matrix-words =
-      let w : Words (k * (l * 512)) (build k (λ (i : ℕ). (held_of (build_all l (matrix_at seed i))).poly)) =
-      words-build k (λ (i : ℕ). (held_of (build_all l (matrix_at seed i))).poly) row_words in
+      let w : Words (k * (l * 512)) (build k (λ (i : ℕ). (poly_of (build_all l (matrix_at seed i))))) =
+      words-build k (λ (i : ℕ). (poly_of (build_all l (matrix_at seed i)))) row_words in
       let n : k * (l * 512) ≡ k * l * 512 = omega arith in
       rw rows.whole (record { long = w.long ∙ n; low = w.low })
 
   pub entry-is : (i m : ℕ) → i < k → m < l → row_entry seed i m ≡ block 512 (i * l + m) A
   entry-is i m hi hm =
-      let R : ℕ → List ℕ = λ (i : ℕ). (held_of (build_all l (matrix_at seed i))).poly in
+      let R : ℕ → List ℕ = λ (i : ℕ). (poly_of (build_all l (matrix_at seed i))) in
       let a : block (l * 512) i A ≡ R i =
       ap (block (l * 512) i) rows.whole ∙ block-build (l * 512) k i R (λ (j : ℕ) (h : j < k). (row_words j h).long) hi in
       let b : block 512 m (R i) ≡ row_entry seed i m =

@@ -10,9 +10,10 @@ use lib.ListN.{length, take, drop, length-drop}
 use lib.Seq.{take_all}
 use Rattle.hash.specs.declared.params.Params.{Params}
 use Rattle.ring.specs.Words.{q, Below}
-use Rattle.ring.specs.UniformSteps.{held_of}
-use Rattle.ring.specs.declared.uniform.Sampled.{Sampled}
-use Rattle.ring.proofs.Filled.{filled-some, some-filled, held-is, held-ok}
+use Rattle.ring.specs.UniformSteps.{poly_of, option_of}
+use Rattle.std.specs.Prelude as code
+use Rattle.std.specs.Option.{is_some}
+use Rattle.ring.proofs.Filled.{filled-some, some-filled, held-is, held-filled}
 use Rattle.hash.specs.Lists.{zeros}
 use Rattle.sharing.specs.Blocks.{block, build}
 use Rattle.sharing.specs.Region.{span, Wrote}
@@ -23,6 +24,7 @@ use Rattle.sharing.proofs.Regions.{wrote-start, wrote-turn, wrote-end}
 use Rattle.signature.specs.Matrix.{build_all, filled}
 use Rattle.signature.specs.Bits.{repack}
 use Rattle.signature.proofs.Entries.{All, all-some}
+use Rattle.signature.proofs.Ranged.{all-there}
 use Rattle.signature.proofs.Packing.{length-repack}
 use Rattle.signature.proofs.Sizes.{part-all}
 use Rattle.signature.specs.Keys.{seed_bytes, full_share, seeded_share, share_at, decompressed, packed, with_digest, expand_of, expanded_of}
@@ -46,19 +48,19 @@ module _ (p : Params) (h : Tabled p) where
 -- ---- what fills
 
 module _ (f : ℕ → Option (List ℕ)) (n : ℕ) (h : filled (build_all n f) ≡ true) where
-  all_there : All n f (held_of (build_all n f)).poly
-  all_there = all-some n f (held_of (build_all n f)).poly (filled-some (build_all n f) h)
+  all_there : All n f (poly_of (build_all n f))
+  all_there = all-some n f (poly_of (build_all n f)) (filled-some (build_all n f) h)
 
   fill-each : (i : ℕ) → i < n → filled (f i) ≡ true
   fill-each i l = some-filled (f i) _ (all_there.here i l)
 
-  built : build_all n f ≡ some (build n (λ (i : ℕ). (held_of (f i)).poly))
+  built : build_all n f ≡ some (build n (λ (i : ℕ). (poly_of (f i))))
   built = filled-some (build_all n f) h ∙ ap some all_there.whole
 
 module _ (p : Params) (part : List ℕ) where
-  pub first-fills : (j : ℕ) → filled (build_all 1 (share_at p part j)) ≡ true
-  unfolding build_all share_at
-  first-fills j = some-filled (build_all 1 (share_at p part j)) (block 512 j (full_share p part)) refl
+  first-fills : (j : ℕ) → filled (share_at p part j 0) ≡ true
+  unfolding share_at
+  first-fills j = some-filled (share_at p part j 0) (block 512 j (full_share p part)) refl
 
   share-is : (j i : ℕ) → 1 ≤ i → seeded_share p part j i ≡ share_at p part j i
   unfolding share_at
@@ -74,18 +76,22 @@ module _ (p : Params) (part : List ℕ) where
   expanded-all h =
       let F : ℕ → Option (List ℕ) = λ (j : ℕ). build_all p.shares (share_at p part j) in
       built F p.l h
-      ∙ ap some (build-ext p.l (λ (j : ℕ). (held_of (F j)).poly) (λ (j : ℕ). build p.shares (expanded_at p part j))
+      ∙ ap some (build-ext p.l (λ (j : ℕ). (poly_of (F j))) (λ (j : ℕ). build p.shares (expanded_at p part j))
       (λ (j : ℕ) (l : j < p.l). held-is (F j) (build p.shares (expanded_at p part j))
       (built (share_at p part j) p.shares (fill-each F p.l h j l))))
 
-  pub share-fills : (j i : ℕ) (r : Sampled) → 1 ≤ i → r ≡ held_of (seeded_share p part j i) → filled (share_at p part j i) ≡ r.ok
-  share-fills j i r h e =
-      sym (ap (λ (s : Sampled). s.ok) e ∙ held-ok (seeded_share p part j i) ∙ ap filled (share-is j i h))
+  pub share-fills : (j i : ℕ) (r : code.Option (List ℕ)) → 1 ≤ i → r ≡ option_of (seeded_share p part j i) → filled (share_at p part j i) ≡ is_some r
+  share-fills j i r h e = sym (ap is_some e ∙ held-filled (seeded_share p part j i) ∙ ap filled (share-is j i h))
 
-  pub share-expands : (j i : ℕ) (r : Sampled) → (i ≡ 0 → ⊥) → r ≡ held_of (seeded_share p part j i) → r.poly ≡ expanded_at p part j i
-  share-expands j i r h e =
-      let k : 1 ≤ i = omega arith in
-      ap (λ (s : Sampled). s.poly) e ∙ ap (λ (o : Option (List ℕ)). (held_of o).poly) (share-is j i k)
+  pub shares-there : (j : ℕ) → ((i : ℕ) → 1 ≤ i → i < p.shares → is_some (option_of (seeded_share p part j i)) ≡ true) → filled (build_all p.shares (share_at p part j)) ≡ true
+  shares-there j h = all-there p.shares (share_at p part j) go
+    where
+      go : (k : ℕ) → k < p.shares → filled (share_at p part j k) ≡ true
+      go zero l = first-fills j
+      go (suc k) l = share-fills j (suc k) (option_of (seeded_share p part j (suc k))) (omega arith) refl ∙ h (suc k) (omega arith) l
+
+  pub share-expands : (j i : ℕ) → (i ≡ 0 → ⊥) → poly_of (seeded_share p part j i) ≡ expanded_at p part j i
+  share-expands j i h = ap poly_of (share-is j i (omega arith))
 
   pub full-expands : (j i : ℕ) (full : List ℕ) → i ≡ 0 → full ≡ full_share p part → span full (j * 512) 512 ≡ expanded_at p part j i
   full-expands j i full z e =

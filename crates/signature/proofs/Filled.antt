@@ -2,13 +2,13 @@
 use Prim.Native.Nat.{ℕ, zero, suc, ◌+◌, ◌*◌, ◌-◌, ◌^◌, ◌≤◌, ◌<◌}
 use mathlib.Core.Path.{◌≡◌, refl, sym, ap, ◌∙◌}
 use mathlib.Core.Bool.{true, false}
-use mathlib.Core.List.{List, [], ◌∷◌, ◌++◌, append_assoc, append-nil}
+use mathlib.Core.List.{List, [], ◌∷◌, ◌++◌, append_assoc}
 use native.Mathlib.Omega.{arith}
 use native.Mathlib.Nat.{not-suc-le-zero, le_of_suc-le-suc, add-zero, suc-mul}
 use native.Mathlib.Numerals.{add-one}
 use lib.IntN.{ℤ}
-use lib.ListN.{length, get_or, set, take, drop, replicate, length-append, length-replicate, replicate-append-replicate, drop_of_length-le}
-use lib.Seq.{sets, sets-eq, drop-cons, take_all, take-suc, take-suc-set}
+use lib.ListN.{length, get_or, take, drop, replicate, length-append, length-replicate, replicate-append-replicate, drop_of_length-le}
+use lib.Seq.{sets, sets-eq, drop-cons}
 use Rattle.signature.specs.Bits.{bits_of, val_of, bit_string, chop}
 use Rattle.signature.specs.Code.{codes, codes_bits}
 use Rattle.signature.specs.Form.{form_bits, bit_count}
@@ -94,24 +94,6 @@ zeros-fail zero t h = absurd (h refl)
 zeros-fail (suc j) [] h = absurd (h refl)
 zeros-fail (suc j) (zero ∷ t) h = zeros-fail j t (λ e. h (ap (λ (n : ℕ). 0 + 2 * n) e))
 zeros-fail (suc j) (suc b ∷ t) h = refl
-
--- ---- the writer's start: the hash, byte by byte, then zeros
-
-pub copy_more : (h out : List ℕ) (i : ℕ) → i < length out → i < length h → take i out ≡ take i h → take (i + 1) (set out i (get_or h i 0)) ≡ take (i + 1) h
-copy_more h out i l k e = rw (add-one, take-suc-set out i (get_or h i 0) l, take-suc h i 0 k, e)
-
-pub copied : (h out : List ℕ) (i : ℕ) → i ≡ length h → take i out ≡ take i h → take i out ≡ h ++ replicate (i - length h) 0
-copied h out i k e =
-    let d : i - length h ≡ 0 = omega arith in
-    e ∙ take_all i h (omega arith) ∙ sym (append-nil h) ∙ ap (λ (n : ℕ). h ++ replicate n 0) (sym d)
-
-pub fill_more : (h out : List ℕ) (i : ℕ) → i < length out → length h ≤ i → take i out ≡ h ++ replicate (i - length h) 0
-    → take (i + 1) (set out i 0) ≡ h ++ replicate (i + 1 - length h) 0
-fill_more h out i l k e =
-    let s : i + 1 - length h ≡ (i - length h) + 1 = omega arith in
-    ap (λ (n : ℕ). take n (set out i 0)) (add-one i) ∙ take-suc-set out i 0 l ∙ ap (λ (x : List ℕ). x ++ (0 ∷ [])) e
-    ∙ append_assoc h (replicate (i - length h) 0) (0 ∷ [])
-    ∙ ap (λ (x : List ℕ). h ++ x) (replicate-append-replicate (i - length h) 1 0 ∙ ap (λ (n : ℕ). replicate n 0) (sym s))
 
 -- ---- the writer
 

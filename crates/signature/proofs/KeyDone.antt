@@ -8,7 +8,7 @@ use native.Mathlib.Nat.{mul-le-mul}
 use native.Mathlib.Omega.{arith}
 use lib.ListN.{length, take, drop}
 use Rattle.hash.specs.declared.params.Params.{Params}
-use Rattle.ring.specs.UniformSteps.{held_of}
+use Rattle.ring.specs.UniformSteps.{poly_of}
 use Rattle.hash.specs.Lists.{zeros}
 use Rattle.sharing.specs.Region.{span}
 use Rattle.sharing.proofs.Regions.{length-span}
@@ -68,8 +68,8 @@ module _ (p : Params) (seeds mask : List ℕ) where
     keygen-some k w f parts e l =
         let a = asked 9 (both (filled (matrix p (vk_seed p seeds))) (filled (full_of p seeds mask))) _ (sym is ∙ f) in
         let b = both_true (filled (matrix p (vk_seed p seeds))) (filled (full_of p seeds mask)) a.0 in
-        let A = (held_of (matrix p (vk_seed p seeds))).poly in
-        let x = (held_of (full_of p seeds mask)).poly in
+        let A = (poly_of (matrix p (vk_seed p seeds))) in
+        let x = (poly_of (full_of p seeds mask)) in
         let h_a = filled-some (matrix p (vk_seed p seeds)) b.0 in
         let hx = filled-some (full_of p seeds mask) b.1 in
         let s = parts A x h_a hx in

@@ -4,10 +4,12 @@ use mathlib.Core.Path.{◌≡◌, refl, sym, ap, ◌∙◌}
 use mathlib.Core.Bool.{Bool, true, false}
 use mathlib.Core.List.{List, [], ◌∷◌, ◌++◌}
 use lib.ListN.{length}
-use Rattle.hash.specs.Params.{lookup_of}
+use Rattle.hash.specs.Params.{lookup_of, refusal_of}
+use Rattle.hash.specs.Refusal.{number_of}
 use Rattle.hash.specs.declared.params.Edition.{Edition}
 use Rattle.hash.specs.declared.params.Params.{Params}
-use Rattle.hash.specs.declared.params.Selected.{Selected}
+use Rattle.std.specs.Prelude.{Ok, Err}
+use Rattle.hash.specs.declared.params.Unknown.{Unknown}
 use Rattle.signature.specs.Keys.{keygen_bytes, keygen_of, keygen_masks_fill}
 use Rattle.signature.specs.Checks.{first_no, work_words, keygen_seeds_sized, keygen_buffers_sized}
 use Rattle.signature.specs.KeyCalls.{keygen_leaves, keygen_call}
@@ -41,15 +43,12 @@ passed p seeds mask out work e =
 -- ---- the ends
 
 module _ (e : Edition) (set d : ℕ) (seeds mask out work : List ℕ) where
-  pub keygen-no-set : lookup_of set d e ≡ Selected.NoSet → outcome 1 out work ≡ keygen_call e set d seeds mask out work
+  pub keygen-unknown : (u : Unknown) → lookup_of set d e ≡ Err u → outcome (number_of (refusal_of u)) out work ≡ keygen_call e set d seeds mask out work
   unfolding keygen_call
-  keygen-no-set h = rw h refl
+  keygen-unknown Unknown.Set h = rw h refl
+  keygen-unknown Unknown.Shares h = rw h refl
 
-  pub keygen-no-shares : lookup_of set d e ≡ Selected.NoShares → outcome 2 out work ≡ keygen_call e set d seeds mask out work
-  unfolding keygen_call
-  keygen-no-shares h = rw h refl
-
-  module _ (p : Params) (h : lookup_of set d e ≡ Selected.Found p) where
+  module _ (p : Params) (h : lookup_of set d e ≡ Ok p) where
     keygen-is : keygen_leaves (first_no (keygen_behind p seeds mask out work ++ keygen_last p seeds mask)) p seeds mask out work
         ≡ keygen_call e set d seeds mask out work
     unfolding keygen_call

@@ -9,7 +9,7 @@ use lib.ListN.{length}
 use Rattle.hash.specs.Params.{lookup_of}
 use Rattle.hash.specs.declared.params.Edition.{Edition}
 use Rattle.hash.specs.declared.params.Params.{Params}
-use Rattle.hash.specs.declared.params.Selected.{Selected}
+use Rattle.std.specs.Prelude.{Ok}
 use Rattle.hash.proofs.Rows.{found, count-power}
 use Rattle.ring.specs.Words.{q, Words, all_below}
 use Rattle.ring.proofs.Checks.{below-yes}
@@ -38,13 +38,13 @@ pub record Leaves (p : Params) (bytes : List ℕ) (secret : ℕ → ℕ → ℕ)
 yes : (a b c d : Bool) → a ≡ true → b ≡ true → c ≡ true → d ≡ true → first_no ((3, a) ∷ (4, b) ∷ (5, c) ∷ (8, d) ∷ []) ≡ 0
 yes a b c d ha hb hc hd = rw (ha, hb, hc, hd)
 
-expand-goes : (e : Edition) (set d : ℕ) (p : Params) (key bytes words s : List ℕ) → lookup_of set d e ≡ Selected.Found p
+expand-goes : (e : Edition) (set d : ℕ) (p : Params) (key bytes words s : List ℕ) → lookup_of set d e ≡ Ok p
     → first_no (expand_behind p key bytes words) ≡ 0 → expand_of p key ≡ some s → expand_call e set d key bytes words ≡ outcome 0 (with_digest p (packed key)) s
 unfolding filled
 expand-goes e set d p key bytes words s h n o =
     sym (expand-done e set d key bytes words p (sym h) 0 (sym n) refl (outcome 0 (with_digest p (packed key)) s) (rw o refl))
 
-module _ (e : Edition) (set d : ℕ) (p : Params) (h : lookup_of set d e ≡ Selected.Found p) (seeds mask key : List ℕ)
+module _ (e : Edition) (set d : ℕ) (p : Params) (h : lookup_of set d e ≡ Ok p) (seeds mask key : List ℕ)
     (l : length seeds ≡ keygen_bytes p) (k : keygen_of p seeds mask ≡ some key) where
   pub made-passes : (bytes words : List ℕ) → expanded_key_sized p bytes words ≡ true → first_no (expand_behind p key bytes words) ≡ 0
   made-passes bytes words s =
@@ -65,8 +65,8 @@ module _ (e : Edition) (set d : ℕ) (p : Params) (h : lookup_of set d e ≡ Sel
       (record { status = refl; holds = made-expansion.holds })
 
 -- refreshing that passes its checks keeps the bytes, whatever digest is in them, and the secret
-pub refresh-keeps : (set d : ℕ) (p : Params) → lookup_of set d Edition.Printed ≡ Selected.Found p
-    → (K : ExpandedKey) (mask bytes words : List ℕ) → first_no (refresh_checks (Selected.Found p) p K mask bytes words) ≡ 0
+pub refresh-keeps : (set d : ℕ) (p : Params) → lookup_of set d Edition.Printed ≡ Ok p
+    → (K : ExpandedKey) (mask bytes words : List ℕ) → first_no (refresh_checks (Ok p) p K mask bytes words) ≡ 0
     → Leaves p K.bytes (secret_at p.shares K) (refresh_call set d K mask bytes words)
 refresh-keeps set d p h K mask bytes words n =
     let r = refreshable p K mask bytes words n in

@@ -11,7 +11,7 @@ use Rattle.hash.specs.declared.params.Params.{Params}
 use Rattle.hash.proofs.Rows.{Rule}
 use Rattle.ring.specs.Words.{q, add_w, sub_w, Below, Residues, Words}
 use Rattle.ring.specs.Transform.{ntt}
-use Rattle.ring.specs.UniformSteps.{held_of}
+use Rattle.ring.specs.UniformSteps.{poly_of}
 use Rattle.ring.proofs.Sums.{below_at, words-add, words-sub}
 use Rattle.ring.proofs.Filled.{some_same, none-some}
 use Rattle.ring.proofs.Mapped.{rounded-residues}
@@ -119,8 +119,8 @@ compressed-words p seeds s x h w e =
     let d = p.shares in
     let f : ℕ → Option (List ℕ) = λ (j : ℕ). collected p seeds (block (d * 512) j s) j (d - 1) in
     let a = all-some p.l f x e in
-    rw a.whole (words-build p.l (λ (j : ℕ). (held_of (f j)).poly)
-    (λ j k. collected-words p seeds (block (d * 512) j s) j d (block_words p.l j s w k) (d - 1) (omega arith) (held_of (f j)).poly (a.here j k)))
+    rw a.whole (words-build p.l (λ (j : ℕ). (poly_of (f j)))
+    (λ j k. collected-words p seeds (block (d * 512) j s) j d (block_words p.l j s w k) (d - 1) (omega arith) (poly_of (f j)) (a.here j k)))
 
 -- ---- what is read of a key
 

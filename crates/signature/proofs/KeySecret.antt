@@ -10,7 +10,7 @@ use Rattle.hash.specs.declared.params.Params.{Params}
 use Rattle.hash.proofs.Rows.{Rule}
 use Rattle.ring.specs.Words.{add_w, sub_w, Words}
 use Rattle.ring.specs.Uniform.{sample_q}
-use Rattle.ring.specs.UniformSteps.{held_of}
+use Rattle.ring.specs.UniformSteps.{poly_of}
 use Rattle.ring.proofs.Filled.{held-is, held-words}
 use Rattle.ring.proofs.Sums.{words-zeros, words-sub, add_comm, add_assoc, add-sub}
 use Rattle.ring.proofs.Draws.{sample_q-words}
@@ -73,7 +73,7 @@ module _ (r : ℕ → List ℕ) (good : (i : ℕ) → Words 512 (r i)) where
 
 -- share i + 1 of polynomial j, from its seed: zero where it does not fill
 abbrev pub from_seed : Params → List ℕ → ℕ → ℕ → List ℕ
-from_seed p seeds j i = (held_of (seeded_share p seeds j (suc i))).poly
+from_seed p seeds j i = (poly_of (seeded_share p seeds j (suc i)))
 
 seed-words : (p : Params) (seeds : List ℕ) (j i : ℕ) → Words 512 (from_seed p seeds j i)
 unfolding seeded_share_of
@@ -132,7 +132,7 @@ module _ (p : Params) (Z X s x : List ℕ) (h : 1 ≤ p.shares) (w : Words (p.l 
   all-last = all-some p.l last x e
 
   full_poly_at : ℕ → List ℕ
-  full_poly_at j = (held_of (last j)).poly
+  full_poly_at j = (poly_of (last j))
 
   last-is : (j : ℕ) → j < p.l → collected p Z (given j) j (p.shares - 1) ≡ some (full_poly_at j)
   unfolding last full_poly_at

@@ -46,7 +46,7 @@ rounded-made p to W s₀ s₁ s₂ h u v =
       vector = wrote-over u.sums (wrote-wide (omega arith) (wrote_value (ap round_t u.sums.new) v));
     }
 
--- ---- all of it: s₁ is the buffer behind `noise_seeds`, s₂ behind `public_vector`, s₃ behind `compress_vector`
+-- ---- all of it: s₁ is the buffer behind `masked_noise`, s₂ behind `public_vector`, s₃ behind `compress_vector`
 
 both_right : (a b : Bool) → a ≡ true → both a b ≡ b
 both_right a b e = ap (λ (c : Bool). both c b) e
@@ -156,12 +156,12 @@ module _ (p : Params) (work s₀ : List ℕ) (clear : s₀ ≡ zeros (length wor
 
   module _ (h : Tabled p) (coins : List ℕ) (at to : ℕ) (long : length work ≡ work_words p) (coins-long : length coins ≡ noise_bytes p)
       (at-s : at ≡ at_s p.shares) (at-t : to ≡ at_t p.l p.shares) where
-    -- what `noise_seeds` requires
-    pub noise-asked : (Tabled p × (1 ≤ p.ut) × (p.ut ≤ 48) × (p.l * p.rep * p.shares * (p.kappa / 8) ≤ length coins))
+    -- what `masked_noise` requires
+    pub noise-asked : ((p.l * p.rep * p.shares * (p.kappa / 8) ≤ length coins) × (p.rep < 256) × (p.l ≤ 256) × (1 ≤ p.ut) × (p.ut ≤ 48))
         × ((p.shares * 512 ≤ at) × (at + p.l * (p.shares * 512) ≤ length s₀) × Below q s₀)
     noise-asked =
         let R = room p h (length work) long in
-        ((h, h.ut-pos, omega (arith, h.ut-low), coins-first p h (length coins) coins-long), (omega arith, omega (arith, R.0, start.long), start.low))
+        ((coins-first p h (length coins) coins-long, omega (arith, h.rep-low), omega (arith, h.columns-low), h.ut-pos, omega (arith, h.ut-low)), (omega arith, omega (arith, R.0, start.long), start.low))
 
     module _ (g : MaskGen) (M s₁ : List ℕ) (M-long : length M ≡ 32256) (M-low : Below (2 ^ 60) M)
         (u : Wrote (p.shares * 512) at (p.l * (p.shares * 512)) (transformed (p.l * p.shares) (masked_noise p (noise_of p coins) g).shares) s₀ s₁) where
@@ -170,11 +170,11 @@ module _ (p : Params) (work s₀ : List ℕ) (clear : s₀ ≡ zeros (length wor
       held_in = matrix-held p h M M-long M-low
 
       -- what `public_vector` requires
-      pub vector-asked : (Tabled p × (p.k * p.rep * p.shares * (p.kappa / 8) ≤ length (lent_rest p coins)) × ResiduesHeld p M)
+      pub vector-asked : ((p.k * p.rep * p.shares * (p.kappa / 8) ≤ length (lent_rest p coins)) × ResiduesHeld p M)
           × ((p.shares * 512 + p.shares * 512 ≤ at) × (at + p.l * (p.shares * 512) ≤ to) × (to + p.k * 512 ≤ length s₁) × Below q s₁)
       vector-asked =
           let R = room p h (length work) long in
-          ((h, coins-second p h coins coins-long, held_in), (omega arith, omega arith, omega (arith, R.1, u.long, start.long), u.low))
+          ((coins-second p h coins coins-long, held_in), (omega arith, omega arith, omega (arith, R.1, u.long, start.long), u.low))
 
       module _ (x : MaskGen) (s₂ shares : List ℕ) (from : ℕ) (at_x : from ≡ at_x p.k p.l p.shares)
           (v : Rounded p to (image_of p (lent_rest p coins) x (words_of M) (span s₁ at (p.l * (p.shares * 512)))) s₁ s₂) where

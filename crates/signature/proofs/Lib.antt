@@ -21,6 +21,7 @@ pub mod Entries
 pub mod Filled
 pub mod Finished
 pub mod Fronts
+pub mod Held
 pub mod Hints
 pub mod Images
 pub mod InResidues
@@ -42,6 +43,7 @@ pub mod Packer
 pub mod Packing
 pub mod Product
 pub mod Proper
+pub mod Ranged
 pub mod Reading
 pub mod Renewed
 pub mod Recovered

@@ -5,11 +5,11 @@ use native.Mathlib.Omega.{arith}
 use Rattle.hash.specs.Params.{ShareCount, lookup_of}
 use Rattle.hash.specs.declared.params.Edition.{Edition}
 use Rattle.hash.specs.declared.params.Params.{Params}
-use Rattle.hash.specs.declared.params.Selected.{Selected}
+use Rattle.std.specs.Prelude.{Ok}
 use Rattle.hash.proofs.Rows.{found, count_low}
 use Rattle.signature.specs.Table.{Tabled}
 
-pub tabled : (set d : ℕ) (e : Edition) (p : Params) → lookup_of set d e ≡ Selected.Found p → Tabled p
+pub tabled : (set d : ℕ) (e : Edition) (p : Params) → lookup_of set d e ≡ Ok p → Tabled p
 tabled set d e p h =
     let r = found set d e p h in
     let t = r.rule in

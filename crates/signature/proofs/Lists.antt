@@ -7,13 +7,12 @@ use native.Mathlib.Omega.{arith}
 use native.Mathlib.Nat.{not-suc-le-zero, le_of_suc-le-suc}
 use native.Mathlib.Numerals.{add-one}
 use native.Mathlib.Decide.{le_ind, dec_lt, ℕ_discrete}
-use Rattle.signature.specs.declared.code.Got.TheVariants.{Code, Bad}
-use Rattle.signature.specs.declared.code.Next.TheVariants.{At}
+use Rattle.std.specs.Prelude.{Some, None}
 use lib.IntN.{ℤ, pos}
 use lib.ListN.{length, get_or, set, take, drop, length-append, length-drop}
-use lib.Seq.{sets, take_all, take-suc-set, drop-drop}
+use lib.Seq.{sets, take-suc-set, drop-drop}
 use Rattle.signature.specs.Code.{code, signed_of, codes, run_of, mag_of, read_code, read_codes}
-use Rattle.signature.specs.AnswerSteps.{got_of, NextOf}
+use Rattle.signature.specs.AnswerSteps.{got_of}
 use Rattle.signature.proofs.Strings.{sets-append}
 use Rattle.signature.proofs.Codes.{read_short, read-zero, read-cut, read_some}
 
@@ -47,16 +46,15 @@ module _ (w : ℕ) (zs : List ℤ) (i : ℕ) (h : i < length zs) where
 
 -- ---- reading
 
-got-code : (at : ℕ) (o : Option (ℤ × ℕ)) (z : ℤ) (next : ℕ) → Code z next ≡ got_of at o → (k : ℕ) × (o ≡ some (z, k)) × (next ≡ at + k)
+got-code : (at : ℕ) (o : Option (ℤ × ℕ)) (z : ℤ) (next : ℕ) → Some (z, next) ≡ got_of at o → (k : ℕ) × (o ≡ some (z, k)) × (next ≡ at + k)
 got-code at none z next e = let x : ◌≡◌ {A = ℕ} 0 1 = cc in absurd (omega arith)
 got-code at (some r) z next e =
-    let a : z ≡ r.0 = cc in
-    let b : next ≡ at + r.1 = cc in
-    (r.1, ap (λ (x : ℤ). some (x, r.1)) (sym a), b)
+    let p : ◌≡◌ {A = ℤ × ℕ} (z, next) (r.0, at + r.1) = cc in
+    (r.1, ap (λ (x : ℤ × ℕ). some (x.0, r.1)) (sym p), ap (λ (x : ℤ × ℕ). x.1) p)
 
-got-bad : (at : ℕ) (o : Option (ℤ × ℕ)) → Bad ≡ got_of at o → o ≡ none
-got-bad at none e = refl
-got-bad at (some r) e = let x : ◌≡◌ {A = ℕ} 0 1 = cc in absurd (omega arith)
+got-none : (at : ℕ) (o : Option (ℤ × ℕ)) → None ≡ got_of at o → o ≡ none
+got-none at none e = refl
+got-none at (some r) e = let x : ◌≡◌ {A = ℕ} 0 1 = cc in absurd (omega arith)
 
 pub read_more : (w : ℕ) (t : List ℕ) (i j k : ℕ) (xs : List ℤ) (z : ℤ) → read_codes w i t ≡ some (xs, j) → read_code w (drop j t) ≡ some (z, k) → read_codes w (i + 1) t ≡ some (xs ++ (z ∷ []), j + k)
 unfolding read_codes
@@ -103,12 +101,12 @@ past-start F at k h = let e : at + (k - at) ≡ k = omega arith in drop-drop (k 
 
 module _ (F : List ℕ) (w at k i : ℕ) (out : List ℤ) (order : at ≤ k) (e : read_codes w i (drop at F) ≡ some (take i out, k - at)) where
   -- the next has too few bits
-  pub read-stopped : (n : ℕ) → i < n → Bad ≡ got_of k (read_code w (drop k F)) → read_codes w n (drop at F) ≡ none
+  pub read-stopped : (n : ℕ) → i < n → None ≡ got_of k (read_code w (drop k F)) → read_codes w n (drop at F) ≡ none
   read-stopped n h b =
-      none_left w (drop at F) i (k - at) n (take i out) e (ap (read_code w) (past-start F at k order) ∙ got-bad k (read_code w (drop k F)) b) h
+      none_left w (drop at F) i (k - at) n (take i out) e (ap (read_code w) (past-start F at k order) ∙ got-none k (read_code w (drop k F)) b) h
 
   -- the next is z, and goes into place i as y
-  pub read-on : (z y : ℤ) (next : ℕ) → y ≡ z → i < length out → k ≤ length F → Code z next ≡ got_of k (read_code w (drop k F))
+  pub read-on : (z y : ℤ) (next : ℕ) → y ≡ z → i < length out → k ≤ length F → Some (z, next) ≡ got_of k (read_code w (drop k F))
       → (at ≤ next) × (next ≤ length F) × (read_codes w (i + 1) (drop at F) ≡ some (take (i + 1) (set out i y), next - at))
   read-on z y next same h l g =
       let f = got-code k (read_code w (drop k F)) z next g in
@@ -117,7 +115,3 @@ module _ (F : List ℕ) (w at k i : ℕ) (out : List ℤ) (order : at ≤ k) (e 
         omega (arith, f.2, read-le w (drop k F) z f.0 f.1, length-drop k F),
         read-turn w (drop at F) i (k - at) f.0 (next - at) out z y h same e (ap (read_code w) (past-start F at k order) ∙ f.1) x,
       )
-
-  -- all are read
-  pub read_done : (n : ℕ) → n ≡ i → length out ≤ i → NextOf at (read_codes w n (drop at F)) (At k) out
-  read_done n h l = let p : k ≡ at + (k - at) = omega arith in rw (h, e) (ap At p, sym (take_all i out l))

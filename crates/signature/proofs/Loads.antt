@@ -1,6 +1,6 @@
 -- The shares of a key in the work buffer of signing: those of a signing key are words, and what checks 3 and 5 say of a key.
-use mathlib.Core.Path.{◌≡◌, refl, sym, ap, subst, ◌∙◌}
-use mathlib.Core.Bool.{Bool, true, false}
+use mathlib.Core.Path.{◌≡◌, sym, ap, subst, ◌∙◌}
+use mathlib.Core.Bool.{true}
 use mathlib.Core.List.{List}
 use mathlib.Core.Option.{some}
 use Prim.Native.Nat.{ℕ, zero, suc, ◌+◌, ◌-◌, ◌*◌, ◌≤◌, ◌<◌}
@@ -11,16 +11,14 @@ use Rattle.hash.specs.declared.params.Params.{Params}
 use Rattle.ring.specs.Words.{q, Below, Words}
 use Rattle.ring.proofs.Draws.{sample_q-words}
 use Rattle.ring.proofs.Sums.{all-below}
-use Rattle.ring.proofs.Checks.{absurd-bool}
 use Rattle.ring.proofs.Filled.{some_same, held-words}
 use Rattle.sharing.specs.Blocks.{block, build}
 use Rattle.sharing.specs.Region.{put, Wrote}
 use Rattle.sharing.proofs.Lists.{block_words, words-build}
 use Rattle.sharing.proofs.Regions.{put_back, wrote-put}
-use Rattle.signature.specs.ExpandedKey.{expanded_bytes}
-use Rattle.signature.specs.AttemptSteps.{key_from}
+use Rattle.signature.specs.ExpandedKey.{expanded_in, expanded_bytes}
 use Rattle.signature.specs.Checks.{key_sized, shares_good}
-use Rattle.signature.specs.Keys.{full_share, seeded_share, share_at, decompressed, expand_of, shares_of}
+use Rattle.signature.specs.Keys.{packed, expanded, full_share, seeded_share, share_at, decompressed, expand_of, shares_of}
 use Rattle.signature.specs.Compress.{seeded_share_of}
 use Rattle.signature.specs.Matrix.{filled}
 use Rattle.signature.specs.ExpandSteps.{expanded_at, expanded_shares}
@@ -56,34 +54,23 @@ part-value p part X f e = some_same (expanded_shares p part) X (sym (expanded-al
 
 -- ---- checks 3 and 5
 
-module _ (p : Params) (key words : List ℕ) where
-  pub packed-long : (x : Bool) → x ≡ true → key_sized p (key_from x key words) ≡ true → length key ≡ p.sk_bytes
-  packed-long true e h = eqb-true (length key) p.sk_bytes h
-  packed-long false e h = absurd-bool (sym e)
+-- of a signing key
+module _ (p : Params) (key : List ℕ) where
+  pub packed-long : key_sized p (packed key) ≡ true → length key ≡ p.sk_bytes
+  packed-long h = eqb-true (length key) p.sk_bytes h
 
-  pub packed-low : (x : Bool) → x ≡ true → shares_good p (key_from x key words) ≡ true → Below q (full_share p (drop p.vk_bytes key))
-  packed-low true e h = all-below q (full_share p (drop p.vk_bytes key)) h
-  packed-low false e h = absurd-bool (sym e)
+  pub packed-low : shares_good p (packed key) ≡ true → Below q (full_share p (drop p.vk_bytes key))
+  packed-low h = all-below q (full_share p (drop p.vk_bytes key)) h
 
-  pub expanded-long : (x : Bool) → x ≡ false → key_sized p (key_from x key words) ≡ true → length words ≡ p.l * (p.shares * 512)
-  expanded-long false e h = (sizes (length key) (expanded_bytes p) (length words) (p.l * (p.shares * 512)) h).1
-  expanded-long true e h = absurd-bool e
-
-  pub key-bytes-long : (x : Bool) → x ≡ false → key_sized p (key_from x key words) ≡ true → length key ≡ expanded_bytes p
-  key-bytes-long false e h = (sizes (length key) (expanded_bytes p) (length words) (p.l * (p.shares * 512)) h).0
-  key-bytes-long true e h = absurd-bool e
-
-  pub expanded-low : (x : Bool) → x ≡ false → shares_good p (key_from x key words) ≡ true → Below q words
-  expanded-low false e h = all-below q words h
-  expanded-low true e h = absurd-bool e
-
-  -- the shares of the two forms
-  pub packed-shares : (x : Bool) → x ≡ true
-      → decompressed p (take (length key - p.vk_bytes) (drop p.vk_bytes key)) ≡ shares_of p (key_from x key words)
+  pub packed-shares : decompressed p (take (length key - p.vk_bytes) (drop p.vk_bytes key)) ≡ shares_of p (packed key)
   unfolding expand_of
-  packed-shares true e = ap (decompressed p) (part-all p.vk_bytes key)
-  packed-shares false e = absurd-bool (sym e)
+  packed-shares = ap (decompressed p) (part-all p.vk_bytes key)
 
-  pub expanded-shares : (x : Bool) → x ≡ false → some words ≡ shares_of p (key_from x key words)
-  expanded-shares false e = refl
-  expanded-shares true e = absurd-bool e
+-- of an expanded key
+module _ (p : Params) (bytes words : List ℕ) where
+  pub expanded-long : key_sized p (expanded (expanded_in bytes words)) ≡ true
+      → (length bytes ≡ expanded_bytes p) × (length words ≡ p.l * (p.shares * 512))
+  expanded-long h = sizes (length bytes) (expanded_bytes p) (length words) (p.l * (p.shares * 512)) h
+
+  pub expanded-low : shares_good p (expanded (expanded_in bytes words)) ≡ true → Below q words
+  expanded-low h = all-below q words h

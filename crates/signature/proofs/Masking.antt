@@ -1,5 +1,5 @@
 -- The masked steps that key generation and signing share (specs/Masked.antt), joined: noise and its transform, and the image of both.
-use mathlib.Core.Path.{◌≡◌, ap, subst, ◌∙◌}
+use mathlib.Core.Path.{◌≡◌, refl, ap, subst, ◌∙◌}
 use mathlib.Core.List.{List}
 use Prim.Native.Nat.{ℕ, ◌*◌, ◌^◌}
 use native.Mathlib.Omega.{arith}
@@ -9,13 +9,21 @@ use Rattle.ring.specs.Words.{Words}
 use Rattle.sharing.specs.Region.{span, Wrote}
 use Rattle.sharing.specs.Encoding.{skip, add_noise, zero_vector}
 use Rattle.sharing.specs.Masks.{masks}
+use Rattle.sharing.specs.NoiseSteps.{noise_reps, lent_noise}
 use Rattle.sharing.specs.declared.masks.MaskGen.{MaskGen}
+use Rattle.sharing.specs.declared.repeat.LentNoise.{LentNoise}
 use Rattle.sharing.proofs.Carry.{mask_low}
 use Rattle.sharing.proofs.Regions.{wrote_value, wrote-wide, wrote-over}
 use Rattle.sharing.proofs.Totals.{noise-words, zero_vector-words}
-use Rattle.signature.specs.Masked.{Noise, masked_noise, masked_image}
-use Rattle.signature.specs.MaskedSteps.{matrix_in, MatrixHeld, transformed, rows_of}
+use Rattle.signature.specs.Masked.{Noise, seeded, explicit, masked_noise, masked_image}
+use Rattle.signature.specs.MaskedSteps.{noise_lent, matrix_in, MatrixHeld, transformed, rows_of}
 use Rattle.signature.proofs.Images.{image-product}
+
+-- noise that is lent, as it is added to the first l polynomials
+pub lent-first : (p : Params) (noise : LentNoise) → (noise_reps p noise ≡ (noise_lent p noise).reps) × (lent_noise p noise ≡ (noise_lent p noise).first)
+unfolding seeded explicit
+lent-first p (LentNoise.Seeds u seeds) = (refl, refl)
+lent-first p (LentNoise.Words words) = (refl, refl)
 
 -- l zero encodings, their noise, and the transform
 pub noise-made : (p : Params) (at : ℕ) (N : Noise) (g x : MaskGen) (s₀ s₁ s₂ s₃ : List ℕ) → x ≡ skip masks p.shares p.l g
@@ -39,10 +47,6 @@ pub noise-next : (p : Params) (N : Noise) (g x y : MaskGen) → x ≡ skip masks
     → y ≡ (masked_noise p N g).next
 unfolding masked_noise
 noise-next p N g x y e f = f ∙ ap (skip masks p.shares (p.l * N.reps)) e
-
--- one repetition
-pub skip-once : (d k : ℕ) (x y : MaskGen) → y ≡ skip masks d k x → y ≡ skip masks d (k * 1) x
-skip-once d k x y e = let n : k ≡ k * 1 = omega arith in e ∙ ap (λ (m : ℕ). skip masks d m x) n
 
 -- the masked noise is a vector of words
 pub masked-words : (p : Params) (N : Noise) (g : MaskGen) → p.shares ≡ 2 ^ order_index p.shares

@@ -1,5 +1,5 @@
 -- Laws of the measure of one list (02, #112): coefficient by coefficient, and how it ends.
-use Prim.Native.Nat.{ℕ, zero, suc, ◌+◌, ◌*◌, ◌/◌, ◌^◌, ◌≤◌, ◌<◌}
+use Prim.Native.Nat.{ℕ, min, zero, suc, ◌+◌, ◌*◌, ◌/◌, ◌^◌, ◌≤◌, ◌<◌}
 use mathlib.Core.Path.{◌≡◌, refl, sym, ap, ◌∙◌}
 use mathlib.Core.Bool.{Bool, true, false}
 use mathlib.Core.List.{List, [], ◌∷◌}
@@ -12,6 +12,7 @@ use Rattle.hash.specs.Lists.{pick}
 use lib.Pow.{shr_mono}
 use native.Mathlib.Nat.{mul-le-mul, mul-add, not-suc-le-zero, le_of_suc-le-suc}
 use native.Mathlib.Omega.{arith}
+use native.Mathlib.Decide.{dec_lt}
 use Rattle.ring.specs.Checks.{both}
 use Rattle.ring.proofs.Checks.{absurd-bool, both_true, both_yes, left-no, right-no}
 use Rattle.signature.specs.Bounds.{within, squares}
@@ -125,10 +126,22 @@ module _ (limit top s v all : ℕ) (h : top ≤ limit) (f : (m : ℕ) → top < 
       ap (λ (r : Standing). pick t.passed r t) (ap (λ (r : Standing). measured limit s v all r cs) (count-top t c) ∙ measured-top (count_in top s v all t c) cs)
 
 -- the hint's: 2^24 times the square of 2^20 is above any sum of 64 bits
-pub hint-above : (all : ℕ) → all < 2 ^ 64 → (m : ℕ) → 1048575 < m → all < square_of (2 ^ 24) 0 m
+hint-above : (all : ℕ) → all < 2 ^ 64 → (m : ℕ) → 1048575 < m → all < square_of (2 ^ 24) 0 m
 hint-above all h m k =
     let l : 1048576 ≤ m / 2 ^ 0 = omega arith in
     omega (arith, h, mul-le-mul l l)
+
+-- so that a limit above 2^20 - 1 tells the same as 2^20 - 1
+pub hint-capped : (limit all : ℕ) → all < 2 ^ 64 → (t : Standing) (cs : List ℤ) → measured (min limit 1048575) (2 ^ 24) 0 all t cs ≡ measured limit (2 ^ 24) 0 all t cs
+hint-capped limit all h t cs = go (dec_lt limit 1048575)
+  where
+    go : Dec (limit < 1048575) → measured (min limit 1048575) (2 ^ 24) 0 all t cs ≡ measured limit (2 ^ 24) 0 all t cs
+    go (yes l) =
+        let e : min limit 1048575 ≡ limit = omega arith in
+        ap (λ (n : ℕ). measured n (2 ^ 24) 0 all t cs) e
+    go (no l) =
+        let e : min limit 1048575 ≡ 1048575 = omega (arith, l) in
+        ap (λ (n : ℕ). measured n (2 ^ 24) 0 all t cs) e ∙ sym (measured-top limit 1048575 (2 ^ 24) 0 all (omega (arith, l)) (hint-above all h) t cs)
 
 -- ---- how it ends
 

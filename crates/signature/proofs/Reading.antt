@@ -8,7 +8,7 @@ use native.Mathlib.Omega.{arith}
 use lib.IntN.{ℤ}
 use lib.ListN.{length, take, drop, length-drop}
 use lib.Seq.{drop_at, drop-drop, take-add}
-use Rattle.signature.specs.declared.code.Next.{Next}
+use Rattle.std.specs.Prelude.{Option as Answer, Some, None}
 use Rattle.signature.specs.Code.{codes, read_code, read_codes, one_more, then_one}
 use Rattle.signature.specs.Form.{read_both}
 use Rattle.signature.specs.AnswerSteps.{NextOf, all_zero, ReadOf}
@@ -19,14 +19,14 @@ use Rattle.signature.proofs.Whole.{trips, canons}
 -- ---- the answer of several numbers
 
 module _ (at : ℕ) (zs : List ℤ) where
-  pub next-no : (o : Option (List ℤ × ℕ)) (r : Next) → NextOf at o r zs → r ≡ Next.No → o ≡ none
-  next-no none r n e = refl
-  next-no (some s) r n e = let p = n.0 in let x : ◌≡◌ {A = ℕ} 0 1 = cc in absurd (omega arith)
+  pub next-no : (o : Option (List ℤ × ℕ)) (r : Answer ℕ) → None ≡ r → NextOf at o r zs → o ≡ none
+  next-no none r e n = refl
+  next-no (some s) r e n = let p = e ∙ n.0 in let x : ◌≡◌ {A = ℕ} 0 1 = cc in absurd (omega arith)
 
-  pub next-at : (o : Option (List ℤ × ℕ)) (r : Next) (k : ℕ) → NextOf at o r zs → r ≡ Next.At k → (j : ℕ) × (o ≡ some (zs, j)) × (k ≡ at + j)
-  next-at none r k n e = let x : ◌≡◌ {A = ℕ} 0 1 = cc in absurd (omega arith)
-  next-at (some s) r k n e =
-      let p = n.0 in
+  pub next-at : (o : Option (List ℤ × ℕ)) (k : ℕ) (r : Answer ℕ) → Some k ≡ r → NextOf at o r zs → (j : ℕ) × (o ≡ some (zs, j)) × (k ≡ at + j)
+  next-at none k r e n = let p = e ∙ n in let x : ◌≡◌ {A = ℕ} 0 1 = cc in absurd (omega arith)
+  next-at (some s) k r e n =
+      let p = e ∙ n.0 in
       let b : k ≡ at + s.1 = cc in
       (s.1, ap (λ (x : List ℤ). some (x, s.1)) (sym n.1), b)
 

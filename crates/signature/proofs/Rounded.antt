@@ -1,5 +1,4 @@
 -- Rounding of k polynomials in place (000, 2.2).
-use mathlib.Core.Path.{◌≡◌}
 use mathlib.Core.List.{List, [], ◌∷◌}
 use Prim.Native.Nat.{ℕ, ◌+◌, ◌*◌, ◌≤◌}
 use native.Mathlib.Omega.{arith}
@@ -7,18 +6,18 @@ use lib.ListN.{length}
 use Rattle.ring.specs.Words.{Below}
 use Rattle.ring.specs.Poly.{map_n}
 use Rattle.ring.specs.Round.{rounded}
-use Rattle.sharing.specs.Blocks.{block, build}
 use Rattle.sharing.specs.Region.{span, Wrote}
 use Rattle.sharing.proofs.Built.{map-blocks}
-use Rattle.sharing.proofs.Regions.{length-span, wrote_value, wrote-end}
+use Rattle.signature.specs.MaskedSteps.{mapped}
+use Rattle.sharing.proofs.Regions.{length-span, wrote_value}
 
 -- polynomial by polynomial, by v bits to the modulus m
-pub round-end : (v m k at i : ℕ) (s₀ s : List ℕ) → at + k * 512 ≤ length s₀ → i ≡ k
-    → Wrote 0 at (i * 512) (build i (λ (j : ℕ). map_n (rounded v m) (block 512 j (span s₀ at (k * 512))))) s₀ s
+pub wrote-rounded : (v m k at : ℕ) (s₀ s : List ℕ) → at + k * 512 ≤ length s₀
+    → Wrote 0 at (k * 512) (mapped k (map_n (rounded v m)) (span s₀ at (k * 512))) s₀ s
     → Wrote 0 at (k * 512) (map_n (rounded v m) (span s₀ at (k * 512))) s₀ s
-round-end v m k at i s₀ s h e u =
+wrote-rounded v m k at s₀ s h u =
     let X = span s₀ at (k * 512) in
-    wrote_value (map-blocks (rounded v m) 512 k X (length-span s₀ at (k * 512) h)) (wrote-end 512 (λ (j : ℕ). map_n (rounded v m) (block 512 j X)) e u)
+    wrote_value (map-blocks (rounded v m) 512 k X (length-span s₀ at (k * 512) h)) u
 
 -- below a smaller number is below a larger one
 pub below_up : (p r : ℕ) (xs : List ℕ) → p ≤ r → Below p xs → Below r xs

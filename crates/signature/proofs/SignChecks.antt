@@ -7,15 +7,14 @@ use borrow.Author.Tests.{leb-true, eq-eqb, ne_eqb}
 use lib.Dec.{eqb, leb}
 use lib.ListN.{length}
 use Rattle.hash.specs.declared.params.Params.{Params}
-use Rattle.hash.specs.declared.params.Selected.{Selected}
+use Rattle.std.specs.Prelude.{Ok}
 use Rattle.ring.specs.Words.{q, all_below}
-use Rattle.ring.proofs.Checks.{absurd-bool, asked, no-before, yes-before, yes_both, both_true, left-no, right-no, both-last}
+use Rattle.ring.proofs.Checks.{asked, no-before, yes-before, yes_both, both_true, left-no, right-no, both-last}
 use Rattle.sharing.specs.Noise.{noise_bytes}
-use Rattle.signature.specs.AttemptSteps.{coins_of}
 use Rattle.signature.specs.Checks.{first_no, both, attempts_allowed, sign_buffers_sized, message_sized, work_words, key_sized, key_good, shares_good, key_checks}
 use Rattle.signature.specs.Keys.{vk_seed, public_of, shares_of}
 use Rattle.signature.specs.Matrix.{matrix, filled}
-use Rattle.signature.specs.Sign.{Coins}
+use Rattle.signature.specs.Sign.{Coins, from_seeds, from_noise}
 use Rattle.signature.specs.SignCalls.{Key, coins_good, call_checks, sign_checks}
 use Rattle.signature.specs.SignSteps.{sign_no}
 use Rattle.signature.proofs.Asked.{sizes}
@@ -33,28 +32,25 @@ module _ (p : Params) (key : Key) (n : ℕ) (msg : List ℕ) (T : Coins) (out wo
 
 -- ---- check 7
 
-module _ (p : Params) (n : ℕ) (seeds noise masks : List ℕ) where
+module _ (p : Params) (n : ℕ) where
   abbrev words : ℕ
   words = n * ((p.l + p.k) * p.shares * 512)
 
-  pub coins-masks : (x : Bool) → (length masks ≡ n * 32 → ⊥) → false ≡ coins_good p n (coins_of x seeds noise masks)
-  coins-masks true h = sym (right-no (eqb (length noise) words) (right-no (all_below q noise) (ne_eqb (length masks) (n * 32) h)))
-  coins-masks false h = sym (right-no (eqb (length seeds) (n * noise_bytes p)) (ne_eqb (length masks) (n * 32) h))
+  pub coins-masks : (x : Bool) (noise masks : List ℕ) → (length masks ≡ n * 32 → ⊥)
+      → false ≡ coins_good p n (record { explicit = x; noise = noise; masks = masks })
+  coins-masks true noise masks h = sym (right-no (eqb (length noise) words) (right-no (all_below q noise) (ne_eqb (length masks) (n * 32) h)))
+  coins-masks false noise masks h = sym (right-no (eqb (length noise) (n * noise_bytes p)) (ne_eqb (length masks) (n * 32) h))
 
-  pub coins-noise : (x : Bool) → x ≡ true → (length noise ≡ words → ⊥) → false ≡ coins_good p n (coins_of x seeds noise masks)
-  coins-noise true e h = sym (left-no (both (all_below q noise) (eqb (length masks) (n * 32))) (ne_eqb (length noise) words h))
-  coins-noise false e h = absurd-bool (sym e)
+  pub coins-noise : (noise masks : List ℕ) → (length noise ≡ words → ⊥) → false ≡ coins_good p n (from_noise noise masks)
+  coins-noise noise masks h = sym (left-no (both (all_below q noise) (eqb (length masks) (n * 32))) (ne_eqb (length noise) words h))
 
-  module _ (m : length masks ≡ n * 32) where
-    pub coins-words : (x : Bool) → x ≡ true → length noise ≡ words → all_below q noise ≡ coins_good p n (coins_of x seeds noise masks)
-    coins-words true e h =
-        sym (ap (λ (b : Bool). both b (both (all_below q noise) (eqb (length masks) (n * 32)))) (eq-eqb (length noise) words h)
-        ∙ ap (both (all_below q noise)) (eq-eqb (length masks) (n * 32) m) ∙ both-last (all_below q noise))
-    coins-words false e h = absurd-bool (sym e)
+  pub coins-words : (noise masks : List ℕ) → length masks ≡ n * 32 → length noise ≡ words → all_below q noise ≡ coins_good p n (from_noise noise masks)
+  coins-words noise masks m h =
+      sym (ap (λ (b : Bool). both b (both (all_below q noise) (eqb (length masks) (n * 32)))) (eq-eqb (length noise) words h)
+      ∙ ap (both (all_below q noise)) (eq-eqb (length masks) (n * 32) m) ∙ both-last (all_below q noise))
 
-    pub coins-seeds : (x : Bool) → x ≡ false → eqb (length seeds) (n * noise_bytes p) ≡ coins_good p n (coins_of x seeds noise masks)
-    coins-seeds false e = let a = eqb (length seeds) (n * noise_bytes p) in sym (ap (both a) (eq-eqb (length masks) (n * 32) m) ∙ both-last a)
-    coins-seeds true e = absurd-bool e
+  pub coins-seeds : (noise masks : List ℕ) → length masks ≡ n * 32 → eqb (length noise) (n * noise_bytes p) ≡ coins_good p n (from_seeds noise masks)
+  coins-seeds noise masks m = let a = eqb (length noise) (n * noise_bytes p) in sym (ap (both a) (eq-eqb (length masks) (n * 32) m) ∙ both-last a)
 
 -- ---- what passing gives
 
@@ -83,7 +79,7 @@ all-passed p key n msg T out work e =
 
 -- .. and neither is check 10
 pub all_yes : (p : Params) (key : Key) (n : ℕ) (msg : List ℕ) (T : Coins) (out work : List ℕ)
-    → first_no (sign_checks (Selected.Found p) p key n msg T out work) ≡ 0
+    → first_no (sign_checks (Ok p) p key n msg T out work) ≡ 0
     → AllPassed p key n msg T out work × (filled (matrix p (vk_seed p (public_of p key))) ≡ true) × (filled (shares_of p key) ≡ true)
 unfolding sign_no
 all_yes p key n msg T out work e =

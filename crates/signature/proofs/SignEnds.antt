@@ -10,11 +10,13 @@ use lib.Dec.{leb}
 use lib.ListN.{length, take}
 use lib.Seq.{length-take-le}
 use Rattle.hash.specs.Lists.{zeros, pick}
-use Rattle.hash.specs.Params.{lookup_of}
+use Rattle.hash.specs.Params.{lookup_of, refusal_of}
+use Rattle.hash.specs.Refusal.{number_of}
 use Rattle.hash.specs.declared.params.Edition.{Edition}
 use Rattle.hash.specs.declared.params.Params.{Params}
-use Rattle.hash.specs.declared.params.Selected.{Selected}
-use Rattle.signature.specs.AttemptSteps.{key_from}
+use Rattle.std.specs.Prelude.{Ok, Err}
+use Rattle.hash.specs.declared.params.Unknown.{Unknown}
+use Rattle.signature.specs.AttemptSteps.{key_lent, key_bytes, BytesHeld}
 use Rattle.signature.specs.Checks.{both, key_sized, key_checks}
 use Rattle.signature.specs.Keys.{vk_seed, public_of, digest_of, shares_of}
 use Rattle.signature.specs.Matrix.{matrix, filled}
@@ -23,21 +25,25 @@ use Rattle.signature.specs.Outcome.{Outcome, signing, answer, refused_or, wiped,
 use Rattle.signature.specs.SignCalls.{Key, call_checks, public_for, attempts_of, sign_by, left_by, sign_call, sign_of}
 use Rattle.signature.specs.SignSteps.{sign_no, sign_made, answer_in}
 use Rattle.signature.specs.Table.{Tabled}
-use Rattle.signature.proofs.Digests.{public-is}
+use Rattle.signature.specs.declared.lent.LentKey.{LentKey}
+use Rattle.signature.proofs.Digests.{public-is, public-held}
 use Rattle.ring.proofs.Checks.{both_yes, right-no, no-before, yes-before}
 use Rattle.ring.proofs.Filled.{not-filled}
-use Rattle.signature.proofs.Loads.{packed-long, key-bytes-long}
+use Rattle.signature.proofs.Loads.{packed-long, expanded-long}
 use Rattle.signature.proofs.Expanded.{vk-in}
 
 -- ---- what a key of either form that passed check 3 holds
 
-module _ (p : Params) (h : Tabled p) (key words : List ℕ) where
-  pub public-in : (x : Bool) → key_sized p (key_from x key words) ≡ true → p.vk_bytes ≤ length key
-  public-in true s = vk-in p h key (packed-long p key words true refl s)
-  public-in false s = omega (arith, key-bytes-long p key words false refl s)
+module _ (p : Params) (h : Tabled p) where
+  pub bytes-held : (K : LentKey) → key_sized p (key_lent K) ≡ true → BytesHeld p K
+  bytes-held (LentKey.Signing key) s = vk-in p h key.now (packed-long p key.now s)
+  bytes-held (LentKey.Expanded bytes words) s = (expanded-long p bytes.now words.now s).0
 
-  pub public-long : (x : Bool) → key_sized p (key_from x key words) ≡ true → length (public_of p (key_from x key words)) ≡ p.vk_bytes
-  public-long x s = ap (λ (l : List ℕ). length l) (public-is p key words x) ∙ length-take-le p.vk_bytes key (public-in x s)
+  pub public-in : (K : LentKey) → key_sized p (key_lent K) ≡ true → p.vk_bytes ≤ length (key_bytes K)
+  public-in K s = public-held p K (bytes-held K s)
+
+  pub public-long : (K : LentKey) → key_sized p (key_lent K) ≡ true → length (public_of p (key_lent K)) ≡ p.vk_bytes
+  public-long K s = ap (λ (l : List ℕ). length l) (public-is p K) ∙ length-take-le p.vk_bytes (key_bytes K) (public-in K s)
 
 -- the matrix seed is the front of the public key
 pub seed-front : (p : Params) (vk : List ℕ) → take (p.kappa / 8 - 0) vk ≡ vk_seed p vk
@@ -124,7 +130,7 @@ made-is p vk digest msg T n (some A) (some s) = refl
 
 module _ (p : Params) (key : Key) (n : ℕ) (msg : List ℕ) (T : Coins) (out work : List ℕ) (k : ℕ) (f : k ≡ sign_no p key n msg T out work) where
   abbrev found : Outcome
-  found = left_by (sign_by (Selected.Found p) p key n msg T out work) out work
+  found = left_by (sign_by (Ok p) p key n msg T out work) out work
 
   abbrev last : List (ℕ × Bool)
   last = (10, both (filled (matrix p (vk_seed p (public_of p key)))) (filled (shares_of p key))) ∷ []
@@ -158,15 +164,12 @@ module _ (p : Params) (key : Key) (n : ℕ) (msg : List ℕ) (T : Coins) (out wo
     found-cleared m = ap (λ (b : Bool). signing k 0 out (pick b work (zeros (length work)))) (sym (right-no (leb 1 k) (lt-leb k 8 m))) ∙ refused
 
 module _ (e : Edition) (set d : ℕ) (key : Key) (n : ℕ) (msg : List ℕ) (T : Coins) (out work : List ℕ) where
-  pub sign-no-set : lookup_of set d e ≡ Selected.NoSet → signing 1 0 out work ≡ sign_call e set d key n msg T out work
+  pub sign-unknown : (u : Unknown) → lookup_of set d e ≡ Err u → signing (number_of (refusal_of u)) 0 out work ≡ sign_call e set d key n msg T out work
   unfolding sign_call sign_of
-  sign-no-set h = rw h refl
+  sign-unknown Unknown.Set h = rw h refl
+  sign-unknown Unknown.Shares h = rw h refl
 
-  pub sign-no-shares : lookup_of set d e ≡ Selected.NoShares → signing 2 0 out work ≡ sign_call e set d key n msg T out work
-  unfolding sign_call sign_of
-  sign-no-shares h = rw h refl
-
-  pub sign-on : (p : Params) → lookup_of set d e ≡ Selected.Found p
-      → left_by (sign_by (Selected.Found p) p key n msg T out work) out work ≡ sign_call e set d key n msg T out work
+  pub sign-on : (p : Params) → lookup_of set d e ≡ Ok p
+      → left_by (sign_by (Ok p) p key n msg T out work) out work ≡ sign_call e set d key n msg T out work
   unfolding sign_call sign_of
   sign-on p h = rw h refl

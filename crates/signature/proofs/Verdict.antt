@@ -1,24 +1,22 @@
 -- The checks 10, 11 and 16 of verifying, from what the code finds.
-use mathlib.Core.Path.{◌≡◌, refl, sym, ap, ◌∙◌}
+use mathlib.Core.Path.{◌≡◌, sym, ap, ◌∙◌}
 use mathlib.Core.Bool.{Bool, true, false}
 use mathlib.Core.List.{List, [], ◌∷◌, ◌++◌}
-use mathlib.Core.Option.{Option, some}
+use mathlib.Core.Option.{Option, some, none}
 use Prim.Native.Nat.{ℕ, ◌/◌}
 use lib.IntN.{ℤ}
 use Rattle.hash.specs.Lists.{pick}
 use Rattle.hash.specs.Shake.{shake256}
 use Rattle.hash.specs.declared.params.Params.{Params}
-use Rattle.ring.specs.UniformSteps.{held_of}
+use Rattle.ring.specs.UniformSteps.{poly_of}
 use Rattle.ring.proofs.Filled.{not-filled, filled-some}
 use Rattle.signature.specs.Challenge.{headed, ordered, chal_hash, chal_poly}
-use Rattle.signature.specs.ChallengeSteps.{chal_held}
 use Rattle.signature.specs.Checks.{hash_equal}
 use Rattle.signature.specs.Form.{Fields}
 use Rattle.signature.specs.Keys.{vk_seed, vk_vector}
 use Rattle.signature.specs.Matrix.{matrix, filled}
 use Rattle.signature.specs.Outcome.{first_no, held_or}
 use Rattle.signature.specs.Digest.{mu_of}
-use Rattle.signature.proofs.ChalResult.{challenge-there, challenge-missing}
 use Rattle.signature.specs.Verify.{recomputed, hash_checks}
 
 module _ (p : Params) (vk msg : List ℕ) (f : Fields) where
@@ -37,16 +35,14 @@ module _ (p : Params) (vk msg : List ℕ) (f : Fields) where
   unfolding filled
   verdict-matrix e = ap (λ (m : Option (List ℕ)). by m C) (not-filled M e)
 
-  pub verdict-challenge : filled (matrix p (vk_seed p vk)) ≡ true → (chal_held (chal_poly p f.hash)).ok ≡ false → first_no (hash_checks p vk msg f) ≡ 11
+  pub verdict-challenge : filled (matrix p (vk_seed p vk)) ≡ true → chal_poly p f.hash ≡ none → first_no (hash_checks p vk msg f) ≡ 11
   unfolding filled
-  verdict-challenge e g = ap (λ (m : Option (List ℕ)). by m C) (filled-some M e) ∙ ap (by (some (held_of M).poly)) (challenge-missing C _ refl g)
+  verdict-challenge e g = ap (λ (m : Option (List ℕ)). by m C) (filled-some M e) ∙ ap (by (some (poly_of M))) g
 
-  pub verdict-hash : (A : List ℕ) (b : Bool) → matrix p (vk_seed p vk) ≡ some A → (chal_held (chal_poly p f.hash)).ok ≡ true
-      → b ≡ hash_equal f (recomputed p A (vk_vector p vk) (mu_of p vk msg) f (chal_held (chal_poly p f.hash)).poly)
-      → first_no (hash_checks p vk msg f) ≡ pick b 0 16
+  pub verdict-hash : (A : List ℕ) (c : List ℤ) (b : Bool) → matrix p (vk_seed p vk) ≡ some A → chal_poly p f.hash ≡ some c
+      → b ≡ hash_equal f (recomputed p A (vk_vector p vk) (mu_of p vk msg) f c) → first_no (hash_checks p vk msg f) ≡ pick b 0 16
   unfolding filled
-  verdict-hash A b m g e =
-      ap (λ (o : Option (List ℕ)). by o C) m ∙ ap (by (some A)) (challenge-there C _ refl g) ∙ ap (λ (x : Bool). pick x 0 16) (sym e)
+  verdict-hash A c b m g e = ap (λ (o : Option (List ℕ)). by o C) m ∙ ap (by (some A)) g ∙ ap (λ (x : Bool). pick x 0 16) (sym e)
 
 -- the code's hash of equal parts
 pub hash-parts : {w w' mu mu' : List ℕ} (p : Params) → w ≡ w' → mu ≡ mu'

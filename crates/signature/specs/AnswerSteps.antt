@@ -1,21 +1,19 @@
 -- Steps (what the code leaves on its way; no call's contract reaches these): what the modules `code`, `form` and `fields` answer, in
 -- terms of the definitions of Code, Form and Sign.
-use Rattle.std.specs.Prelude.{◌≡◌, Bool, true, false, List, [], ◌∷◌, ℕ, zero, suc, ◌+◌, ℤ, drop}
+use Rattle.std.specs.Prelude.{◌≡◌, Bool, true, false, Option as Answer, Some, None, List, [], ◌∷◌, ℕ, zero, suc, ◌+◌, ℤ, drop}
 use Rattle.std.proofs.Math.Option.{Option, some, none}
 use Rattle.signature.specs.Form.{Fields}
 use Rattle.signature.specs.Sign.{Attempted, made, over, stuck, dry}
-use Rattle.signature.specs.declared.code.Got.{Got}
-use Rattle.signature.specs.declared.code.Next.{Next}
 
 -- one number, and the place behind it, which counts from the string's start
-abbrev pub got_of : ℕ → Option (ℤ × ℕ) → Got
-got_of at none = Got.Bad
-got_of at (some r) = Got.Code r.0 (at + r.1)
+abbrev pub got_of : ℕ → Option (ℤ × ℕ) → Answer (ℤ × ℕ)
+got_of at none = None
+got_of at (some r) = Some (r.0, at + r.1)
 
 -- several numbers, left in zs, and the place behind them
-abbrev pub NextOf : ℕ → Option (List ℤ × ℕ) → Next → List ℤ → Type 0
-NextOf at none r zs = r ≡ Next.No
-NextOf at (some s) r zs = (r ≡ Next.At (at + s.1)) × (zs ≡ s.0)
+abbrev pub NextOf : ℕ → Option (List ℤ × ℕ) → Answer ℕ → List ℤ → Type 0
+NextOf at none r zs = r ≡ None
+NextOf at (some s) r zs = (r ≡ Some (at + s.1)) × (zs ≡ s.0)
 
 -- ---- the whole signature
 

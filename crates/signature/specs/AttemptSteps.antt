@@ -2,8 +2,6 @@
 -- as Layout.antt says.
 use Rattle.std.specs.Prelude.{◌≡◌, Bool, true, false, List, ℕ, suc, ◌+◌, ◌*◌, ◌≤◌, ℤ, length}
 use Rattle.std.proofs.Math.Option.{some, none}
-use Rattle.std.specs.Borrow.{Bor}
-use Rattle.hash.specs.Lists.{pick}
 use Rattle.hash.specs.declared.params.Params.{Params}
 use Rattle.ring.specs.Words.{q, add_w, Below, Words}
 use Rattle.ring.specs.Transform.{intt, pointwise}
@@ -14,31 +12,43 @@ use Rattle.sharing.specs.Encoding.{skip, refreshed}
 use Rattle.sharing.specs.Masks.{masks}
 use Rattle.sharing.specs.declared.masks.MaskGen.{MaskGen}
 use Rattle.signature.specs.Challenge.{chal_hash, chal_poly}
-use Rattle.signature.specs.ChallengeSteps.{chal_held}
-use Rattle.signature.specs.ExpandedKey.{expanded_in}
+use Rattle.ring.specs.UniformSteps.{option_of}
+use Rattle.signature.specs.ExpandedKey.{expanded_in, expanded_bytes}
 use Rattle.signature.specs.Layout.{at_s, at_r, at_t, at_x}
 use Rattle.signature.specs.Masked.{Noise, masked_noise, masked_image}
 use Rattle.signature.specs.MaskedSteps.{transformed, untransformed}
 use Rattle.signature.specs.declared.attempt.Reply.{Reply}
+use Rattle.signature.specs.declared.lent.LentCoins.{LentCoins}
+use Rattle.signature.specs.declared.lent.LentKey.{LentKey}
+use Rattle.signature.specs.declared.lent.NoiseTape.{NoiseTape}
 use Rattle.signature.specs.Form.{Fields}
 use Rattle.signature.specs.Sign.{Public, signed_fields, Coins, noise_size, masked_response, refreshed_key, refreshed_response}
 use Rattle.signature.specs.SignCalls.{Key, packed, expanded}
 
--- the key that a call is lent: a signing key's bytes, or the bytes and the words of an expanded key
-abbrev pub key_from : Bool → List ℕ → List ℕ → Key
-key_from true bytes words = packed bytes
-key_from false bytes words = expanded (expanded_in bytes words)
+-- the key that a call is lent, and its bytes, which hold the public key and, of an expanded key, the digest
+abbrev pub key_lent : LentKey → Key
+key_lent (LentKey.Signing key) = packed key.now
+key_lent (LentKey.Expanded bytes words) = expanded (expanded_in bytes.now words.now)
 
--- what all attempts draw on: of the two forms of noise that which is used, and the mask seeds
-abbrev pub coins_of : Bool → List ℕ → List ℕ → List ℕ → Coins
-coins_of explicit seeds words masks = record { explicit = explicit; noise = pick explicit words seeds; masks = masks }
+abbrev pub key_bytes : LentKey → List ℕ
+key_bytes (LentKey.Signing key) = key.now
+key_bytes (LentKey.Expanded bytes words) = bytes.now
 
--- both, of the slices that are lent
-abbrev pub key_lent : Bool → Bor (List ℕ) → Bor (List ℕ) → Key
-key_lent is_packed bytes words = key_from is_packed bytes.now words.now
+abbrev pub BytesHeld : Params → LentKey → Type 0
+BytesHeld p (LentKey.Signing key) = p.vk_bytes ≤ length key.now
+BytesHeld p (LentKey.Expanded bytes words) = length bytes.now ≡ expanded_bytes p
 
-abbrev pub coins_lent : Bool → Bor (List ℕ) → Bor (List ℕ) → Bor (List ℕ) → Coins
-coins_lent explicit seeds words masks = coins_of explicit seeds.now words.now masks.now
+-- what all attempts draw on
+abbrev pub is_explicit : NoiseTape → Bool
+is_explicit (NoiseTape.Seeds seeds) = false
+is_explicit (NoiseTape.Words words) = true
+
+abbrev pub tape_of : NoiseTape → List ℕ
+tape_of (NoiseTape.Seeds seeds) = seeds.now
+tape_of (NoiseTape.Words words) = words.now
+
+abbrev pub coins_lent : LentCoins → Coins
+coins_lent T = record { explicit = is_explicit T.noise; noise = tape_of T.noise; masks = T.masks.now }
 
 -- the coins hold attempt number a + 1, and explicit noise is words below q
 pub record Within (p : Params) (T : Coins) (a : ℕ) : Type 0 where
@@ -127,7 +137,7 @@ hash_of p N g A mu = chal_hash p (round_w (commitment_of p N g A)) mu
 -- refreshed, the shares of z, z, and whether every mask up to line 15 filled; without one s and r as they were
 pub record Answered (p : Params) (N : Noise) (g : MaskGen) (A mu s : List ℕ) (o : Reply) (hash ys : List ℕ) : Type 0 where
   pub hash-is : hash ≡ hash_of p N g A mu
-  pub challenge-is : o.challenge ≡ chal_held (chal_poly p (hash_of p N g A mu))
+  pub challenge-is : o.challenge ≡ option_of (chal_poly p (hash_of p N g A mu))
   pub masks-none : chal_poly p (hash_of p N g A mu) ≡ none → o.full ≡ (masked_image p N g A).next.ok
   pub masks-are : (c : List ℤ) → chal_poly p (hash_of p N g A mu) ≡ some c → o.full ≡ (refreshed_response p N g A s (residues q c)).next.ok
   pub row : LastRow p N g A ys

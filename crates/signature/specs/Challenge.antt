@@ -1,12 +1,12 @@
 -- ChalHash and ChalPoly (000, Algorithms 9 and 10; 01, "Streams and shares"). The edition decides the order of w and mu, and which bit means -1.
-use Rattle.std.specs.Prelude.{Bool, List, [], ◌∷◌, ◌++◌, ℕ, zero, suc, min, ◌+◌, ◌*◌, ◌/◌, ◌%◌, eqb, ℤ, pos, negsuc, length, get_or, set, replicate}
+use Rattle.std.specs.Prelude.{Bool, List, [], ◌∷◌, ◌++◌, ℕ, zero, suc, min, ◌+◌, ◌*◌, ◌/◌, ◌%◌, eqb, ℤ, pos, negsuc, length, get_or, set, replicate, Result}
 use Rattle.std.proofs.Math.Option.{Option, some, none}
 use Rattle.hash.specs.Lists.{pick}
 use Rattle.hash.specs.Params.{lookup_of}
 use Rattle.hash.specs.Shake.{shake256}
 use Rattle.hash.specs.declared.params.Edition.{Edition}
 use Rattle.hash.specs.declared.params.Params.{Params}
-use Rattle.hash.specs.declared.params.Selected.{Selected}
+use Rattle.hash.specs.declared.params.Unknown.{Unknown}
 use Rattle.ring.specs.Checks.{first_no, polynomial_sized, filled, sample_leaves}
 use Rattle.signature.specs.Outcome.{set_known, found_in}
 
@@ -73,7 +73,7 @@ chal_hash p w mu = shake256 (headed 104 p.k ++ ordered p.edition w mu) (p.kappa 
 
 -- ---- the sampler over lent bytes: s is the look-up's answer, with any share count, on which nothing here depends; p is the record found in it
 
-abbrev pub challenge_checks : Selected → Params → List ℕ → List ℤ → List (ℕ × Bool)
+abbrev pub challenge_checks : Result Params Unknown → Params → List ℕ → List ℤ → List (ℕ × Bool)
 challenge_checks s p bytes out = (1, set_known s) ∷ (8, polynomial_sized out) ∷ (11, filled (challenge p.edition p.omega bytes)) ∷ []
 
 -- the status, and what out holds afterwards

@@ -1,11 +1,10 @@
 -- Steps (what the code leaves on its way; no call's contract reaches these): ChalHash and ChalPoly (000, Algorithms 9 and 10) block by block.
-use Rattle.std.specs.Prelude.{Bool, true, false, List, [], ◌∷◌, ℕ, ◌+◌, ◌*◌, ◌/◌, ◌%◌, ◌^◌, ℤ, pos, length, get_or, replicate}
-use Rattle.std.proofs.Math.Option.{Option, some, none}
+use Rattle.std.specs.Prelude.{List, [], ◌∷◌, ℕ, ◌+◌, ◌*◌, ◌/◌, ◌%◌, ◌^◌, length, get_or}
 use Rattle.std.specs.Int.Count.{ones}
 use Rattle.hash.specs.Lists.{table}
 use Rattle.hash.specs.Keccak.{State, keccak_f}
 use Rattle.hash.specs.Shake.{absorb_from, finish, rate, stream}
-use Rattle.signature.specs.declared.challenge.Challenged.{Challenged}
+use Rattle.signature.specs.declared.challenge.Source.{Source}
 use Rattle.signature.specs.Challenge.{chal_draws}
 
 -- ---- the map of taken positions: bit p of eight words, and the ones of all of them
@@ -17,30 +16,25 @@ unfoldable pub ones_of : List ℕ → ℕ
 ones_of [] = 0
 ones_of (x ∷ m) = ones x + ones_of m
 
--- ---- what the code holds
+-- ---- what is drawn from
 
--- the answer: a polynomial, or zero where there is none
-unfoldable pub chal_held : Option (List ℤ) → Challenged
-chal_held (some c) = record { ok = true; poly = c }
-chal_held none = record { ok = false; poly = replicate 512 (pos 0) }
+-- its bytes: 16 blocks of the stream, or those lent; and how many draws they are
+abbrev pub bytes_of : Source → List ℕ
+bytes_of (Source.Stream S) = table (stream S) 2176
+bytes_of (Source.Lent bytes) = bytes.now
 
--- the bytes that are drawn from: 16 blocks of the stream that a state gives, or those lent; and how many draws they are
-abbrev pub bytes_of : Bool → State → List ℕ → List ℕ
-bytes_of true S lent = table (stream S) 2176
-bytes_of false S lent = lent
+abbrev pub draws_of : Source → ℕ
+draws_of (Source.Stream S) = 1088
+draws_of (Source.Lent bytes) = chal_draws (length bytes.now)
 
-abbrev pub draws_of : Bool → ℕ → ℕ
-draws_of true n = 1088
-draws_of false n = chal_draws n
+-- block i, where that of a stream is the next one; and the source behind it
+abbrev pub block_of : Source → ℕ → List ℕ
+block_of (Source.Stream S) i = rate S
+block_of (Source.Lent bytes) i = table (λ j. get_or bytes.now (i * 136 + j) 0) 136
 
--- block i, of the state that gives it or of the lent bytes; and the state that gives the block behind it
-abbrev pub block_of : Bool → State → List ℕ → ℕ → List ℕ
-block_of true S lent i = rate S
-block_of false S lent i = table (λ j. get_or lent (i * 136 + j) 0) 136
-
-abbrev pub next_of : Bool → State → State
-next_of true S = keccak_f S
-next_of false S = S
+abbrev pub next_of : Source → Source
+next_of (Source.Stream S) = Source.Stream (keccak_f S)
+next_of (Source.Lent bytes) = Source.Lent bytes
 
 -- the state behind a message of n bytes that S absorbed, and a and b
 abbrev pub behind : State → ℕ → List ℕ → List ℕ → State

@@ -1,10 +1,10 @@
 -- The calls on keys: key generation, expanding, refreshing. The checks that each puts, in their order, and what it leaves in every buffer, for
 -- any input. In each s is the look-up's answer and p the record found in it.
-use Rattle.std.specs.Prelude.{Bool, List, [], ◌∷◌, ◌++◌, ℕ}
+use Rattle.std.specs.Prelude.{Bool, List, [], ◌∷◌, ◌++◌, ℕ, Result}
 use Rattle.hash.specs.Params.{lookup_of}
 use Rattle.hash.specs.declared.params.Edition.{Edition}
 use Rattle.hash.specs.declared.params.Params.{Params}
-use Rattle.hash.specs.declared.params.Selected.{Selected}
+use Rattle.hash.specs.declared.params.Unknown.{Unknown}
 use Rattle.signature.specs.Checks.{mask_seed_sized, keygen_seeds_sized, keygen_buffers_sized, expanded_key_sized, key_checks}
 use Rattle.signature.specs.ExpandedKey.{ExpandedKey}
 use Rattle.signature.specs.Keys.{packed, expanded, keygen_of, keygen_masks_fill, expand_of, expanded_of, refresh_masks_fill, refreshed_of}
@@ -13,7 +13,7 @@ use Rattle.signature.specs.Outcome.{Outcome, outcome, first_no, held_or, written
 
 -- ---- key generation: the result is the signing key; the words are the work buffer's
 
-abbrev pub keygen_checks : Selected → Params → List ℕ → List ℕ → List ℕ → List ℕ → List (ℕ × Bool)
+abbrev pub keygen_checks : Result Params Unknown → Params → List ℕ → List ℕ → List ℕ → List ℕ → List (ℕ × Bool)
 keygen_checks s p seeds mask out work =
     (1, set_known s)
     ∷ (2, shares_known s)
@@ -39,7 +39,7 @@ keygen_call e set d seeds mask out work =
 abbrev pub key_leaves : ℕ → ExpandedKey → List ℕ → List ℕ → Outcome
 key_leaves n K bytes words = outcome n (written n K.bytes bytes) (written n K.words words)
 
-abbrev pub expand_checks : Selected → Params → List ℕ → List ℕ → List ℕ → List (ℕ × Bool)
+abbrev pub expand_checks : Result Params Unknown → Params → List ℕ → List ℕ → List ℕ → List (ℕ × Bool)
 expand_checks s p key bytes words =
     (1, set_known s)
     ∷ (2, shares_known s)
@@ -53,7 +53,7 @@ expand_call e set d key bytes words =
     key_leaves (first_no (expand_checks s p key bytes words)) (expanded_of p key) bytes words
 
 -- lent an expanded key and a mask seed
-abbrev pub refresh_checks : Selected → Params → ExpandedKey → List ℕ → List ℕ → List ℕ → List (ℕ × Bool)
+abbrev pub refresh_checks : Result Params Unknown → Params → ExpandedKey → List ℕ → List ℕ → List ℕ → List (ℕ × Bool)
 refresh_checks s p K mask bytes words =
     (1, set_known s)
     ∷ (2, shares_known s)

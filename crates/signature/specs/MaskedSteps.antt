@@ -1,5 +1,6 @@
--- Steps (what the code leaves on its way; no call's contract reaches these): the masked product row by row, by the transform.
-use Rattle.std.specs.Prelude.{◌≡◌, List, ℕ, suc, ◌+◌, ◌*◌, ◌^◌, ◌≤◌, length}
+-- Steps (what the code leaves on its way; no call's contract reaches these): lent noise, and the masked product row by row, by the transform.
+use Rattle.std.specs.Coded.{le_prop}
+use Rattle.std.specs.Prelude.{◌≡◌, List, [], ◌∷◌, ℕ, suc, ◌+◌, ◌*◌, ◌^◌, ◌≤◌, length}
 use Rattle.hash.specs.declared.params.Params.{Params}
 use Rattle.ring.specs.Words.{q, Below}
 use Rattle.ring.specs.Rns.{words_of}
@@ -8,15 +9,31 @@ use Rattle.sharing.specs.Blocks.{block, build, sum_of, total, totals}
 use Rattle.sharing.specs.Region.{span, Wrote}
 use Rattle.sharing.specs.Encoding.{add_rep}
 use Rattle.sharing.specs.Masks.{masks}
+use Rattle.sharing.specs.Noise.{noise_bytes}
 use Rattle.sharing.specs.declared.masks.MaskGen.{MaskGen}
+use Rattle.sharing.specs.declared.repeat.LentNoise.{LentNoise}
+use Rattle.signature.specs.Masked.{Noise, seeded, explicit}
 
--- a vector of n polynomials, each transformed
+-- noise that is lent for l + k polynomials; it is just that of one attempt
+abbrev pub noise_lent : Params → LentNoise → Noise
+noise_lent p (LentNoise.Seeds u seeds) = seeded p u seeds.now
+noise_lent p (LentNoise.Words words) = explicit p words.now
+
+abbrev pub NoiseSized : Params → LentNoise → Type 0
+NoiseSized p (LentNoise.Seeds u seeds) = (length seeds.now ≡ noise_bytes p) × (1 ≤ u) × (u ≤ 48)
+NoiseSized p (LentNoise.Words words) = (length words.now ≡ (p.l + p.k) * p.shares * 512) × Below q words.now
+
+-- a vector of n polynomials, each turned into another by φ
+abbrev pub mapped : ℕ → (List ℕ → List ℕ) → List ℕ → List ℕ
+mapped n φ xs = build n (λ (i : ℕ). φ (block 512 i xs))
+
+-- .. transformed
 unfoldable pub transformed : ℕ → List ℕ → List ℕ
-transformed n xs = build n (λ (i : ℕ). ntt (block 512 i xs))
+transformed n xs = mapped n ntt xs
 
 -- .. and turned back
 unfoldable pub untransformed : ℕ → List ℕ → List ℕ
-untransformed n xs = build n (λ (i : ℕ). intt (block 512 i xs))
+untransformed n xs = mapped n intt xs
 
 -- the matrix that is held in the transform domain as M, which is long enough and whose words are below q
 abbrev pub matrix_in : Params → List ℕ → List ℕ
@@ -28,6 +45,14 @@ MatrixHeld p M = (p.k * (p.l * 512) ≤ length M) × Below q M
 -- .. held as M, words of two residues (`ring`, specs/Rns)
 abbrev pub ResiduesHeld : Params → List ℕ → Type 0
 ResiduesHeld p M = MatrixHeld p (words_of M) × Below (2 ^ 60) M
+
+-- it has one proof at most, as the fact of a type's field must
+below-prop : (n : ℕ) (xs : List ℕ) → IsProp (Below n xs)
+below-prop n [] = hlevel le_prop
+below-prop n (x ∷ xs) = hlevel (le_prop, below-prop n xs)
+
+pub held-prop : (p : Params) (M : List ℕ) → IsProp (ResiduesHeld p M)
+held-prop p M = hlevel (le_prop, below-prop)
 
 -- a row of the matrix applied to a vector, T and Z, both in the transform domain
 unfoldable pub applied : ℕ → List ℕ → List ℕ → List ℕ

@@ -1,10 +1,10 @@
 -- What a call gives and leaves (01, "Questions put to a call"), and the look-up's answer in a call's checks.
-use Rattle.std.specs.Prelude.{Bool, true, false, List, [], ℕ, zero, suc, leb, length}
+use Rattle.std.specs.Prelude.{Bool, true, false, List, [], ℕ, zero, suc, leb, length, Result, Ok, Err}
 use Rattle.hash.specs.Lists.{zeros, pick}
 use Rattle.hash.specs.Params.{params_of}
 use Rattle.hash.specs.declared.params.Edition.{Edition}
 use Rattle.hash.specs.declared.params.Params.{Params}
-use Rattle.hash.specs.declared.params.Selected.{Selected}
+use Rattle.hash.specs.declared.params.Unknown.{Unknown}
 pub use Rattle.ring.specs.Checks.{first_no, both, held_or, written}
 
 pub record Outcome : Type 0 where
@@ -38,17 +38,16 @@ wiped n work = pick (both (leb 1 n) (leb n 8)) work (zeros (length work))
 -- ---- the look-up: the answers of checks 1 and 2, and the record found. Where none was found one of the two is a no, so that the record, here
 -- all zero, is not looked at
 
-abbrev pub set_known : Selected → Bool
-set_known (Selected.Found p) = true
-set_known Selected.NoSet = false
-set_known Selected.NoShares = true
+abbrev pub set_known : Result Params Unknown → Bool
+set_known (Ok p) = true
+set_known (Err Unknown.Set) = false
+set_known (Err Unknown.Shares) = true
 
-abbrev pub shares_known : Selected → Bool
-shares_known (Selected.Found p) = true
-shares_known Selected.NoSet = true
-shares_known Selected.NoShares = false
+abbrev pub shares_known : Result Params Unknown → Bool
+shares_known (Ok p) = true
+shares_known (Err Unknown.Set) = true
+shares_known (Err Unknown.Shares) = false
 
-abbrev pub found_in : Selected → Params
-found_in (Selected.Found p) = p
-found_in Selected.NoSet = params_of [] Edition.Printed
-found_in Selected.NoShares = params_of [] Edition.Printed
+abbrev pub found_in : Result Params Unknown → Params
+found_in (Ok p) = p
+found_in (Err e) = params_of [] Edition.Printed

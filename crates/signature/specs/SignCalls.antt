@@ -1,11 +1,11 @@
 -- The signing calls: with a signing key or an expanded key, from seeds or with explicit noise. The checks that each puts, in their order, what
 -- each answers and what it leaves in every buffer.
-use Rattle.std.specs.Prelude.{Bool, List, [], ◌∷◌, ◌++◌, ℕ}
+use Rattle.std.specs.Prelude.{Bool, List, [], ◌∷◌, ◌++◌, ℕ, Result}
 use Rattle.hash.specs.Lists.{pick}
 use Rattle.hash.specs.Params.{lookup_of}
 use Rattle.hash.specs.declared.params.Edition.{Edition}
 use Rattle.hash.specs.declared.params.Params.{Params}
-use Rattle.hash.specs.declared.params.Selected.{Selected}
+use Rattle.hash.specs.declared.params.Unknown.{Unknown}
 use Rattle.signature.specs.Checks.{attempts_allowed, sign_seeds_sized, sign_noise_good, sign_buffers_sized, message_sized, key_checks}
 use Rattle.signature.specs.Digest.{mu_from}
 pub use Rattle.signature.specs.Keys.{Key, packed, expanded}
@@ -24,7 +24,7 @@ call_checks p n msg T out work =
     (6, attempts_allowed n) ∷ (7, coins_good p n T) ∷ (8, sign_buffers_sized p out work) ∷ (9, message_sized msg) ∷ []
 
 -- 1 to 10, the last of the matrix and of the share seeds; s is the look-up's answer and p the record found in it
-abbrev pub sign_checks : Selected → Params → Key → ℕ → List ℕ → Coins → List ℕ → List ℕ → List (ℕ × Bool)
+abbrev pub sign_checks : Result Params Unknown → Params → Key → ℕ → List ℕ → Coins → List ℕ → List ℕ → List (ℕ × Bool)
 sign_checks s p key n msg T out work =
     (1, set_known s)
     ∷ (2, shares_known s)
@@ -42,7 +42,7 @@ attempts_of p key n msg T =
     sign_from p (public_for p (public_of p key) (digest_of p key) msg (held_or (matrix p (vk_seed p (public_of p key))) [])) T n 0 (held_or (shares_of p key) [])
 
 -- the answer: a refusal, or what the attempts give
-abbrev pub sign_by : Selected → Params → Key → ℕ → List ℕ → Coins → List ℕ → List ℕ → Outcome
+abbrev pub sign_by : Result Params Unknown → Params → Key → ℕ → List ℕ → Coins → List ℕ → List ℕ → Outcome
 sign_by s p key n msg T out work = refused_or (first_no (sign_checks s p key n msg T out work)) (attempts_of p key n msg T)
 
 unfoldable pub sign_of : Edition → ℕ → ℕ → Key → ℕ → List ℕ → Coins → List ℕ → List ℕ → Outcome

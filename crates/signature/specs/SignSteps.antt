@@ -1,9 +1,8 @@
 -- Steps (what the code leaves on its way; no call's contract reaches these): a signing call's checks before any step, the end of an
 -- attempt as the code tells it, and what the attempts leave.
-use Rattle.std.specs.Prelude.{◌≡◌, true, false, List, [], ◌++◌, ℕ, ◌*◌, ℤ}
+use Rattle.std.specs.Prelude.{◌≡◌, true, false, List, [], ◌++◌, ℕ, ◌*◌, ℤ, Ok}
 use Rattle.std.proofs.Math.Option.{Option, some, none}
 use Rattle.hash.specs.declared.params.Params.{Params}
-use Rattle.hash.specs.declared.params.Selected.{Selected}
 use Rattle.ring.specs.Words.{q}
 use Rattle.ring.specs.Round.{residues}
 use Rattle.sharing.specs.Region.{span}
@@ -36,7 +35,7 @@ signed_with p key n msg T out work =
     left_by (sign_made p (public_of p key) (digest_of p key) msg T n (matrix p (vk_seed p (public_of p key))) (shares_of p key)) out work
 
 abbrev pub signed_found : Params → Key → ℕ → List ℕ → Coins → List ℕ → List ℕ → Outcome
-signed_found p key n msg T out work = left_by (sign_by (Selected.Found p) p key n msg T out work) out work
+signed_found p key n msg T out work = left_by (sign_by (Ok p) p key n msg T out work) out work
 
 -- what shares the work buffer ys holds behind a response: s refreshed, the shares of z, and those of the last row of w
 pub record Spent (p : Params) (P : Public) (N : Noise) (g : MaskGen) (s ys : List ℕ) : Type 0 where

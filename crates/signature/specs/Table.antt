@@ -1,5 +1,10 @@
--- Steps (no call's contract reaches this): what every record of the parameter table has. proofs/Listing.antt shows it.
-use Rattle.std.specs.Prelude.{◌≡◌, ◌+◌, ◌-◌, ◌*◌, ◌^◌, ◌≤◌, ◌<◌}
+-- Steps (no call's contract reaches this): what every record of the parameter table has. The type Row states it (src/row.rt),
+-- and proofs/Listing.antt shows it.
+use mathlib.Core.Path.{ap}
+use mathlib.Core.Logic.{◌⊎◌, inl, inr}
+use native.Mathlib.Omega.{arith}
+use Rattle.std.specs.Coded.{Coded-set, coded_ℕ, le_prop}
+use Rattle.std.specs.Prelude.{◌≡◌, ℕ, ◌+◌, ◌-◌, ◌*◌, ◌^◌, ◌≤◌, ◌<◌}
 use Rattle.hash.specs.Params.{ShareCount}
 use Rattle.hash.specs.declared.params.Params.{Params}
 use Rattle.signature.specs.Form.{hash_bytes}
@@ -32,3 +37,23 @@ pub record Tabled (p : Params) : Type 0 where
   -- the bounds
   pub hint-low : p.hint_limit ≤ 3
   pub binf-low : p.binf < 2 ^ 46
+
+-- ---- it has one proof at most, as the fact of a type's field must
+
+of_two-prop : {A B : Type 0} → IsProp A → IsProp B → (A → B → ⊥) → IsProp (A ⊎ B)
+of_two-prop a b apart (inl x) (inl y) = ap inl (a x y)
+of_two-prop a b apart (inl x) (inr y) = absurd (apart x y)
+of_two-prop a b apart (inr x) (inl y) = absurd (apart y x)
+of_two-prop a b apart (inr x) (inr y) = ap inr (b x y)
+
+of_six-prop : (d : ℕ) → IsProp ((d ≡ 1) ⊎ (d ≡ 2) ⊎ (d ≡ 4) ⊎ (d ≡ 8) ⊎ (d ≡ 16) ⊎ (d ≡ 32))
+of_six-prop d =
+    let one : (n : ℕ) → IsProp (d ≡ n) = λ n. Coded-set coded_ℕ d n in
+    of_two-prop (one 1)
+    (of_two-prop (one 2)
+    (of_two-prop (one 4) (of_two-prop (one 8) (of_two-prop (one 16) (one 32) (λ e f. omega arith)) (λ e f. omega arith)) (λ e f. omega arith))
+    (λ e f. omega arith))
+    (λ e f. omega arith)
+
+pub Tabled-prop : (p : Params) → IsProp (Tabled p)
+Tabled-prop p = hlevel (Coded-set coded_ℕ, le_prop, of_six-prop p.shares)

@@ -1,10 +1,10 @@
 -- Verifying (000, Algorithm 3) with the checks of 01 around it: 1, 3, 4, 9, 13, 14, 15, 10, 11, 16. The status is all that a call gives.
-use Rattle.std.specs.Prelude.{Bool, List, [], ◌∷◌, ℕ, ℤ}
+use Rattle.std.specs.Prelude.{Bool, List, [], ◌∷◌, ℕ, ℤ, Result}
 use Rattle.std.proofs.Math.Option.{Option, some, none}
 use Rattle.hash.specs.Params.{lookup_of}
 use Rattle.hash.specs.declared.params.Edition.{Edition}
 use Rattle.hash.specs.declared.params.Params.{Params}
-use Rattle.hash.specs.declared.params.Selected.{Selected}
+use Rattle.hash.specs.declared.params.Unknown.{Unknown}
 use Rattle.ring.specs.Words.{q}
 use Rattle.ring.specs.Round.{residues}
 use Rattle.signature.specs.Bounds.{check_bounds}
@@ -37,7 +37,7 @@ fields_in (some f) = f
 fields_in none = record { hash = []; hint = []; response = [] }
 
 -- s is the look-up's answer, with any share count, on which no verdict depends; p is the record found in it
-abbrev pub verify_checks : Selected → Params → List ℕ → List ℕ → List ℕ → List (ℕ × Bool)
+abbrev pub verify_checks : Result Params Unknown → Params → List ℕ → List ℕ → List ℕ → List (ℕ × Bool)
 verify_checks s p vk msg sig =
     (1, set_known s)
     ∷ (3, public_key_sized p vk)

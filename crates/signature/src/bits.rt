@@ -3,8 +3,6 @@ ghost use Rattle.std.specs.Prelude.{◌≡◌, ◌+◌, ◌*◌, ◌%◌, ◌^�
 ghost use Rattle.std.proofs.lemmas.List.Edits.{sets};
 ghost use Rattle.signature.specs.Bits.{bits_of, val_of, bit_string, repack};
 
-use hash::num::wide;
-
 // The w lowest bits of x, as a number.
 pub(crate) fn low(x: u64, w: usize) -> u64
     requires { w < 64 }
@@ -19,7 +17,7 @@ pub(crate) fn get_bit(buf: &[u8], at: usize) -> u64
     ensures value { result ≡ get_or (bit_string 8 buf.now) at 0 }
     ensures upper_bound { result < 2 }
 {
-    (wide(buf[at / 8]) >> (at % 8)) % 2
+    (u64::from(buf[at / 8]) >> (at % 8)) % 2
 }
 
 // Stores the bit b at `at`.
@@ -31,7 +29,7 @@ pub(crate) fn put_bit(buf: &mut [u8], at: usize, b: u64)
     let i = at / 8;
     let k = at % 8;
     let x = buf[i];
-    if wide(x >> k) % 2 != b {
+    if u64::from(x >> k) % 2 != b {
         buf[i] = x ^ (1u8 << k);
     }
 }
@@ -65,10 +63,8 @@ fn put_slow(buf: &mut [u8], at: usize, v: u64, w: usize)
     requires w_bound { w ≤ 64 }
     ensures { bit_string 8 buf.new ≡ sets (bit_string 8 buf.old) at (bits_of w v) }
 {
-    let mut k: usize = 0;
-    while k < w {
+    for k in 0..w {
         put_bit(buf, at + k, (v >> k) % 2);
-        k += 1;
     }
 }
 
@@ -104,10 +100,8 @@ pub(crate) fn put_run(buf: &mut [u8], at: usize, b: u64, n: usize)
     requires b_bound { b < 2 }
     ensures { bit_string 8 buf.new ≡ sets (bit_string 8 buf.old) at (replicate n b) }
 {
-    let mut k: usize = 0;
-    while k < n {
+    for k in 0..n {
         put_bit(buf, at + k, b);
-        k += 1;
     }
 }
 
@@ -121,10 +115,8 @@ pub(crate) fn pack(words: &[u64], w: usize, out: &mut [u8])
     let mut acc: u64 = 0;
     let mut have: usize = 0;
     let mut j: usize = 0;
-    let mut i: usize = 0;
-    while i < words.len() {
-        let x = low(words[i], w);
-        i += 1;
+    for &word in words {
+        let x = low(word, w);
         if have + w < 64 {
             acc += x << have;
             have += w;
@@ -146,9 +138,7 @@ pub(crate) fn unpack(bytes: &[u8], w: usize, out: &mut [u64])
     requires w_bound { w ≤ 56 }
     ensures { out.new ≡ repack 8 w (length out.old) bytes.now }
 {
-    let mut i: usize = 0;
-    while i < out.len() {
-        out[i] = get_bits(bytes, i * w, w);
-        i += 1;
+    for (i, x) in out.iter_mut().enumerate() {
+        *x = get_bits(bytes, i * w, w);
     }
 }

@@ -3,8 +3,6 @@
 ghost use Rattle.std.specs.Prelude.{◌≡◌, ◌+◌, ◌/◌, ◌^◌, ◌<◌, ◌≤◌, length};
 ghost use Rattle.signature.specs.Decision.{standing_of, square_of, count_in, measured, decided};
 
-use crate::int;
-
 // 2^(2 * 44 - 64): the hint counts in 2^44, and the sum in 2^64 (lines 5 to 7).
 const SCALE_HINT: u64 = 16777216;
 
@@ -45,7 +43,7 @@ fn count_in(c: i64, limit: u64, s: u64, v: usize, all: u64, t: Standing) -> Stan
 {
     let n = t.coefficients;
     let sum = t.sum;
-    let m = int::mag(c);
+    let m = c.unsigned_abs();
     let k = n + 1;
     if m <= limit {
         let x = m >> v;
@@ -64,14 +62,11 @@ fn measure(cs: &[i64], limit: u64, s: u64, v: usize, all: u64, t: Standing) -> S
     ensures { result ≡ measured limit s v all t cs.now }
 {
     let mut r = t;
-    let mut i: usize = 0;
-    while i < cs.len() {
+    for &c in cs {
         if !r.passed {
             return r;
         }
-        let u = count_in(cs[i], limit, s, v, all, r);
-        r = u;
-        i += 1;
+        r = count_in(c, limit, s, v, all, r);
     }
     r
 }
@@ -86,11 +81,7 @@ pub fn check_bounds(
 ) -> Decision
     ensures { result ≡ decided hint_limit binf b22 hint.now response.now }
 {
-    let limit = if hint_limit < HINT_TOP {
-        hint_limit
-    } else {
-        HINT_TOP
-    };
+    let limit = hint_limit.min(HINT_TOP);
     let h = measure(hint, limit, SCALE_HINT, 0, b22, standing_of(true, 0, 0));
     let z = measure(response, binf, 1, 32, b22, h);
     Decision {

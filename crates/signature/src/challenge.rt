@@ -1,20 +1,22 @@
 // The challenge (000, Algorithms 9 and 10; 01, "Streams and shares"): the hash of the rounded commitment and of mu, and the polynomial of
 // omega coefficients 1 or -1, of a SHAKE256 stream and of lent bytes.
-ghost use Rattle.std.specs.Prelude.{◌≡◌, ◌++◌, ◌/◌, ◌%◌, ◌^◌, ◌<◌, length, get_or, set};
+ghost use Rattle.std.specs.Prelude.{◌≡◌, ◌++◌, ◌+◌, ◌*◌, ◌/◌, ◌%◌, ◌^◌, ◌<◌, length, get_or, set};
 ghost use Rattle.std.specs.Int.Bits.{bit_or};
 ghost use Rattle.hash.specs.Lists.{table};
+ghost use Rattle.hash.specs.Refusal.{status_of};
 ghost use Rattle.hash.specs.Shake.{stream, shake256};
+ghost use Rattle.ring.specs.UniformSteps.{option_of};
 ghost use Rattle.signature.specs.Challenge.{chal_draw, place, minus_bit, sign, challenge, ordered, sampled_challenge, headed};
-ghost use Rattle.signature.specs.ChallengeSteps.{bit_at, ones_of, chal_held, block_of, bytes_of, draws_of, next_of, behind};
+ghost use Rattle.signature.specs.ChallengeSteps.{bit_at, ones_of, block_of, bytes_of, draws_of, next_of, behind};
 
-use hash::num::{least, wide};
-use hash::params::{Edition, Selected};
+use hash::params::{Edition, lookup};
+use hash::refusal::Refusal;
 
-// A challenge polynomial, and whether the draws filled it: where they did not, it is zero.
-#[derive(Drop)]
-pub struct Challenged {
-    pub ok: bool,
-    pub poly: [i8; 512],
+// What a challenge is drawn from: the stream that the state gives, its next block first, or lent bytes.
+#[derive(Clone, Copy)]
+pub(crate) enum Source<'a> {
+    Stream([[u64; 5]; 5]),
+    Lent(&'a [u8]),
 }
 
 // Draw number n of a block.
@@ -22,7 +24,7 @@ fn draw_at(b: [u8; 136], n: usize) -> u64
     requires { n < 68 }
     ensures { result ≡ chal_draw b n }
 {
-    wide(b[n * 2]) + wide(b[n * 2 + 1]) * 256
+    u64::from(b[n * 2]) + u64::from(b[n * 2 + 1]) * 256
 }
 
 fn position(d: u64) -> usize
@@ -62,7 +64,7 @@ fn mark(map: [u64; 8], p: usize) -> [u64; 8]
     ensures { result ≡ set map (p / 64) (bit_or (get_or map (p / 64) 0) (2 ^ (p % 64))) }
 {
     let mut m = map;
-    m[p / 64] = m[p / 64] | (1u64 << (p % 64));
+    m[p / 64] |= 1u64 << (p % 64);
     m
 }
 
@@ -70,81 +72,68 @@ fn mark(map: [u64; 8], p: usize) -> [u64; 8]
 fn count(map: [u64; 8]) -> u32
     ensures { result ≡ ones_of map }
 {
-    let mut n: u32 = 0;
-    let mut i: usize = 0;
-    while i < 8 {
-        n += u64::count_ones(map[i]);
-        i += 1;
-    }
-    n
+    map.iter().map(|x| x.count_ones()).sum()
 }
 
-// Byte i of lent bytes, 0 behind their end.
-fn byte_or_zero(lent: &[u8], i: usize) -> u8
-    ensures { result ≡ get_or lent.now i 0 }
-{
-    if i < lent.len() { lent[i] } else { 0 }
-}
-
-// A block of bytes, 68 draws: that of the stream which the state gives, or number i of the lent bytes.
-fn block_of(streamed: bool, s: [[u64; 5]; 5], lent: &[u8], i: usize) -> [u8; 136]
+// Block number i of 136 bytes, 68 draws: of a stream the next one, of lent bytes with 0 behind their end.
+fn block_of(source: Source, i: usize) -> [u8; 136]
     requires { i < 16 }
-    ensures { result ≡ block_of streamed s lent.now i }
+    ensures { result ≡ block_of source.entry i }
 {
-    if streamed {
-        return hash::shake::block(s);
+    match source {
+        Source::Stream(s) => hash::shake::block(s),
+        Source::Lent(bytes) => lent_block(bytes, i),
     }
+}
+
+fn lent_block(bytes: &[u8], i: usize) -> [u8; 136]
+    requires { i < 16 }
+    ensures { result ≡ table (λ j. get_or bytes.now (i * 136 + j) 0) 136 }
+{
     let mut b = [0u8; 136];
-    let mut j: usize = 0;
-    while j < 136 {
-        b[j] = byte_or_zero(lent, i * 136 + j);
-        j += 1;
+    for j in 0..136 {
+        b[j] = bytes.get(i * 136 + j).copied().unwrap_or(0);
     }
     b
 }
 
-// The state that gives the next block.
-fn next_of(streamed: bool, s: [[u64; 5]; 5]) -> [[u64; 5]; 5]
-    ensures { result ≡ next_of streamed s }
+// The source behind a block.
+fn next_of<'a>(source: Source<'a>) -> Source<'a>
+    ensures { result ≡ next_of source.entry }
 {
-    if streamed {
-        hash::keccak::permute(s)
-    } else {
-        s
+    match source {
+        Source::Stream(s) => Source::Stream(hash::keccak::permute(s)),
+        Source::Lent(bytes) => Source::Lent(bytes),
     }
 }
 
 // How many draws there are: 1,088 of a stream, and no more of lent bytes.
-fn draws_of(streamed: bool, lent: usize) -> usize
-    ensures { result ≡ draws_of streamed lent }
+fn draws_of(source: Source) -> usize
+    ensures { result ≡ draws_of source.entry }
 {
-    if streamed {
-        1088
-    } else {
-        least(1088, lent / 2)
+    match source {
+        Source::Stream(_) => 1088,
+        Source::Lent(bytes) => (bytes.len() / 2).min(1088),
     }
 }
 
-// Algorithm 10 over the stream that a state gives, or over lent bytes. A block is squeezed only where the one before is used up.
-fn fill(omega: u32, edition: Edition, streamed: bool, a: [[u64; 5]; 5], lent: &[u8]) -> Challenged
-    ensures { result ≡ chal_held (challenge edition omega (bytes_of streamed a lent.now)) }
+// Algorithm 10 over a stream or over lent bytes. A block is squeezed only where the one before is used up.
+fn fill(omega: u32, edition: Edition, source: Source) -> Option<[i8; 512]>
+    ensures { result ≡ option_of (challenge edition omega (bytes_of source.entry)) }
 {
-    let n = draws_of(streamed, lent.len());
-    let mut s = a;
+    let n = draws_of(source);
+    let mut s = source;
     let mut map = [0u64; 8];
     let mut c = [0i8; 512];
-    let mut block: usize = 0;
-    'blocks: while block * 68 < n {
-        let b = block_of(streamed, s, lent, block);
-        let m = least(68, n - block * 68);
-        let mut j: usize = 0;
-        while j < m {
+    'blocks: for block in 0..n.div_ceil(68) {
+        let b = block_of(s, block);
+        let m = (n - block * 68).min(68);
+        for j in 0..m {
             if count(map) == omega {
                 break 'blocks;
             }
             let d = draw_at(b, j);
             let p = position(d);
-            j += 1;
             if taken(map, p) != 0 {
                 continue;
             }
@@ -152,69 +141,38 @@ fn fill(omega: u32, edition: Edition, streamed: bool, a: [[u64; 5]; 5], lent: &[
             map = next;
             c[p] = sign_of(edition, d);
         }
-        let t = next_of(streamed, s);
+        let t = next_of(s);
         s = t;
-        block += 1;
     }
     if count(map) != omega {
-        return Challenged {
-            ok: false,
-            poly: [0i8; 512],
-        };
+        return None;
     }
-    Challenged { ok: true, poly: c }
+    Some(c)
 }
 
-// The coefficients of a into out, which has as many.
-fn copy(a: &[i8], out: &mut [i8])
-    requires { length out.old ≡ length a.now }
-    ensures { out.new ≡ a.now }
-{
-    let mut i: usize = 0;
-    while i < a.len() {
-        out[i] = a[i];
-        i += 1;
-    }
-}
-
-// The challenge polynomial of lent bytes, the printed way: 0; or 1 where set is none of the three, 8 where out is no 512 coefficients,
+// The challenge polynomial of lent bytes, the printed way; or check 1 where set is none of the three, 8 where out is no 512 coefficients,
 // 11 where the draws do not take omega positions. Then out is as it was.
-pub fn sample_challenge(set: u64, bytes: &[u8], out: &mut [i8]) -> u32
-    ensures { (result, out.new) ≡ sampled_challenge set bytes.now out.old }
+pub fn sample_challenge(set: u64, bytes: &[u8], out: &mut [i8]) -> Result<(), Refusal>
+    ensures { (status_of result, out.new) ≡ sampled_challenge set bytes.now out.old }
 {
-    let found = hash::params::lookup(set, 1, Edition::Printed);
-    match found {
-        Selected::NoSet => 1,
-        Selected::NoShares => 2,
-        Selected::Found(p) => {
-            if out.len() != 512 {
-                return 8;
-            }
-            let edition = p.edition;
-            let c = fill(p.omega as u32, edition, false, hash::shake::start(), bytes);
-            if c.ok {
-                let a = c.poly;
-                copy(&a, out);
-                return 0;
-            }
-            11
-        }
+    let p = lookup(set, 1, Edition::Printed)?;
+    if out.len() != 512 {
+        return Err(Refusal::BadBuffer);
     }
+    let edition = p.edition;
+    let c = fill(p.omega as u32, edition, Source::Lent(bytes)).ok_or(Refusal::ChallengeNotFilled)?;
+    out.copy_from_slice(&c);
+    Ok(())
 }
 
 // Algorithm 10, ChalPoly: of the challenge hash.
-pub(crate) fn chal_poly(omega: usize, edition: Edition, hash: &[u8]) -> Challenged
+pub(crate) fn chal_poly(omega: usize, edition: Edition, hash: &[u8]) -> Option<[i8; 512]>
     requires { omega < 256 }
-    ensures { result ≡ chal_held (challenge edition omega (shake256 (headed 99 omega ++ hash.now) 2176)) }
+    ensures { result ≡ option_of (challenge edition omega (shake256 (headed 99 omega ++ hash.now) 2176)) }
 {
     let header = [99, omega as u8, 0, 0, 0, 0, 0, 0];
-    fill(
-        omega as u32,
-        edition,
-        true,
-        hash::shake::begin(&header, hash),
-        b"",
-    )
+    let s = hash::shake::begin(&header, hash);
+    fill(omega as u32, edition, Source::Stream(s))
 }
 
 // The hash of a and b behind the n bytes that the state s absorbed.

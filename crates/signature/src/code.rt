@@ -1,5 +1,5 @@
 // The coefficients of a signature as bits (000, 2.5.1): w low bits, the rest in ones, a stop bit, a sign. Hint: w is 0; response: w is 40.
-ghost use Rattle.std.specs.Prelude.{◌≡◌, ℕ, min, ◌+◌, ◌*◌, ◌^◌, ◌<◌, ◌≤◌, pos, nat_abs, length, get_or, take, drop, replicate, leb};
+ghost use Rattle.std.specs.Prelude.{◌≡◌, ℕ, min, ◌+◌, ◌*◌, ◌^◌, ◌<◌, ◌≤◌, pos, nat_abs, length, get_or, take, drop, leb};
 ghost use Rattle.std.specs.Int.Count.{count_trailing_zeros};
 ghost use Rattle.std.proofs.lemmas.List.Edits.{sets};
 ghost use Rattle.hash.specs.Lists.{pick};
@@ -8,28 +8,13 @@ ghost use Rattle.signature.specs.Code.{code_of, code, codes, code_bits, codes_bi
 ghost use Rattle.signature.specs.AnswerSteps.{got_of, NextOf};
 
 use crate::{bits, int};
-use hash::num::least;
-
-// A number and the place behind it, or too few bits.
-#[derive(Clone, Copy)]
-pub enum Got {
-    Code { z: i64, next: usize },
-    Bad,
-}
-
-// The place behind several numbers, or too few bits.
-#[derive(Clone, Copy)]
-pub enum Next {
-    At(usize),
-    No,
-}
 
 // How many bits the code of z takes, for any z, the smallest too.
 pub fn code_bits(w: usize, z: i64) -> usize
     requires { w ≤ 40 }
     ensures { result ≡ code_bits w z }
 {
-    let m = int::mag(z);
+    let m = z.unsigned_abs();
     if m == 0 {
         return w + 1;
     }
@@ -45,10 +30,8 @@ pub(crate) fn codes_bits(w: usize, zs: &[i64]) -> usize
     ensures upper_bound { result ≤ 4608 * (2 ^ 50 + 64) }
 {
     let mut n: usize = 0;
-    let mut i: usize = 0;
-    while i < zs.len() {
-        n += code_bits(w, zs[i]);
-        i += 1;
+    for &z in zs {
+        n += code_bits(w, z);
     }
     n
 }
@@ -83,7 +66,7 @@ pub(crate) fn put_code(buf: &mut [u8], at: usize, z: i64, w: usize) -> usize
     ensures value { result ≡ at + length (code w z) }
     ensures buf_after { bit_string 8 buf.new ≡ sets (bit_string 8 buf.old) at (code w z) }
 {
-    put_mag(buf, at, int::mag(z), int::sign(z), w)
+    put_mag(buf, at, z.unsigned_abs(), int::sign(z), w)
 }
 
 // The code of z as one number, its first bit the lowest.
@@ -92,7 +75,7 @@ fn code_word(z: i64, w: usize) -> u64
     requires w_bound { w ≤ 40 }
     ensures { result ≡ val_of (code w z) }
 {
-    let m = int::mag(z);
+    let m = z.unsigned_abs();
     let n = (m >> w) as usize;
     let ones = (1 << n) - 1;
     bits::low(m, w) + (ones << w) + (int::sign(z) << (w + n + 1))
@@ -109,11 +92,8 @@ pub(crate) fn put_codes(buf: &mut [u8], at: usize, zs: &[i64], w: usize) -> usiz
     let mut p = at;
     let mut held: u64 = 0;
     let mut have: usize = 0;
-    let mut i: usize = 0;
-    while i < zs.len() {
-        let z = zs[i];
+    for &z in zs {
         let n = code_bits(w, z);
-        i += 1;
         if have + n <= 56 {
             held += code_word(z, w) << have;
             have += n;
@@ -141,18 +121,17 @@ fn run(buf: &[u8], at: usize) -> usize
     ensures value { result ≡ run_of (drop at (bit_string 8 buf.now)) }
     ensures result_in_bounds { at + result ≤ length buf.now * 8 }
 {
-    let mut n: usize = 0;
-    while at + n < buf.len() * 8 {
+    let end = buf.len() * 8 - at;
+    for n in 0..end {
         if bits::get_bit(buf, at + n) == 0 {
             return n;
         }
-        n += 1;
     }
-    n
+    end
 }
 
-// The number that the bits from `at` on begin with.
-pub(crate) fn get_code(buf: &[u8], at: usize, w: usize) -> Got
+// The number that the bits from `at` on begin with, and the place behind it; None for too few bits.
+pub(crate) fn get_code(buf: &[u8], at: usize, w: usize) -> Option<(i64, usize)>
     requires at_in_bounds { at ≤ length buf.now * 8 }
     requires buf_len_bound { length buf.now < 2 ^ 17 }
     requires w_bound { w ≤ 40 }
@@ -161,26 +140,23 @@ pub(crate) fn get_code(buf: &[u8], at: usize, w: usize) -> Got
     let end = buf.len() * 8;
     let a = at + w;
     if end < a {
-        return Got::Bad;
+        return None;
     }
     let n = run(buf, a);
     let b = a + n;
     if end <= b {
-        return Got::Bad;
+        return None;
     }
     let low = bits::get_bits(buf, at, w);
     let m = low + ((n as u64) << w);
     if m == 0 {
-        return Got::Code { z: 0, next: b + 1 };
+        return Some((0, b + 1));
     }
     if end <= b + 1 {
-        return Got::Bad;
+        return None;
     }
     let s = bits::get_bit(buf, b + 1);
-    Got::Code {
-        z: int::signed(m, s),
-        next: b + 2,
-    }
+    Some((int::signed(m, s), b + 2))
 }
 
 // How many ones x has below its lowest zero.
@@ -189,14 +165,14 @@ fn run_in(x: u64) -> usize
     ensures value { result ≡ run_of (bits_of 64 x) }
     ensures upper_bound { result ≤ 56 }
 {
-    u64::trailing_zeros(!x) as usize
+    (!x).trailing_zeros() as usize
 }
 
 // How many zeros x has below its lowest one, no more than 56.
 fn zeros_in(x: u64) -> usize
     ensures { result ≡ min 56 (count_trailing_zeros 64 x) }
 {
-    least(56, u64::trailing_zeros(x) as usize)
+    (x.trailing_zeros() as usize).min(56)
 }
 
 // The number of the 56 bits from `at` on, or 0 where fewer are left.
@@ -228,7 +204,8 @@ fn mag_from(buf: &[u8], at: usize, w: usize, n: usize) -> u64
 }
 
 // Reads numbers from bit `at` on, two at a time where a word has the run of each: the second word is loaded before the first run is known.
-fn get_wide(buf: &[u8], at: usize, w: usize, out: &mut [i64]) -> Next
+// The place behind them, or None for too few bits.
+fn get_wide(buf: &[u8], at: usize, w: usize, out: &mut [i64]) -> Option<usize>
     requires at_in_bounds { at ≤ length buf.now * 8 }
     requires buf_len_bound { length buf.now < 2 ^ 17 }
     requires w_bound { w ≤ 40 }
@@ -251,38 +228,21 @@ fn get_wide(buf: &[u8], at: usize, w: usize, out: &mut [i64]) -> Next
             i += 2;
             continue;
         }
-        match get_code(buf, k, w) {
-            Got::Bad => {
-                return Next::No;
-            }
-            Got::Code { z, next } => {
-                out[i] = z;
-                k = next;
-            }
-        }
+        let (z, next) = get_code(buf, k, w)?;
+        out[i] = z;
+        k = next;
         i += 1;
     }
-    Next::At(k)
-}
-
-// Every number 0.
-fn clear_numbers(out: &mut [i64])
-    ensures { out.new ≡ replicate (length out.old) (pos 0) }
-{
-    let mut i: usize = 0;
-    while i < out.len() {
-        out[i] = 0;
-        i += 1;
-    }
+    Some(k)
 }
 
 // Reads numbers with no low bits (w is 0) from bit `at` on: a 0 is one bit 0, so that a word shows at once how many there are before the next number.
-fn get_small(buf: &[u8], at: usize, out: &mut [i64]) -> Next
+fn get_small(buf: &[u8], at: usize, out: &mut [i64]) -> Option<usize>
     requires at_in_bounds { at ≤ length buf.now * 8 }
     requires buf_len_bound { length buf.now < 2 ^ 17 }
     ensures { NextOf at (read_codes 0 (length out.old) (drop at (bit_string 8 buf.now))) result out.new }
 {
-    clear_numbers(out);
+    out.fill(0);
     let mut k = at;
     let mut i: usize = 0;
     while i < out.len() {
@@ -296,22 +256,16 @@ fn get_small(buf: &[u8], at: usize, out: &mut [i64]) -> Next
             k += a + b + 2;
             continue;
         }
-        match get_code(buf, k, 0) {
-            Got::Bad => {
-                return Next::No;
-            }
-            Got::Code { z, next } => {
-                out[i] = z;
-                k = next;
-            }
-        }
+        let (z, next) = get_code(buf, k, 0)?;
+        out[i] = z;
+        k = next;
         i += 1;
     }
-    Next::At(k)
+    Some(k)
 }
 
-// Reads numbers from bit `at` on.
-pub(crate) fn get_codes(buf: &[u8], at: usize, w: usize, out: &mut [i64]) -> Next
+// Reads numbers from bit `at` on: the place behind them, or None for too few bits.
+pub(crate) fn get_codes(buf: &[u8], at: usize, w: usize, out: &mut [i64]) -> Option<usize>
     requires at_in_bounds { at ≤ length buf.now * 8 }
     requires buf_len_bound { length buf.now < 2 ^ 17 }
     requires w_bound { w ≤ 40 }

@@ -1,15 +1,18 @@
 // MaskCompress (000, Algorithm 14): all shares but the first are exchanged for seeded ones.
-ghost use Rattle.std.specs.Prelude.{◌≡◌, List, ℕ, ◌+◌, ◌-◌, ◌*◌, ◌≤◌, ◌<◌, length};
+ghost use Rattle.std.specs.Prelude.{◌≡◌, IfSome, List, ℕ, ◌+◌, ◌-◌, ◌*◌, ◌≤◌, ◌<◌, length};
 ghost use Rattle.std.proofs.Math.Option.{some};
+ghost use Rattle.hash.specs.Refusal.{unless};
+ghost use Rattle.hash.specs.declared.refusal.Refusal.{Refusal};
 ghost use Rattle.ring.specs.Words.{q, add_w, sub_w, Below, Words};
-ghost use Rattle.ring.specs.UniformSteps.{held_of};
+ghost use Rattle.ring.specs.UniformSteps.{option_of};
 ghost use Rattle.sharing.specs.Region.{span, Wrote};
 ghost use Rattle.signature.specs.Matrix.{filled};
 ghost use Rattle.signature.specs.Compress.{share_header, seeded_share_of, collected_of, compressed_of};
 
 use hash::params::Edition;
+use hash::refusal::Refusal;
 use ring::poly::{add, sub};
-use ring::uniform::{Sampled, sample_q};
+use ring::uniform::sample_q;
 use sharing::region::{load, store_at};
 
 // The header of share i of polynomial j, in both editions.
@@ -24,9 +27,15 @@ fn share_header(edition: Edition, i: usize, j: usize) -> [u8; 8]
 }
 
 // Share i, from 1, of polynomial j, expanded from its seed of n bytes.
-pub(crate) fn seeded_share(edition: Edition, seeds: &[u8], n: usize, i: usize, j: usize) -> Sampled
+pub(crate) fn seeded_share(
+    edition: Edition,
+    seeds: &[u8],
+    n: usize,
+    i: usize,
+    j: usize,
+) -> Option<[u64; 512]>
     requires { (1 ≤ i) × (i < 256) × (j < 256) × (i * n ≤ length seeds.now) }
-    ensures { (result ≡ held_of (seeded_share_of edition n seeds.now j i)) × Words 512 result.poly }
+    ensures { (result ≡ option_of (seeded_share_of edition n seeds.now j i)) × IfSome result (λ f. Words 512 f) }
 {
     let a = (i - 1) * n;
     let e = a + n;
@@ -44,7 +53,7 @@ fn exchange(s: &[u64], at: usize, x: [u64; 512], r: [u64; 512]) -> [u64; 512]
     add(z, y)
 }
 
-// The full share of polynomial j, its sharing at `at`; not ok, and zero, where a seeded share does not fill.
+// The full share of polynomial j, its sharing at `at`; none where a seeded share does not fill.
 pub(crate) fn collect(
     s: &[u64],
     at: usize,
@@ -53,26 +62,22 @@ pub(crate) fn collect(
     seeds: &[u8],
     n: usize,
     j: usize,
-) -> Sampled
+) -> Option<[u64; 512]>
     requires { (1 ≤ d) × (d < 256) × (j < 256) × (at + d * 512 ≤ length s.now) × Below q s.now
         × ((d - 1) * n ≤ length seeds.now) }
-    ensures { (result ≡ held_of (collected_of edition n seeds.now (span s.now at (d * 512)) j (d - 1)))
-        × Words 512 result.poly }
+    ensures { (result ≡ option_of (collected_of edition n seeds.now (span s.now at (d * 512)) j (d - 1)))
+        × IfSome result (λ f. Words 512 f) }
 {
     let mut x = load(s, at);
     for i in 1..d {
-        let y = seeded_share(edition, seeds, n, i, j);
-        if !y.ok {
-            return y;
-        }
-        let r = y.poly;
+        let r = seeded_share(edition, seeds, n, i, j)?;
         let z = exchange(s, at + i * 512, x, r);
         x = z;
     }
-    Sampled { ok: true, poly: x }
+    Some(x)
 }
 
-// The full shares of l polynomials, their sharings at `at`, one behind the other from `to` on. False where one does not fill.
+// The full shares of l polynomials, their sharings at `at`, one behind the other from `to` on. Or check 10.
 pub(crate) fn compress_vector(
     s: &mut [u64],
     at: usize,
@@ -82,22 +87,20 @@ pub(crate) fn compress_vector(
     edition: Edition,
     seeds: &[u8],
     n: usize,
-) -> bool
+) -> Result<(), Refusal>
     requires { (1 ≤ d) × (d < 256) × (l ≤ 256) × (at + l * (d * 512) ≤ to) × (to + l * 512 ≤ length s.old) × Below q s.old
         × ((d - 1) * n ≤ length seeds.now) }
-    ensures value { (result ≡ filled (compressed_of edition n seeds.now l d (span s.old at (l * (d * 512)))))
+    ensures value { (result ≡ unless Refusal.UniformNotFilled (filled (compressed_of edition n seeds.now l d (span s.old at (l * (d * 512))))))
         × (length s.new ≡ length s.old) × Below q s.new }
     ensures by_index { (X : List ℕ)
         → compressed_of edition n seeds.now l d (span s.old at (l * (d * 512))) ≡ some X
         → Wrote 0 to (l * 512) X s.old s.new }
 {
     for j in 0..l {
-        let x = collect(s, at + j * (d * 512), d, edition, seeds, n, j);
-        if !x.ok {
-            return false;
-        }
-        let p = x.poly;
-        store_at(s, to + j * 512, &p);
+        let x = collect(s, at + j * (d * 512), d, edition, seeds, n, j).ok_or(
+            Refusal::UniformNotFilled,
+        )?;
+        store_at(s, to + j * 512, &x);
     }
-    true
+    Ok(())
 }

@@ -10,21 +10,21 @@ ghost use Rattle.signature.specs.AttemptSteps.{commitment_in, response_in, signe
 ghost use Rattle.signature.specs.Checks.{work_words};
 ghost use Rattle.signature.specs.Form.{hash_bytes};
 ghost use Rattle.signature.specs.Keys.{vk_vector};
-ghost use Rattle.signature.specs.MaskedSteps.{matrix_in, ResiduesHeld};
+ghost use Rattle.signature.specs.MaskedSteps.{matrix_in};
 ghost use Rattle.signature.specs.Recover.{sub31, centred_all, hint_of, recovered};
 ghost use Rattle.signature.specs.RecoverSteps.{hint_rows};
 ghost use Rattle.signature.specs.Sign.{public_by, finished};
-ghost use Rattle.signature.specs.Table.{Tabled};
 
 use crate::bits::unpack;
 use crate::bounds::check_bounds;
 use crate::form::{bit_count, write};
 use crate::layout::{at_t, at_x};
+use crate::matrix::HeldMatrix;
 use crate::recover::recover_row;
 use crate::residues::{centred_into, hint_into};
+use crate::row::Row;
 use crate::vector::ntt_to;
-use hash::params::Params;
-use ring::poly::{Q, from_signed, round_w};
+use ring::poly::{Q, from_signed, round};
 use ring::rns::ntt_residues;
 use sharing::region::load;
 
@@ -33,8 +33,7 @@ fn hint_row(s: &[u64], at: usize, y: [u64; 512], out: &mut [i64])
     requires { (at + 512 ≤ length s.now) × Below q s.now × Below 31 (span s.now at 512) × Words 512 y × (length out.old ≡ 512) }
     ensures { out.new ≡ centred_all 31 (zip_to sub31 (span s.now at 512) (round_w y)) }
 {
-    let r = round_w(y);
-    hint_into(load(s, at), r, out);
+    hint_into(load(s, at), round::<44, 31>(y), out);
 }
 
 // Lines 17 and 18, row by row of the matrix a: w is at `at`; z and c are transformed and left in residues.
@@ -66,17 +65,18 @@ fn hint_rows(
 }
 
 // Lines 17 and 18: the hint.
-fn make_hint(work: &[u64], p: Params, vk: &[u8], a: &[u64], c: [i8; 512], hint: &mut [i64])
-    requires tabled { Tabled p × (length work.now ≡ work_words p) × Below q work.now × Below 31 (commitment_in p work.now) }
-    requires vk_len { (length vk.now ≡ p.vk_bytes) × Below 125 (vk_vector p vk.now) × ResiduesHeld p a.now
-        × (length hint.old ≡ p.k * 512) }
+fn make_hint(work: &[u64], vk: &[u8], a: HeldMatrix, c: [i8; 512], hint: &mut [i64])
+    requires work_len { (length work.now ≡ work_words a.row.p) × Below q work.now × Below 31 (commitment_in a.row.p work.now) }
+    requires vk_len { (length vk.now ≡ a.row.p.vk_bytes) × Below 125 (vk_vector a.row.p vk.now)
+        × (length hint.old ≡ a.row.p.k * 512) }
     ensures { hint.new
-        ≡ hint_of (commitment_in p work.now)
-        (recovered p (matrix_in p (words_of a.now)) (response_in p work.now) (residues q c) (vk_vector p vk.now)) }
+        ≡ hint_of (commitment_in a.entry.row.p work.now)
+        (recovered a.entry.row.p (matrix_in a.entry.row.p (words_of a.entry.words.now)) (response_in a.entry.row.p work.now) (residues q c)
+        (vk_vector a.entry.row.p vk.now)) }
 {
+    let p = a.row.p;
     let k = p.k;
     let l = p.l;
-    let d = p.shares;
     let n = p.kappa / 8;
     let m = k * 512;
     let e = n + k * 448;
@@ -84,21 +84,32 @@ fn make_hint(work: &[u64], p: Params, vk: &[u8], a: &[u64], c: [i8; 512], hint: 
     let mut t = [0u64; 4608];
     let mut z = [0u64; 3584];
     unpack(&vk[n..e], 7, &mut t[0..m]);
-    ntt_to(work, at_x(k, l, d), l, &mut z[0..f]);
+    ntt_to(work, at_x(a.row), l, &mut z[0..f]);
     let mut x = from_signed(c);
     ntt_residues(&mut x);
-    hint_rows(work, at_t(l, d), a, &z[0..f], k, l, &x, &t[0..m], hint);
+    hint_rows(
+        work,
+        at_t(a.row),
+        a.words,
+        &z[0..f],
+        k,
+        l,
+        &x,
+        &t[0..m],
+        hint,
+    );
 }
 
 // Lines 19 and 20: the signature of the fields, where they pass the bounds and fit. Else out stays as it was.
-fn write_fields(p: Params, hash: &[u8], hint: &[i64], z: &[i64], out: &mut [u8]) -> bool
-    requires tabled { Tabled p × (length hash.now ≡ hash_bytes p) × (length hint.now ≤ 4608) × (length z.now ≤ 4608)
-        × (length out.old ≡ p.sig_bytes) }
+fn write_fields(row: Row, hash: &[u8], hint: &[i64], z: &[i64], out: &mut [u8]) -> bool
+    requires hash_len { (length hash.now ≡ hash_bytes row.p) × (length hint.now ≤ 4608) × (length z.now ≤ 4608)
+        × (length out.old ≡ row.p.sig_bytes) }
     requires by_index { (i : ℕ) → nat_abs (get_or hint.now i (pos 0)) < 2 ^ 50 }
     requires by_index_2 { (i : ℕ) → nat_abs (get_or z.now i (pos 0)) < 2 ^ 50 }
-    ensures { FinishedAs (finished p (fields_of hash.now hint.now z.now)) result out.old
+    ensures { FinishedAs (finished row.p (fields_of hash.now hint.now z.now)) result out.old
         out.new }
 {
+    let p = row.p;
     let bounds = check_bounds(hint, z, p.hint_limit, p.binf, p.b22);
     if !bounds.passed {
         return false;
@@ -113,52 +124,54 @@ fn write_fields(p: Params, hash: &[u8], hint: &[i64], z: &[i64], out: &mut [u8])
 // Lines 17 to 20, with room for hint and response.
 fn finish_with(
     work: &[u64],
-    p: Params,
     vk: &[u8],
-    a: &[u64],
+    a: HeldMatrix,
     hash: &[u8],
     c: [i8; 512],
     hint: &mut [i64],
     z: &mut [i64],
     out: &mut [u8],
 ) -> bool
-    requires tabled { Tabled p × (length work.now ≡ work_words p) × Below q work.now × Below 31 (commitment_in p work.now) }
-    requires vk_len { (length vk.now ≡ p.vk_bytes) × Below 125 (vk_vector p vk.now) × ResiduesHeld p a.now
-        × (length hash.now ≡ hash_bytes p) }
-    requires hint_len { (length hint.old ≡ p.k * 512) × (length z.old ≡ p.l * 512) × (length out.old ≡ p.sig_bytes) }
+    requires work_len { (length work.now ≡ work_words a.row.p) × Below q work.now × Below 31 (commitment_in a.row.p work.now) }
+    requires vk_len { (length vk.now ≡ a.row.p.vk_bytes) × Below 125 (vk_vector a.row.p vk.now)
+        × (length hash.now ≡ hash_bytes a.row.p) }
+    requires hint_len { (length hint.old ≡ a.row.p.k * 512) × (length z.old ≡ a.row.p.l * 512) × (length out.old ≡ a.row.p.sig_bytes) }
     ensures { (mu : List ℕ)
         → FinishedAs
-        (finished p (signed_in p (public_by p vk.now mu (matrix_in p (words_of a.now))) hash.now c work.now))
+        (finished a.entry.row.p (signed_in a.entry.row.p
+        (public_by a.entry.row.p vk.now mu (matrix_in a.entry.row.p (words_of a.entry.words.now))) hash.now c work.now))
         result out.old out.new }
 {
-    let b = at_x(p.k, p.l, p.shares);
+    let p = a.row.p;
+    let b = at_x(a.row);
     let e = b + p.l * 512;
     centred_into(&work[b..e], Q, z);
-    make_hint(work, p, vk, a, c, hint);
-    write_fields(p, hash, hint, z, out)
+    make_hint(work, vk, a, c, hint);
+    write_fields(a.row, hash, hint, z, out)
 }
 
 // Lines 17 to 20: true where the signature was made; where it is over the bounds or too long, out stays as it was. All shares are kept.
 pub(crate) fn finish(
     work: &[u64],
-    p: Params,
     vk: &[u8],
-    a: &[u64],
+    a: HeldMatrix,
     hash: &[u8],
     c: [i8; 512],
     out: &mut [u8],
 ) -> bool
-    requires tabled { Tabled p × (length work.now ≡ work_words p) × Below q work.now × Below 31 (commitment_in p work.now) }
-    requires vk_len { (length vk.now ≡ p.vk_bytes) × Below 125 (vk_vector p vk.now) × ResiduesHeld p a.now
-        × (length hash.now ≡ hash_bytes p) × (length out.old ≡ p.sig_bytes) }
+    requires work_len { (length work.now ≡ work_words a.row.p) × Below q work.now × Below 31 (commitment_in a.row.p work.now) }
+    requires vk_len { (length vk.now ≡ a.row.p.vk_bytes) × Below 125 (vk_vector a.row.p vk.now)
+        × (length hash.now ≡ hash_bytes a.row.p) × (length out.old ≡ a.row.p.sig_bytes) }
     ensures { (mu : List ℕ)
         → FinishedAs
-        (finished p (signed_in p (public_by p vk.now mu (matrix_in p (words_of a.now))) hash.now c work.now))
+        (finished a.entry.row.p (signed_in a.entry.row.p
+        (public_by a.entry.row.p vk.now mu (matrix_in a.entry.row.p (words_of a.entry.words.now))) hash.now c work.now))
         result out.old out.new }
 {
+    let p = a.row.p;
     let m = p.k * 512;
     let n = p.l * 512;
     let mut hint = [0i64; 4608];
     let mut z = [0i64; 3584];
-    finish_with(work, p, vk, a, hash, c, &mut hint[0..m], &mut z[0..n], out)
+    finish_with(work, vk, a, hash, c, &mut hint[0..m], &mut z[0..n], out)
 }

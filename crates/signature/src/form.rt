@@ -1,11 +1,13 @@
 // The byte form of a signature (000, 2.5.1): the challenge hash, the hint's code, the response's code, zero fill.
 ghost use Rattle.std.specs.Prelude.{◌≡◌, ◌++◌, ℕ, ◌+◌, ◌-◌, ◌*◌, ◌^◌, ◌<◌, ◌≤◌, pos, nat_abs, length, get_or, drop, replicate};
+ghost use Rattle.std.specs.Result.{IfErr, is_ok};
+ghost use Rattle.hash.specs.declared.refusal.Refusal.{Refusal};
 ghost use Rattle.signature.specs.Bits.{bit_string, chop};
 ghost use Rattle.signature.specs.Form.{signature_bits, bit_count, with_fill, read_both};
 ghost use Rattle.signature.specs.AnswerSteps.{fields_of, all_zero, ReadOf};
 
-use crate::code::Next;
 use crate::{bits, code};
+use hash::refusal::Refusal;
 
 // How many bits the fields take, counted without making them.
 pub(crate) fn bit_count(hash_bytes: usize, hint: &[i64], response: &[i64]) -> usize
@@ -24,15 +26,9 @@ fn begin(hash: &[u8], out: &mut [u8])
     requires { length hash.now ≤ length out.old }
     ensures { out.new ≡ hash.now ++ replicate (length out.old - length hash.now) 0 }
 {
-    let mut i: usize = 0;
-    while i < hash.len() {
-        out[i] = hash[i];
-        i += 1;
-    }
-    while i < out.len() {
-        out[i] = 0;
-        i += 1;
-    }
+    let n = hash.len();
+    out[..n].copy_from_slice(hash);
+    out[n..].fill(0);
 }
 
 // The fields and zeros behind them, as many as out has room for.
@@ -52,14 +48,7 @@ fn rest_zero(buf: &[u8], at: usize) -> bool
     requires { length buf.now < 2 ^ 17 }
     ensures { result ≡ all_zero (drop at (bit_string 8 buf.now)) }
 {
-    let mut k = at;
-    while k < buf.len() * 8 {
-        if bits::get_bit(buf, k) != 0 {
-            return false;
-        }
-        k += 1;
-    }
-    true
+    (at..buf.len() * 8).all(|k| bits::get_bit(buf, k) == 0)
 }
 
 // Whether every bit from `at` on is 0.
@@ -71,29 +60,33 @@ fn all_zero(buf: &[u8], at: usize) -> bool
     if end < at {
         return true;
     }
-    let mut k = at;
-    while k + 56 <= end {
-        if bits::get_bits(buf, k, 56) != 0 {
+    let words = (end - at) / 56;
+    for i in 0..words {
+        if bits::get_bits(buf, at + 56 * i, 56) != 0 {
             return false;
         }
-        k += 56;
     }
-    rest_zero(buf, k)
+    rest_zero(buf, at + 56 * words)
 }
 
-// Reads hint and response behind the hash. True where they could be read and every bit behind them is 0 (check 14).
-pub(crate) fn read(sig: &[u8], hash_bytes: usize, hint: &mut [i64], response: &mut [i64]) -> bool
+// Reads hint and response behind the hash, or check 14: they cannot be read, or a bit behind them is not 0.
+pub(crate) fn read(
+    sig: &[u8],
+    hash_bytes: usize,
+    hint: &mut [i64],
+    response: &mut [i64],
+) -> Result<(), Refusal>
     requires hash_bytes_in_bounds { hash_bytes ≤ length sig.now }
     requires sig_len_bound { length sig.now < 2 ^ 17 }
-    ensures { ReadOf
+    ensures refused { IfErr result (λ refusal. refusal ≡ Refusal.BadSignatureForm) }
+    ensures value { ReadOf
         (read_both (length hint.old) (length response.old) (drop (8 * hash_bytes) (bit_string 8 sig.now)))
-        (drop (8 * hash_bytes) (bit_string 8 sig.now)) result hint.new response.new }
+        (drop (8 * hash_bytes) (bit_string 8 sig.now)) (is_ok result) hint.new response.new }
 {
-    let Next::At(a) = code::get_codes(sig, 8 * hash_bytes, 0, hint) else {
-        return false;
-    };
-    let Next::At(b) = code::get_codes(sig, a, 40, response) else {
-        return false;
-    };
-    all_zero(sig, b)
+    let a = code::get_codes(sig, 8 * hash_bytes, 0, hint).ok_or(Refusal::BadSignatureForm)?;
+    let b = code::get_codes(sig, a, 40, response).ok_or(Refusal::BadSignatureForm)?;
+    if !all_zero(sig, b) {
+        return Err(Refusal::BadSignatureForm);
+    }
+    Ok(())
 }

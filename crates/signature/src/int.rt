@@ -3,21 +3,11 @@ ghost use Rattle.std.specs.Prelude.{◌≡◌, ◌^◌, ◌<◌, nat_abs};
 ghost use Rattle.ring.specs.Round.{residue};
 ghost use Rattle.signature.specs.Code.{neg_of, signed_of};
 
-// The absolute value: 2^63 of the smallest number, which has no negative.
-pub(crate) fn mag(z: i64) -> u64
-    ensures { result ≡ nat_abs z }
-{
-    if z < 0 {
-        return (-(z + 1)) as u64 + 1;
-    }
-    z as u64
-}
-
 // 1 where z is negative.
 pub(crate) fn sign(z: i64) -> u64
     ensures { result ≡ neg_of z }
 {
-    if z < 0 { 1 } else { 0 }
+    u64::from(z < 0)
 }
 
 // The number with absolute value m, below 0 where s is not 0.
@@ -34,6 +24,6 @@ pub(crate) fn residue(z: i64, m: u64) -> u64
     requires { (nat_abs z < m) × (m < 2 ^ 63) }
     ensures { (result ≡ residue m z) × (result < m) }
 {
-    let a = mag(z);
+    let a = z.unsigned_abs();
     if sign(z) == 0 { a } else { m - a }
 }

@@ -4,7 +4,6 @@ ghost use Rattle.sharing.specs.Region.{put};
 ghost use Rattle.signature.specs.Bits.{repack};
 
 use crate::bits::pack;
-use crate::keys::copy_bytes;
 
 // The bytes p at `at`.
 pub fn bytes_at(p: &[u8], out: &mut [u8], at: usize)
@@ -12,7 +11,7 @@ pub fn bytes_at(p: &[u8], out: &mut [u8], at: usize)
     ensures { out.new ≡ put out.old at (length p.now) p.now }
 {
     let e = at + p.len();
-    copy_bytes(p, &mut out[at..e]);
+    out[at..e].copy_from_slice(p);
 }
 
 // Words of w bits each, as n bytes at `at`.

@@ -1,6 +1,6 @@
 // The masked product by the transform (000, Algorithm 1 lines 5 to 7, Algorithm 2 lines 6 to 8): row by row of the matrix, which is lent in the
 // transform domain, left in residues; then the row's noise, and the sum of its shares.
-ghost use Rattle.std.specs.Prelude.{◌≡◌, ◌+◌, ◌*◌, ◌/◌, ◌^◌, ◌≤◌, ◌<◌, length};
+ghost use Rattle.std.specs.Prelude.{◌≡◌, ◌+◌, ◌*◌, ◌^◌, ◌≤◌, ◌<◌, length};
 ghost use Rattle.ring.specs.Words.{q, Below, Residues, Words};
 ghost use Rattle.ring.specs.Rns.{words_of, recombined};
 ghost use Rattle.hash.specs.Lists.{zeros};
@@ -8,16 +8,15 @@ ghost use Rattle.sharing.specs.Blocks.{block, build};
 ghost use Rattle.sharing.specs.Region.{span, Wrote};
 ghost use Rattle.sharing.specs.Encoding.{skip, add_noise};
 ghost use Rattle.sharing.specs.Masks.{masks};
-ghost use Rattle.sharing.specs.Noise.{seed_noise, explicit_noise};
-ghost use Rattle.signature.specs.MaskedSteps.{ResiduesHeld, applied, shared_poly, row_share, noised_row, rows_of, Summed, SummedAll};
-ghost use Rattle.signature.specs.Table.{Tabled};
+ghost use Rattle.sharing.specs.NoiseSteps.{noise_reps, lent_noise, NoiseAt, NoiseFor};
+ghost use Rattle.signature.specs.MaskedSteps.{applied, shared_poly, row_share, noised_row, rows_of, Summed, SummedAll};
 
-use hash::params::Params;
-use ring::poly::copy_into;
+use crate::matrix::HeldMatrix;
+use crate::row::Row;
 use ring::rns::{add_product, intt_sums, residues_of};
 use sharing::masks::MaskGen;
 use sharing::region::{load, store_at};
-use sharing::repeat::{add_explicit_noise_at, add_rep_noise_at};
+use sharing::repeat::{LentNoise, add_noise_at};
 use sharing::shares::decode_at;
 
 // A row of the matrix, which begins at `from` in a, applied to a vector of l polynomials: the sums of the products, modulo each prime.
@@ -47,7 +46,7 @@ fn share_residues(s: &[u64], at: usize, l: usize, d: usize, j: usize, out: &mut 
         let x = residues_of(load(s, at + (m * d + j) * 512));
         let b = m * 512;
         let e = b + 512;
-        copy_into(&mut out[b..e], &x);
+        out[b..e].copy_from_slice(&x);
     }
 }
 
@@ -88,125 +87,65 @@ fn row_at(s: &mut [u64], to: usize, at: usize, a: &[u64], from: usize, l: usize,
     }
 }
 
-// Lines 6 to 8 at row i, with noise from seeds: its d shares in the region `row`, behind a zero encoding's room, and their sum at `to`; r, or s,
+// Lines 6 to 8 at row i: its d shares with their noise at `shares_at`, behind a zero encoding's room, and their sum at `to`; r, or s,
 // transformed, is at `at`.
-fn image_row_seeds(
+fn image_row(
     s: &mut [u64],
-    row: usize,
+    shares_at: usize,
     at: usize,
     to: usize,
-    p: Params,
-    u: usize,
+    row: Row,
     a: &[u64],
     i: usize,
-    seeds: &[u8],
+    noise: LentNoise,
     g: MaskGen,
 ) -> MaskGen
-    requires tabled { Tabled p × (i < 256) × (1 ≤ u) × (u ≤ 48) × ((i * p.rep + p.rep) * p.shares * (p.kappa / 8) ≤ length seeds.now)
-        × (i * (p.l * 512) + p.l * 512 ≤ length a.now) × Below (2 ^ 60) a.now }
-    requires shares_bound { (p.shares * 512 ≤ row) × (row + p.shares * 512 ≤ at) × (at + p.l * (p.shares * 512) ≤ to) × (to + 512 ≤ length s.old)
-        × Below q s.old }
-    ensures { Summed p.shares row to
-        (noised_row p.shares p.l g p.rep (seed_noise p.shares p.rep u (p.kappa / 8) seeds.now i)
-        (block (p.l * 512) i (words_of a.now)) (span s.old at (p.l * (p.shares * 512))))
+    requires noise_at { (i < 256) × NoiseAt row.p i noise × (i * (row.p.l * 512) + row.p.l * 512 ≤ length a.now) × Below (2 ^ 60) a.now }
+    requires shares_bound { (row.p.shares * 512 ≤ shares_at) × (shares_at + row.p.shares * 512 ≤ at) × (at + row.p.l * (row.p.shares * 512) ≤ to)
+        × (to + 512 ≤ length s.old) × Below q s.old }
+    ensures { Summed row.p.shares shares_at to
+        (noised_row row.p.shares row.p.l g (noise_reps row.p noise.entry) (lent_noise row.p noise.entry i)
+        (block (row.p.l * 512) i (words_of a.now)) (span s.old at (row.p.l * (row.p.shares * 512))))
         s.old s.new
-        × (result ≡ skip masks p.shares p.rep g) }
+        × (result ≡ skip masks row.p.shares (noise_reps row.p noise.entry) g) }
 {
+    let p = row.p;
     let l = p.l;
     let d = p.shares;
-    row_at(s, row, at, a, i * (l * 512), l, d);
-    let x = add_rep_noise_at(s, row, p, u, i, seeds, g);
-    decode_at(s, row, to, p);
+    row_at(s, shares_at, at, a, i * (l * 512), l, d);
+    let x = add_noise_at(s, shares_at, p, noise, i, g);
+    decode_at(s, shares_at, to, p);
     x
 }
 
-// All k rows of the matrix a with their noise (Algorithm 1 lines 5 to 7, Algorithm 2 lines 6 to 8), one after the other in the region `row`, the
+// All k rows of the matrix a with their noise (Algorithm 1 lines 5 to 7, Algorithm 2 lines 6 to 8), one after the other at `shares_at`, the
 // sums one behind the other from `to` on.
-pub(crate) fn image_seeds(
+pub(crate) fn image(
     s: &mut [u64],
-    row: usize,
+    shares_at: usize,
     at: usize,
     to: usize,
-    p: Params,
-    u: usize,
-    a: &[u64],
-    seeds: &[u8],
+    a: HeldMatrix,
+    noise: LentNoise,
     g: MaskGen,
 ) -> MaskGen
-    requires tabled { Tabled p × (1 ≤ u) × (u ≤ 48) × (p.k * p.rep * p.shares * (p.kappa / 8) ≤ length seeds.now)
-        × ResiduesHeld p a.now }
-    requires shares_bound { (p.shares * 512 ≤ row) × (row + p.shares * 512 ≤ at) × (at + p.l * (p.shares * 512) ≤ to)
-        × (to + p.k * 512 ≤ length s.old) × Below q s.old }
-    ensures { SummedAll p.shares p.k row to
-        (add_noise masks p.shares g p.k p.rep (seed_noise p.shares p.rep u (p.kappa / 8) seeds.now)
-        (rows_of p.shares p.k p.l (words_of a.now) (span s.old at (p.l * (p.shares * 512)))))
+    requires noise_for { NoiseFor a.row.p a.row.p.k noise }
+    requires shares_bound { (a.row.p.shares * 512 ≤ shares_at) × (shares_at + a.row.p.shares * 512 ≤ at)
+        × (at + a.row.p.l * (a.row.p.shares * 512) ≤ to)
+        × (to + a.row.p.k * 512 ≤ length s.old) × Below q s.old }
+    ensures { SummedAll a.entry.row.p.shares a.entry.row.p.k shares_at to
+        (add_noise masks a.entry.row.p.shares g a.entry.row.p.k (noise_reps a.entry.row.p noise.entry) (lent_noise a.entry.row.p noise.entry)
+        (rows_of a.entry.row.p.shares a.entry.row.p.k a.entry.row.p.l (words_of a.entry.words.now)
+        (span s.old at (a.entry.row.p.l * (a.entry.row.p.shares * 512)))))
         s.old s.new
-        × (result ≡ skip masks p.shares (p.k * p.rep) g) }
+        × (result ≡ skip masks a.entry.row.p.shares (a.entry.row.p.k * noise_reps a.entry.row.p noise.entry) g) }
 {
-    let k = p.k;
+    let row = a.row;
+    let k = row.p.k;
     let mut x = g;
     for i in 0..k {
         let b = to + i * 512;
-        x = image_row_seeds(s, row, at, b, p, u, a, i, seeds, x);
-    }
-    x
-}
-
-// Row i with explicit noise, one repetition (01: bench form).
-fn image_row_explicit(
-    s: &mut [u64],
-    row: usize,
-    at: usize,
-    to: usize,
-    p: Params,
-    a: &[u64],
-    i: usize,
-    words: &[u64],
-    g: MaskGen,
-) -> MaskGen
-    requires tabled { Tabled p × (i < 256) × (i * (p.shares * 512) + p.shares * 512 ≤ length words.now) × Below q words.now
-        × (i * (p.l * 512) + p.l * 512 ≤ length a.now) × Below (2 ^ 60) a.now }
-    requires shares_bound { (p.shares * 512 ≤ row) × (row + p.shares * 512 ≤ at) × (at + p.l * (p.shares * 512) ≤ to) × (to + 512 ≤ length s.old)
-        × Below q s.old }
-    ensures { Summed p.shares row to
-        (noised_row p.shares p.l g 1 (explicit_noise p.shares words.now i) (block (p.l * 512) i (words_of a.now))
-        (span s.old at (p.l * (p.shares * 512))))
-        s.old s.new
-        × (result ≡ skip masks p.shares 1 g) }
-{
-    let l = p.l;
-    let d = p.shares;
-    row_at(s, row, at, a, i * (l * 512), l, d);
-    let x = add_explicit_noise_at(s, row, p, i, words, g);
-    decode_at(s, row, to, p);
-    x
-}
-
-// .. and all k rows.
-pub(crate) fn image_explicit(
-    s: &mut [u64],
-    row: usize,
-    at: usize,
-    to: usize,
-    p: Params,
-    a: &[u64],
-    words: &[u64],
-    g: MaskGen,
-) -> MaskGen
-    requires tabled { Tabled p × (p.k * (p.shares * 512) ≤ length words.now) × Below q words.now × ResiduesHeld p a.now }
-    requires shares_bound { (p.shares * 512 ≤ row) × (row + p.shares * 512 ≤ at) × (at + p.l * (p.shares * 512) ≤ to)
-        × (to + p.k * 512 ≤ length s.old) × Below q s.old }
-    ensures { SummedAll p.shares p.k row to
-        (add_noise masks p.shares g p.k 1 (explicit_noise p.shares words.now)
-        (rows_of p.shares p.k p.l (words_of a.now) (span s.old at (p.l * (p.shares * 512)))))
-        s.old s.new
-        × (result ≡ skip masks p.shares (p.k * 1) g) }
-{
-    let k = p.k;
-    let mut x = g;
-    for i in 0..k {
-        let b = to + i * 512;
-        x = image_row_explicit(s, row, at, b, p, a, i, words, x);
+        x = image_row(s, shares_at, at, b, row, a.words, i, noise, x);
     }
     x
 }

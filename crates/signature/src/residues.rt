@@ -13,10 +13,8 @@ pub(crate) fn residues_into(zs: &[i64], m: u64, out: &mut [u64])
     requires by_index { (i : ℕ) → i < length zs.now → nat_abs (get_or zs.now i (pos 0)) < m }
     ensures { out.new ≡ residues m zs.now }
 {
-    let mut i: usize = 0;
-    while i < zs.len() {
-        out[i] = residue(zs[i], m);
-        i += 1;
+    for (i, &z) in zs.iter().enumerate() {
+        out[i] = residue(z, m);
     }
 }
 
@@ -26,11 +24,9 @@ pub(crate) fn adjust(y: [u64; 512], hint: &[i64], out: &mut [u8])
     requires by_index { (i : ℕ) → i < length hint.now → nat_abs (get_or hint.now i (pos 0)) < 31 }
     ensures { out.new ≡ zip_to add31 y (residues 31 hint.now) }
 {
-    let mut i: usize = 0;
-    while i < 512 {
+    for (i, x) in out.iter_mut().enumerate() {
         let h = residue(hint[i], 31);
-        out[i] = ((y[i] + h) % 31) as u8;
-        i += 1;
+        *x = ((y[i] + h) % 31) as u8;
     }
 }
 
@@ -39,10 +35,8 @@ pub(crate) fn centred_into(words: &[u64], m: u64, out: &mut [i64])
     requires { (length out.old ≡ length words.now) × Below m words.now × (0 < m) × (m < 2 ^ 62) }
     ensures { out.new ≡ centred_all m words.now }
 {
-    let mut i: usize = 0;
-    while i < words.len() {
-        out[i] = centred(words[i], m);
-        i += 1;
+    for (i, &x) in words.iter().enumerate() {
+        out[i] = centred(x, m);
     }
 }
 
@@ -51,10 +45,8 @@ pub(crate) fn hint_into(w: [u64; 512], y: [u64; 512], out: &mut [i64])
     requires { Residues 31 512 w × Residues 31 512 y × (length out.old ≡ 512) }
     ensures { out.new ≡ centred_all 31 (zip_to sub31 w y) }
 {
-    let mut i: usize = 0;
-    while i < 512 {
+    for (i, x) in out.iter_mut().enumerate() {
         let d = (w[i] + (31 - y[i])) % 31;
-        out[i] = centred(d, 31);
-        i += 1;
+        *x = centred(d, 31);
     }
 }

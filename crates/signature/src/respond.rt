@@ -1,6 +1,5 @@
 // The response of one attempt (000, Algorithm 2, lines 12 to 16) on the work buffer, laid out as specs/Layout.antt says.
 ghost use Rattle.std.specs.Prelude.{◌≡◌, ◌+◌, ◌*◌, ◌≤◌, length};
-ghost use Rattle.hash.specs.Params.{ShareCount};
 ghost use Rattle.ring.specs.Words.{q, add_w, Below, Words};
 ghost use Rattle.ring.specs.Transform.{intt, pointwise};
 ghost use Rattle.sharing.specs.Blocks.{build, totals};
@@ -8,10 +7,10 @@ ghost use Rattle.sharing.specs.Region.{span, Wrote};
 ghost use Rattle.signature.specs.AttemptSteps.{response_share, Renewed, Responded};
 ghost use Rattle.signature.specs.Layout.{at_x};
 ghost use Rattle.signature.specs.Sign.{masked_response};
-ghost use Rattle.signature.specs.Table.{Tabled};
 
 use crate::layout::{at_r, at_s, at_x};
-use crate::vector::intt_vector;
+use crate::row::Row;
+use crate::vector::map_vector;
 use hash::params::Params;
 use ring::poly::{add, intt, ntt, pointwise};
 use sharing::encoding::refresh_vector;
@@ -75,30 +74,31 @@ fn decode_vector(s: &mut [u64], at: usize, to: usize, p: Params)
 }
 
 // Lines 12 and 13: s at a, in the transform domain; r at b, turned back from it.
-fn refresh_both(s: &mut [u64], a: usize, b: usize, p: Params, g: MaskGen) -> MaskGen
-    requires { ShareCount p.shares × (p.shares * 512 ≤ a) × (a + p.l * (p.shares * 512) ≤ b)
-        × (b + p.l * (p.shares * 512) ≤ length s.old) × Below q s.old }
-    ensures { Renewed p.l p.shares a b g result s.old s.new }
+fn refresh_both(s: &mut [u64], a: usize, b: usize, row: Row, g: MaskGen) -> MaskGen
+    requires { (row.p.shares * 512 ≤ a) × (a + row.p.l * (row.p.shares * 512) ≤ b)
+        × (b + row.p.l * (row.p.shares * 512) ≤ length s.old) × Below q s.old }
+    ensures { Renewed row.p.l row.p.shares a b g result s.old s.new }
 {
+    let p = row.p;
     let l = p.l;
     let d = p.shares;
     let x = refresh_vector(s, a, l, p, g);
-    intt_vector(s, b, l * d);
+    map_vector(s, b, l * d, intt);
     refresh_vector(s, b, l, p, x)
 }
 
 // Lines 12 to 16 of the challenge polynomial c; g is the generator behind line 7. The generator behind line 15.
-pub(crate) fn respond(work: &mut [u64], p: Params, c: [u64; 512], g: MaskGen) -> MaskGen
-    requires { Tabled p × (at_x p.k p.l p.shares + p.l * 512 ≤ length work.old) × Below q work.old × Words 512 c }
-    ensures { Responded p.k p.l p.shares c g result work.old work.new }
+pub(crate) fn respond(work: &mut [u64], row: Row, c: [u64; 512], g: MaskGen) -> MaskGen
+    requires { (at_x row.p.k row.p.l row.p.shares + row.p.l * 512 ≤ length work.old) × Below q work.old × Words 512 c }
+    ensures { Responded row.p.k row.p.l row.p.shares c g result work.old work.new }
 {
-    let k = p.k;
+    let p = row.p;
     let l = p.l;
     let d = p.shares;
-    let a = at_s(d);
-    let b = at_r(l, d);
-    let e = at_x(k, l, d);
-    let x = refresh_both(work, a, b, p, g);
+    let a = at_s(row);
+    let b = at_r(row);
+    let e = at_x(row);
+    let x = refresh_both(work, a, b, row, g);
     respond_vector(work, a, b, c, l, d);
     let y = refresh_vector(work, b, l, p, x);
     decode_vector(work, b, e, p);

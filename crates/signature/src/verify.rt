@@ -1,7 +1,8 @@
 // Verifying (000, Algorithm 3; 01: checks 1, 3, 4, 9, 13, 14, 15, 10, 11, 16). Nothing is written but local arrays.
-ghost use Rattle.std.specs.Prelude.{◌≡◌, true, List, ℕ, ◌*◌, ◌^◌, ◌≤◌, ◌<◌, pos, nat_abs, length, get_or};
+ghost use Rattle.std.specs.Prelude.{◌≡◌, Ok, OnOk, List, ℕ, ◌*◌, ◌^◌, ◌≤◌, ◌<◌, pos, nat_abs, length, get_or};
 ghost use Rattle.std.proofs.Math.Option.{some};
-ghost use Rattle.hash.specs.declared.params.Selected.{Selected};
+ghost use Rattle.hash.specs.Refusal.{status_of, unless};
+ghost use Rattle.hash.specs.declared.refusal.Refusal.{Refusal};
 ghost use Rattle.ring.specs.Words.{q, Below, Residues};
 ghost use Rattle.ring.specs.Transform.{ntt};
 ghost use Rattle.ring.specs.Rns.{words_of};
@@ -15,7 +16,6 @@ ghost use Rattle.signature.specs.MaskedSteps.{transformed};
 ghost use Rattle.signature.specs.Matrix.{matrix, matrix_of, filled};
 ghost use Rattle.signature.specs.Recover.{recovered, adjusted};
 ghost use Rattle.signature.specs.RecoverSteps.{adjusted_rows};
-ghost use Rattle.signature.specs.Table.{Tabled};
 ghost use Rattle.signature.specs.Verify.{hash_checks, verify_checks, verify_call};
 ghost use Rattle.signature.specs.VerifySteps.{form_checks};
 
@@ -27,13 +27,15 @@ use crate::keycheck::public_key_good;
 use crate::matrix::expand_row;
 use crate::recover::recover_row;
 use crate::residues::{adjust, residues_into};
-use hash::params::{Edition, Params, Selected, lookup};
+use crate::row::{Row, find};
+use hash::params::Edition;
+use hash::refusal::Refusal;
 use hash::shake::shake256;
-use ring::poly::{Q, from_signed, round_w};
+use ring::poly::{Q, from_signed, round};
 use ring::rns::ntt_residues;
 use sharing::region::load;
 
-// Lines 6 and 7, row by row: the bytes of w' = y + h; z and c are transformed and left in residues. False where the matrix does not fill.
+// Lines 6 and 7, row by row: the bytes of w' = y + h; z and c are transformed and left in residues. Or check 10.
 fn adjust_rows(
     z: &[u64],
     seed: &[u8],
@@ -43,26 +45,23 @@ fn adjust_rows(
     t: &[u64],
     hint: &[i64],
     w: &mut [u8],
-) -> bool
+) -> Result<(), Refusal>
     requires l_in_bounds { (l * 512 ≤ length z.now) × Below (2 ^ 60) z.now × (k ≤ 9) × (l ≤ 7) × Residues (2 ^ 60) 512 c.now }
     requires t_len { (length t.now ≡ k * 512) × Below 125 t.now × (length hint.now ≡ k * 512) × (length w.old ≡ k * 512) }
     requires by_index { (i : ℕ) → i < length hint.now → nat_abs (get_or hint.now i (pos 0)) < 31 }
-    ensures value { result ≡ filled (matrix_of k l seed.now) }
-    ensures w_after { result ≡ true
-        → w.new
-        ≡ adjusted_rows k l seed.now (words_of z.now) (words_of c.now) t.now hint.now }
+    ensures value { result ≡ unless Refusal.UniformNotFilled (filled (matrix_of k l seed.now)) }
+    ensures w_after { OnOk result
+        (w.new ≡ adjusted_rows k l seed.now (words_of z.now) (words_of c.now) t.now hint.now) }
 {
     let mut a = [0u64; 3584];
     for i in 0..k {
         let b = i * 512;
         let e = b + 512;
-        if !expand_row(&mut a, 0, seed, i, l) {
-            return false;
-        }
-        let y = round_w(recover_row(&a, 0, z, l, c, load(t, b)));
+        expand_row(&mut a, 0, seed, i, l)?;
+        let y = round::<44, 31>(recover_row(&a, 0, z, l, c, load(t, b)));
         adjust(y, &hint[b..e], &mut w[b..e]);
     }
-    true
+    Ok(())
 }
 
 // A polynomial of z, transformed and left in residues.
@@ -89,18 +88,26 @@ fn place(z: &[i64], l: usize, out: &mut [u64])
     }
 }
 
-// Lines 4 to 7: the bytes of w', of the matrix, t, the fields and the challenge polynomial.
-fn recompute(p: Params, vk: &[u8], hint: &[i64], z: &[i64], c: [i8; 512], w: &mut [u8]) -> bool
-    requires tabled { Tabled p × (length vk.now ≡ p.vk_bytes) × Below 125 (vk_vector p vk.now) }
-    requires hint_len { (length hint.now ≡ p.k * 512) × (length z.now ≡ p.l * 512) × (length w.old ≡ p.k * 512) }
+// Lines 4 to 7: the bytes of w', of the matrix, t, the fields and the challenge polynomial. Or check 10.
+fn recompute(
+    row: Row,
+    vk: &[u8],
+    hint: &[i64],
+    z: &[i64],
+    c: [i8; 512],
+    w: &mut [u8],
+) -> Result<(), Refusal>
+    requires vk_len { (length vk.now ≡ row.p.vk_bytes) × Below 125 (vk_vector row.p vk.now) }
+    requires hint_len { (length hint.now ≡ row.p.k * 512) × (length z.now ≡ row.p.l * 512) × (length w.old ≡ row.p.k * 512) }
     requires by_index { (i : ℕ) → i < length hint.now → nat_abs (get_or hint.now i (pos 0)) < 31 }
     requires by_index_2 { (i : ℕ) → i < length z.now → nat_abs (get_or z.now i (pos 0)) < q }
-    ensures value { result ≡ filled (matrix p (vk_seed p vk.now)) }
+    ensures value { result ≡ unless Refusal.UniformNotFilled (filled (matrix row.p (vk_seed row.p vk.now))) }
     ensures by_index_3 { (A : List ℕ)
-        → matrix p (vk_seed p vk.now) ≡ some A
+        → matrix row.p (vk_seed row.p vk.now) ≡ some A
         → w.new
-        ≡ adjusted (recovered p A (residues q z.now) (residues q c) (vk_vector p vk.now)) hint.now }
+        ≡ adjusted (recovered row.p A (residues q z.now) (residues q c) (vk_vector row.p vk.now)) hint.now }
 {
+    let p = row.p;
     let k = p.k;
     let l = p.l;
     let n = p.kappa / 8;
@@ -132,29 +139,27 @@ fn bind(vk: &[u8], msg: &[u8], out: &mut [u8])
 pub fn same_bytes(a: &[u8], b: &[u8]) -> bool
     ensures { result ≡ same_bytes a.now b.now }
 {
-    if a.len() != b.len() {
-        return false;
-    }
-    let mut i: usize = 0;
-    while i < a.len() {
-        if a[i] != b[i] {
-            return false;
-        }
-        i += 1;
-    }
-    true
+    a == b
 }
 
 // Lines 3 to 9, of the fields: checks 10, 11, 16.
-fn verify_hash(p: Params, vk: &[u8], msg: &[u8], hash: &[u8], hint: &[i64], z: &[i64]) -> u32
-    requires tabled { Tabled p × (length vk.now ≡ p.vk_bytes) × Below 125 (vk_vector p vk.now) × (length hash.now ≡ hash_bytes p) }
-    requires hint_len { (length hint.now ≡ p.k * 512) × (length z.now ≡ p.l * 512) }
+fn verify_hash(
+    row: Row,
+    vk: &[u8],
+    msg: &[u8],
+    hash: &[u8],
+    hint: &[i64],
+    z: &[i64],
+) -> Result<(), Refusal>
+    requires vk_len { (length vk.now ≡ row.p.vk_bytes) × Below 125 (vk_vector row.p vk.now) × (length hash.now ≡ hash_bytes row.p) }
+    requires hint_len { (length hint.now ≡ row.p.k * 512) × (length z.now ≡ row.p.l * 512) }
     requires by_index { (i : ℕ) → i < length hint.now → nat_abs (get_or hint.now i (pos 0)) < 31 }
     requires by_index_2 { (i : ℕ) → i < length z.now → nat_abs (get_or z.now i (pos 0)) < q }
-    ensures { result
+    ensures { status_of result
         ≡ first_no
-        (hash_checks p vk.now msg.now (fields_of hash.now hint.now z.now)) }
+        (hash_checks row.p vk.now msg.now (fields_of hash.now hint.now z.now)) }
 {
+    let p = row.p;
     let k = p.k;
     let edition = p.edition;
     let n = k * 512;
@@ -163,74 +168,67 @@ fn verify_hash(p: Params, vk: &[u8], msg: &[u8], hash: &[u8], hint: &[i64], z: &
     let mut mu = [0u8; 64];
     let mut again = [0u8; 64];
     let c = chal_poly(p.omega, edition, hash);
-    let x = c.poly;
-    if !recompute(p, vk, hint, z, x, &mut w[0..n]) {
-        return 10;
-    }
-    if !c.ok {
-        return 11;
+    recompute(row, vk, hint, z, c.unwrap_or([0i8; 512]), &mut w[0..n])?;
+    if c.is_none() {
+        return Err(Refusal::ChallengeNotFilled);
     }
     bind(vk, msg, &mut mu[0..b]);
     chal_hash(k, edition, &w[0..n], &mu[0..b], &mut again[0..b]);
-    if same_bytes(hash, &again[0..b]) {
-        return 0;
+    if !same_bytes(hash, &again[0..b]) {
+        return Err(Refusal::BadSignatureHash);
     }
-    16
+    Ok(())
 }
 
 // Lines 1 and 2: the fields, checks 14 and 15; then the rest.
-fn verify_fields(p: Params, vk: &[u8], msg: &[u8], sig: &[u8]) -> u32
-    requires { Tabled p × (length vk.now ≡ p.vk_bytes) × Below 125 (vk_vector p vk.now) × (length sig.now ≡ p.sig_bytes) }
-    ensures { result ≡ first_no (form_checks p vk.now msg.now sig.now) }
+fn verify_fields(row: Row, vk: &[u8], msg: &[u8], sig: &[u8]) -> Result<(), Refusal>
+    requires { (length vk.now ≡ row.p.vk_bytes) × Below 125 (vk_vector row.p vk.now) × (length sig.now ≡ row.p.sig_bytes) }
+    ensures { status_of result ≡ first_no (form_checks row.p vk.now msg.now sig.now) }
 {
+    let p = row.p;
     let n = p.k * 512;
     let m = p.l * 512;
     let b = p.kappa / 4;
     let mut hint = [0i64; 4608];
     let mut z = [0i64; 3584];
-    if !read(sig, b, &mut hint[0..n], &mut z[0..m]) {
-        return 14;
-    }
+    read(sig, b, &mut hint[0..n], &mut z[0..m])?;
     let bounds = check_bounds(&hint[0..n], &z[0..m], p.hint_limit, p.binf, p.b22);
     if !bounds.passed {
-        return 15;
+        return Err(Refusal::BadSignatureBounds);
     }
-    verify_hash(p, vk, msg, &sig[0..b], &hint[0..n], &z[0..m])
+    verify_hash(row, vk, msg, &sig[0..b], &hint[0..n], &z[0..m])
 }
 
 // The checks of lengths and of the public key, then the rest.
-fn verify_with(p: Params, vk: &[u8], msg: &[u8], sig: &[u8]) -> u32
-    requires { Tabled p }
-    ensures { result ≡ first_no (verify_checks (Selected.Found p) p vk.now msg.now sig.now) }
+fn verify_with(row: Row, vk: &[u8], msg: &[u8], sig: &[u8]) -> Result<(), Refusal>
+    ensures { status_of result ≡ first_no (verify_checks (Ok row.p) row.p vk.now msg.now sig.now) }
 {
+    let p = row.p;
     if vk.len() != p.vk_bytes {
-        return 3;
+        return Err(Refusal::BadKeyLength);
     }
     if !public_key_good(vk, p.kappa / 8, p.k) {
-        return 4;
+        return Err(Refusal::BadPublicKey);
     }
     if 4096 < msg.len() {
-        return 9;
+        return Err(Refusal::BadMessageLength);
     }
     if sig.len() != p.sig_bytes {
-        return 13;
+        return Err(Refusal::BadSignatureLength);
     }
-    verify_fields(p, vk, msg, sig)
+    verify_fields(row, vk, msg, sig)
 }
 
-// The status of a signature of a message under a public key (01, "Questions put to a call").
+// Whether a signature of a message is good under a public key, or the first no (01, "Questions put to a call").
 pub fn verify(
     set: u64,
     edition: Edition,
     public_key: &[u8],
     message: &[u8],
     signature: &[u8],
-) -> u32
-    ensures { result ≡ verify_call edition set public_key.now message.now signature.now }
+) -> Result<(), Refusal>
+    ensures { status_of result ≡ verify_call edition set public_key.now message.now signature.now }
 {
-    match lookup(set, 1, edition) {
-        Selected::NoSet => 1,
-        Selected::NoShares => 2,
-        Selected::Found(p) => verify_with(p, public_key, message, signature),
-    }
+    let row = find(set, 1, edition)?;
+    verify_with(row, public_key, message, signature)
 }

@@ -8,7 +8,7 @@ use lib.ListN.{length, replicate, length-replicate}
 use Rattle.hash.specs.Params.{rows, row_at, params_of, lookup_of}
 use Rattle.hash.specs.declared.params.Edition.{Edition}
 use Rattle.hash.specs.declared.params.Params.{Params}
-use Rattle.hash.specs.declared.params.Selected.{Selected}
+use Rattle.std.specs.Prelude.{Ok}
 use Rattle.ring.proofs.Checks.{both_yes}
 use Rattle.signature.specs.Code.{code_bits}
 use Rattle.signature.proofs.Counts.{codes_same}
@@ -29,7 +29,7 @@ response-takes : code_bits 40 smallest-response ≡ 8388650
 unfolding code_bits
 response-takes = refl
 
-row-256 : lookup_of 256 1 Edition.Printed ≡ Selected.Found (params_of (row_at 12) Edition.Printed)
+row-256 : lookup_of 256 1 Edition.Printed ≡ Ok (params_of (row_at 12) Edition.Printed)
 unfolding lookup_of
 row-256 = refl
 

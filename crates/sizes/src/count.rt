@@ -1,12 +1,13 @@
 // How many bits the fields of a signature take (02, #103), for any numbers of 8 and of 64 bits, counted without making them.
 ghost use Rattle.std.specs.Prelude.{◌≡◌, ◌+◌, ◌*◌, ◌^◌, ◌≤◌, length};
-ghost use Rattle.hash.specs.declared.params.Selected.{Selected};
 ghost use Rattle.signature.specs.Code.{codes_bits};
-ghost use Rattle.signature.specs.Table.{Tabled};
-ghost use Rattle.sizes.specs.Count.{bits_by, signature_bits_call};
+ghost use Rattle.sizes.specs.Count.{signature_bits_call};
+ghost use Rattle.sizes.specs.Answered.{bits_answered};
 
-use hash::params::{Edition, Params, Selected, lookup};
+use hash::params::Edition;
+use hash::refusal::Refusal;
 use signature::code::code_bits;
+use signature::row::find;
 
 // The status, and with 0 the number of bits.
 #[repr(C)]
@@ -23,10 +24,8 @@ fn hint_bits(hint: &[i8]) -> usize
     ensures upper_bound { result ≤ 4608 * 130 }
 {
     let mut n: usize = 0;
-    let mut i: usize = 0;
-    while i < hint.len() {
-        n += code_bits(0, hint[i] as i64);
-        i += 1;
+    for &z in hint {
+        n += code_bits(0, i64::from(z));
     }
     n
 }
@@ -38,37 +37,27 @@ fn response_bits(response: &[i64]) -> usize
     ensures upper_bound { result ≤ 3584 * (2 ^ 23 + 42) }
 {
     let mut n: usize = 0;
-    let mut i: usize = 0;
-    while i < response.len() {
-        n += code_bits(40, response[i]);
-        i += 1;
+    for &z in response {
+        n += code_bits(40, z);
     }
     n
 }
 
-// Check 13, and the number for a record that was found.
-fn bits_with(p: Params, hint: &[i8], response: &[i64]) -> CountedBits
-    requires { Tabled p }
-    ensures value { result ≡ bits_by (Selected.Found p) hint.now response.now }
-    ensures bits_bound { result.bits ≤ 30065521152 }
+// Checks 1 and 13, then the number.
+fn bits_with(set: u64, hint: &[i8], response: &[i64]) -> Result<u64, Refusal>
+    ensures value { bits_answered result ≡ signature_bits_call set hint.now response.now }
+    ensures bits_bound { (bits_answered result).bits ≤ 30065521152 }
 {
+    let row = find(set, 1, Edition::Printed)?;
+    let p = row.p;
     if hint.len() != p.k * 512 {
-        return CountedBits {
-            status: 13,
-            bits: 0,
-        };
+        return Err(Refusal::BadSignatureLength);
     }
     if response.len() != p.l * 512 {
-        return CountedBits {
-            status: 13,
-            bits: 0,
-        };
+        return Err(Refusal::BadSignatureLength);
     }
     let n = 8 * (p.kappa / 4) + (hint_bits(hint) + response_bits(response));
-    CountedBits {
-        status: 0,
-        bits: n as u64,
-    }
+    Ok(n as u64)
 }
 
 // The bits of a signature with these fields, its hash included: checks 1 and 13. No number is above 30,065,521,152, which is what set 256 takes with
@@ -77,9 +66,11 @@ pub fn signature_bits(set: u64, hint: &[i8], response: &[i64]) -> CountedBits
     ensures value { result ≡ signature_bits_call set hint.now response.now }
     ensures bits_bound { result.bits ≤ 30065521152 }
 {
-    match lookup(set, 1, Edition::Printed) {
-        Selected::NoSet => CountedBits { status: 1, bits: 0 },
-        Selected::NoShares => CountedBits { status: 2, bits: 0 },
-        Selected::Found(p) => bits_with(p, hint, response),
+    match bits_with(set, hint, response) {
+        Ok(bits) => CountedBits { status: 0, bits },
+        Err(refusal) => CountedBits {
+            status: refusal.number(),
+            bits: 0,
+        },
     }
 }

@@ -1,11 +1,12 @@
 // What a signing call takes (02, #103): noise seeds, mask seeds and work buffer, by the functions that checks 7 and 8 of signing use.
 ghost use Rattle.std.specs.Prelude.{◌≡◌};
-ghost use Rattle.hash.specs.declared.params.Selected.{Selected};
-ghost use Rattle.signature.specs.Table.{Tabled};
-ghost use Rattle.sizes.specs.Lengths.{no_lengths, lengths_by, lengths_call};
+ghost use Rattle.sizes.specs.Lengths.{lengths_call};
+ghost use Rattle.sizes.specs.Answered.{lengths_answered};
 
-use hash::params::{Edition, Params, Selected, lookup};
+use hash::params::Edition;
+use hash::refusal::Refusal;
 use signature::lengths::{mask_seed_bytes, noise_seed_bytes, work_words};
+use signature::row::find;
 
 // The status, and with 0 the bytes of the noise seeds and of the mask seeds of all attempts, and the words of the work buffer.
 #[repr(C)]
@@ -17,45 +18,39 @@ pub struct SigningLengths {
     pub work_words: u64,
 }
 
-// A refusal: no lengths.
-fn refused(status: u32) -> SigningLengths
-    ensures { result ≡ no_lengths status }
+// Checks 1, 2 and 6, then the three lengths in their order.
+fn lengths_with(set: u64, shares: u64, attempts: u64) -> Result<(u64, u64, u64), Refusal>
+    ensures { lengths_answered result ≡ lengths_call set shares attempts }
 {
-    SigningLengths {
-        status,
-        noise_seed_bytes: 0,
-        mask_seed_bytes: 0,
-        work_words: 0,
+    let row = find(set, shares, Edition::Printed)?;
+    if !(1..=16).contains(&attempts) {
+        return Err(Refusal::BadAttempts);
     }
-}
-
-// Check 6, and the lengths of a record that was found.
-fn lengths_with(p: Params, attempts: u64) -> SigningLengths
-    requires { Tabled p }
-    ensures { result ≡ lengths_by (Selected.Found p) attempts }
-{
-    if attempts < 1 {
-        return refused(6);
-    }
-    if attempts > 16 {
-        return refused(6);
-    }
+    let p = row.p;
     let n = attempts as usize;
-    SigningLengths {
-        status: 0,
-        noise_seed_bytes: noise_seed_bytes(p, n) as u64,
-        mask_seed_bytes: mask_seed_bytes(n) as u64,
-        work_words: work_words(p) as u64,
-    }
+    Ok((
+        noise_seed_bytes(p, n) as u64,
+        mask_seed_bytes(n) as u64,
+        work_words(p) as u64,
+    ))
 }
 
 // The lengths of a signing call: checks 1, 2 and 6.
 pub fn lengths(set: u64, shares: u64, attempts: u64) -> SigningLengths
     ensures { result ≡ lengths_call set shares attempts }
 {
-    match lookup(set, shares, Edition::Printed) {
-        Selected::NoSet => refused(1),
-        Selected::NoShares => refused(2),
-        Selected::Found(p) => lengths_with(p, attempts),
+    match lengths_with(set, shares, attempts) {
+        Ok((noise_seed_bytes, mask_seed_bytes, work_words)) => SigningLengths {
+            status: 0,
+            noise_seed_bytes,
+            mask_seed_bytes,
+            work_words,
+        },
+        Err(refusal) => SigningLengths {
+            status: refusal.number(),
+            noise_seed_bytes: 0,
+            mask_seed_bytes: 0,
+            work_words: 0,
+        },
     }
 }

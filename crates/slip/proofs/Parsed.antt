@@ -1,11 +1,13 @@
 -- Reading a slip, step by step: which bytes stand where, what the checks say, and what is read then.
 use mathlib.Core.Path.{◌≡◌, refl, sym, ap, ◌∙◌}
 use mathlib.Core.Bool.{true, false}
-use mathlib.Core.List.{List}
+use mathlib.Core.List.{List, [], ◌∷◌}
 use Prim.Native.Nat.{ℕ, zero, suc, ◌+◌, ◌-◌, ◌≤◌, ◌<◌}
 use native.Mathlib.Omega.{arith}
 use borrow.Author.Tests.{lt-leb, le-leb}
-use lib.Dec.{leb}
+use lib.Dec.{leb, eqb}
+use lib.Pointwise.{pointwise}
+use Rattle.std.proofs.lemmas.Bool.Decides.{nat_tests}
 use lib.Seq.{take-length}
 use lib.ListN.{length, get_or, take, drop, length-append, length-drop, take-append-drop}
 use Rattle.hash.specs.Endian.{le}
@@ -13,11 +15,12 @@ use Rattle.hash.specs.declared.params.Edition.{Edition}
 use Rattle.ring.proofs.Checks.{left-no, right-no, both_yes}
 use Rattle.signature.specs.Checks.{first_no, same_bytes}
 use Rattle.signature.specs.Verify.{verify_call}
-use Rattle.signature.proofs.SameBytes.{same-not-long}
+use Rattle.signature.proofs.SameBytes.{same-not-long, same-pointwise}
 use Rattle.slip.specs.Calls.{slip_fits, slip_checks, verdict_on, no_fields, read_by, read_slip_call}
 use Rattle.slip.specs.Format.{number_at, text_length, signature_at, signature_in, set_by_size, set_in}
 use Rattle.slip.specs.Split.{split_by, split_of}
-use Rattle.slip.specs.declared.read.Split.{Split}
+use Rattle.std.specs.Prelude.{Option, None, Some, Result, Ok, Err, ok_or}
+use Rattle.hash.specs.declared.refusal.Refusal.{Refusal}
 use Rattle.slip.proofs.SetSizes.{none-by-size}
 use Rattle.slip.proofs.SlipTrip.{slip-passed}
 
@@ -29,6 +32,17 @@ too_short s x at h l =
     let n = length x in
     let w : length (take n r) + length (drop n r) ≡ length r = sym (length-append (take n r) (drop n r)) ∙ ap length (take-append-drop n r) in
     sym (same-not-long (take n r) x (λ e. omega (arith, w, e, length-drop at s)))
+
+same_sym : (a b : List ℕ) → same_bytes a b ≡ same_bytes b a
+unfolding same_bytes
+same_sym [] [] = refl
+same_sym [] (y ∷ b) = refl
+same_sym (x ∷ a) [] = refl
+same_sym (x ∷ a) (y ∷ b) = let e : eqb x y ≡ eqb y x = grind (arith, nat_tests) in rw (e, same_sym a b) refl
+
+-- the needle stands first
+pub stands-as : (a x : List ℕ) → pointwise eqb x a ≡ same_bytes a x
+stands-as a x = same-pointwise x a ∙ same_sym x a
 
 pub byte-number : (b : List ℕ) (i : ℕ) → get_or b i 0 ≡ number_at b i 1
 unfolding le
@@ -57,48 +71,53 @@ all-fits b h k s =
 
 -- ---- the split by the checks
 
-pub split-no : (b : List ℕ) (n : ℕ) → suc n ≡ first_no (slip_checks b) → Split.Refused (suc n) ≡ split_of b
+-- a refusal where none was found
+pub missing : (o : Option ℕ) {e f : Refusal} → Err e ≡ ok_or o f → e ≡ f
+missing None h = cc
+missing (Some x) h = cc
+
+pub split-no : (b : List ℕ) (n : ℕ) → suc n ≡ first_no (slip_checks b) → Err (suc n) ≡ split_of b
 unfolding split_of
 split-no b n e = ap (λ (k : ℕ). split_by k b) e
 
-pub split-yes : (b : List ℕ) (at set : ℕ) → 0 ≡ first_no (slip_checks b) → at ≡ signature_at b → set ≡ set_in b → Split.At at set ≡ split_of b
+pub split-yes : (b : List ℕ) (at set : ℕ) → 0 ≡ first_no (slip_checks b) → at ≡ signature_at b → set ≡ set_in b → Ok (at, set) ≡ split_of b
 unfolding split_of
-split-yes b at set e a s = ap (λ (k : ℕ). Split.At k set) a ∙ ap (Split.At (signature_at b)) s ∙ ap (λ (k : ℕ). split_by k b) e
+split-yes b at set e a s = ap (λ (k : ℕ). Ok (k, set)) a ∙ ap (λ (k : ℕ). Ok (signature_at b, k)) s ∙ ap (λ (k : ℕ). split_by k b) e
 
 pub record SplitAt (b : List ℕ) (at set : ℕ) : Type 0 where
   pub all_pass : first_no (slip_checks b) ≡ 0
   pub place : signature_at b ≡ at
   pub set_is : set_in b ≡ set
 
-abbrev place_of : Split → ℕ
-place_of (Split.At at set) = at
-place_of (Split.Refused n) = 0
+abbrev place_of : Result (ℕ × ℕ) ℕ → ℕ
+place_of (Ok s) = s.0
+place_of (Err n) = 0
 
-abbrev set_of_split : Split → ℕ
-set_of_split (Split.At at set) = set
-set_of_split (Split.Refused n) = 0
+abbrev set_of_split : Result (ℕ × ℕ) ℕ → ℕ
+set_of_split (Ok s) = s.1
+set_of_split (Err n) = 0
 
-abbrev refusal_of : Split → ℕ
-refusal_of (Split.At at set) = 0
-refusal_of (Split.Refused n) = n
+abbrev refusal_of : Result (ℕ × ℕ) ℕ → ℕ
+refusal_of (Ok s) = 0
+refusal_of (Err n) = n
 
-abbrev is_at : Split → ℕ
-is_at (Split.At at set) = 1
-is_at (Split.Refused n) = 0
+abbrev is_at : Result (ℕ × ℕ) ℕ → ℕ
+is_at (Ok s) = 1
+is_at (Err n) = 0
 
-pub split-found : (b : List ℕ) (at set : ℕ) → split_of b ≡ Split.At at set → SplitAt b at set
+pub split-found : (b : List ℕ) (at set : ℕ) → split_of b ≡ Ok (at, set) → SplitAt b at set
 unfolding split_of
 split-found b at set = go (first_no (slip_checks b)) refl
   where
-    go : (n : ℕ) → first_no (slip_checks b) ≡ n → split_by n b ≡ Split.At at set → SplitAt b at set
+    go : (n : ℕ) → first_no (slip_checks b) ≡ n → split_by n b ≡ Ok (at, set) → SplitAt b at set
     go zero i e = record { all_pass = i; place = ap place_of e; set_is = ap set_of_split e }
     go (suc n) i e = let z : ◌≡◌ {A = ℕ} 0 1 = ap is_at e in absurd (omega (arith, z))
 
-pub split-refused : (b : List ℕ) (n : ℕ) → split_of b ≡ Split.Refused n → (vk : List ℕ) → no_fields n ≡ read_slip_call vk b
+pub split-refused : (b : List ℕ) (n : ℕ) → split_of b ≡ Err n → (vk : List ℕ) → no_fields n ≡ read_slip_call vk b
 unfolding split_of read_slip_call
 split-refused b n = go (first_no (slip_checks b))
   where
-    go : (k : ℕ) → split_by k b ≡ Split.Refused n → (vk : List ℕ) → no_fields n ≡ read_by k vk b
+    go : (k : ℕ) → split_by k b ≡ Err n → (vk : List ℕ) → no_fields n ≡ read_by k vk b
     go zero e vk = let z : ◌≡◌ {A = ℕ} 1 0 = ap is_at e in absurd (omega (arith, z))
     go (suc k) e vk = ap no_fields (sym (ap refusal_of e))
 

@@ -1,16 +1,18 @@
 -- The set follows from the length of a signature (02, #101).
 use mathlib.Core.Path.{◌≡◌, refl, sym, ap, ◌∙◌}
-use mathlib.Core.Bool.{Bool, true, false}
+use mathlib.Core.Bool.{Bool, true, false, cond}
+use mathlib.Core.List.{[], ◌∷◌}
 use Prim.Native.Nat.{ℕ, ◌*◌, ◌≤◌}
 use native.Mathlib.Omega.{arith}
-use borrow.Author.Tests.{eqb-true, eq-eqb, ne_eqb}
+use borrow.Author.Tests.{eqb-true}
 use lib.Dec.{eqb}
 use lib.ListN.{get_or}
-use Rattle.hash.specs.Lists.{pick}
+use Rattle.std.specs.List.{find}
+use Rattle.hash.specs.Lists.{pick, other_than}
 use Rattle.hash.specs.Params.{rows, set_index, row_at, lookup_of}
 use Rattle.hash.specs.declared.params.Edition.{Edition}
 use Rattle.hash.specs.declared.params.Params.{Params}
-use Rattle.hash.specs.declared.params.Selected.{Selected}
+use Rattle.std.specs.Prelude.{Ok, None, Some}
 use Rattle.hash.proofs.Sets.{found-set}
 use Rattle.ring.proofs.Checks.{absurd-bool}
 use Rattle.slip.specs.Format.{signature_bytes, set_by_size}
@@ -54,25 +56,16 @@ pub none-by-size : set_by_size 0 ≡ 0
 unfolding set_by_size lookup_of rows
 none-by-size = refl
 
--- ---- the set by the first length that is equal
-
-pub by-128 : (n : ℕ) → n ≡ signature_bytes 128 → 128 ≡ set_by_size n
+-- the set by the first length that is equal
+pub first-set : (n : ℕ) → find (λ set. eqb n (signature_bytes set)) (128 ∷ 192 ∷ 256 ∷ []) ≡ other_than 0 (set_by_size n)
 unfolding set_by_size
-by-128 n e = rw (eq-eqb n (signature_bytes 128) e) refl
-
-module _ (n : ℕ) (a : n ≡ signature_bytes 128 → ⊥) where
-  pub by-192 : n ≡ signature_bytes 192 → 192 ≡ set_by_size n
-  unfolding set_by_size
-  by-192 e = rw (ne_eqb n (signature_bytes 128) a, eq-eqb n (signature_bytes 192) e) refl
-
-  module _ (b : n ≡ signature_bytes 192 → ⊥) where
-    pub by-256 : n ≡ signature_bytes 256 → 256 ≡ set_by_size n
-    unfolding set_by_size
-    by-256 e = rw (ne_eqb n (signature_bytes 128) a, ne_eqb n (signature_bytes 192) b, eq-eqb n (signature_bytes 256) e) refl
-
-    pub by-none : (n ≡ signature_bytes 256 → ⊥) → 0 ≡ set_by_size n
-    unfolding set_by_size
-    by-none c = rw (ne_eqb n (signature_bytes 128) a, ne_eqb n (signature_bytes 192) b, ne_eqb n (signature_bytes 256) c) refl
+first-set n = go (eqb n (signature_bytes 128)) (eqb n (signature_bytes 192)) (eqb n (signature_bytes 256))
+  where
+    go : (a b c : Bool) → cond a (Some 128) (cond b (Some 192) (cond c (Some 256) None)) ≡ other_than 0 (pick a 128 (pick b 192 (pick c 256 0)))
+    go true b c = refl
+    go false true c = refl
+    go false false true = refl
+    go false false false = refl
 
 -- ---- the signatures of a set are known by their length
 
@@ -94,13 +87,13 @@ set-is-one set = go (eqb set 128) (eqb set 192) (eqb set 256) refl refl refl
     go false false true i j k h = eqb-true set 256 k
     go false false false i j k h = absurd-bool h
 
-pub size-of-set : (set d : ℕ) (e : Edition) (p : Params) → lookup_of set d e ≡ Selected.Found p → set_by_size p.sig_bytes ≡ set
+pub size-of-set : (set d : ℕ) (e : Edition) (p : Params) → lookup_of set d e ≡ Ok p → set_by_size p.sig_bytes ≡ set
 size-of-set set d e p row =
     let o = found-set set d e p row in
     ap (λ (r : Params). set_by_size r.sig_bytes) o.first-row
     ∙ by_row (eqb set 128) (eqb set 192) (eqb set 256) o.known ∙ sym (set-is-one set o.known)
 
-pub set-pos : (set d : ℕ) (e : Edition) (p : Params) → lookup_of set d e ≡ Selected.Found p → 1 ≤ set
+pub set-pos : (set d : ℕ) (e : Edition) (p : Params) → lookup_of set d e ≡ Ok p → 1 ≤ set
 set-pos set d e p row = go (eqb set 128) (eqb set 192) (set-is-one set (found-set set d e p row).known)
   where
     go : (a b : Bool) → set ≡ pick a 128 (pick b 192 256) → 1 ≤ set

@@ -13,7 +13,9 @@ use lib.Seq.{length-take-le, take-length}
 use Rattle.hash.specs.Lists.{Bytes, pick}
 use Rattle.hash.specs.Params.{lookup_of}
 use Rattle.hash.specs.declared.params.Edition.{Edition}
-use Rattle.hash.specs.declared.params.Selected.{Selected}
+use Rattle.std.specs.Prelude.{Result, Ok, Err}
+use Rattle.hash.specs.declared.params.Params.{Params}
+use Rattle.hash.specs.declared.params.Unknown.{Unknown}
 use Rattle.ring.proofs.Checks.{absurd-bool, asked, both_true, both_yes, yes-here, first_passes, first-low}
 use Rattle.signature.specs.Bounds.{check_bounds}
 use Rattle.signature.specs.Checks.{first_no, proper_form, public_key_sized, public_key_good, message_sized, signature_sized}
@@ -62,7 +64,7 @@ abbrev pub verdicts : List ℕ
 verdicts = 0 ∷ 3 ∷ 4 ∷ 10 ∷ 11 ∷ 14 ∷ 15 ∷ 16 ∷ []
 
 module _ (vk b : List ℕ) (z : first_no (slip_checks b) ≡ 0) where
-  abbrev s : Selected
+  abbrev s : Result Params Unknown
   s = lookup_of (set_in b) 1 Edition.Printed
 
   its-size : SizeFits (set_in b) (length (signature_in b))
@@ -71,10 +73,10 @@ module _ (vk b : List ℕ) (z : first_no (slip_checks b) ≡ 0) where
   set_found : set_known s ≡ true
   set_found = go s its-size.size
     where
-      go : (s : Selected) → (found_in s).sig_bytes ≡ length (signature_in b) → set_known s ≡ true
-      go (Selected.Found p) e = refl
-      go Selected.NoShares e = refl
-      go Selected.NoSet e = absurd (omega (arith, e, its-size.low))
+      go : (s : Result Params Unknown) → (found_in s).sig_bytes ≡ length (signature_in b) → set_known s ≡ true
+      go (Ok p) e = refl
+      go (Err Unknown.Shares) e = refl
+      go (Err Unknown.Set) e = absurd (omega (arith, e, its-size.low))
 
   short-message : message_sized (message_in b) ≡ true
   short-message =
@@ -247,9 +249,9 @@ module _ (set : ℕ) (vk : List ℕ) (s : Slip) (v : verify_call Edition.Printed
   unfolding verify_call
   of-set = go (lookup_of set 1 Edition.Printed) refl v
     where
-      go : (x : Selected) → lookup_of set 1 Edition.Printed ≡ x → first_no (verify_checks x (found_in x) vk (slip_message s) s.signature) ≡ 0
+      go : (x : Result Params Unknown) → lookup_of set 1 Edition.Printed ≡ x → first_no (verify_checks x (found_in x) vk (slip_message s) s.signature) ≡ 0
           → (set_by_size (length s.signature) ≡ set) × (1 ≤ set)
-      go (Selected.Found p) i h =
+      go (Ok p) i h =
           let a3 = asked 2 (public_key_sized p vk) _ h in
           let a4 = asked 3 (public_key_good p vk) _ a3.1 in
           let a9 = asked 8 (message_sized (slip_message s)) _ a4.1 in
@@ -257,8 +259,8 @@ module _ (set : ℕ) (vk : List ℕ) (s : Slip) (v : verify_call Edition.Printed
             ap set_by_size (eqb-true (length s.signature) p.sig_bytes a13.0) ∙ size-of-set set 1 Edition.Printed p i,
             set-pos set 1 Edition.Printed p i,
           )
-      go Selected.NoSet i h = absurd (omega (arith, h))
-      go Selected.NoShares i h = absurd (never-shares Edition.Printed set i)
+      go (Err Unknown.Set) i h = absurd (omega (arith, h))
+      go (Err Unknown.Shares) i h = absurd (never-shares Edition.Printed set i)
 
   -- the set is the one that follows from the signature's length
   pub accepted-set : set_by_size (length s.signature) ≡ set

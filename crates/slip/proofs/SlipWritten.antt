@@ -16,16 +16,14 @@ use Rattle.signature.proofs.KeyBytes.{laid-behind}
 use Rattle.slip.specs.Calls.{parts_fit, write_checks, write_slip_call}
 use Rattle.slip.specs.Format.{Slip, leading, slip_bytes, set_by_size}
 
-pub leading-made : (m t n : ℕ) → m < 2 ^ 16 → t < 2 ^ 8 → n < 2 ^ 16
-    → 84 ∷ 77 ∷ 82 ∷ 1 ∷ 0 ∷ (m % 256) ∷ (m / 256) ∷ t ∷ (n % 256) ∷ (n / 256) ∷ [] ≡ leading m t n
+pub leading-made : (m t n : ℕ) → t < 2 ^ 8
+    → 84 ∷ 77 ∷ 82 ∷ 1 ∷ 0 ∷ (m % 256) ∷ (m / 256 % 256) ∷ t ∷ (n % 256) ∷ (n / 256 % 256) ∷ [] ≡ leading m t n
 unfolding leading table
-leading-made m t n h k l =
+leading-made m t n k =
     let m0 : m / 1 % 256 ≡ m % 256 = omega arith in
-    let m1 : m / 256 % 256 ≡ m / 256 = omega arith in
     let t0 : t / 1 % 256 ≡ t = omega arith in
     let n0 : n / 1 % 256 ≡ n % 256 = omega arith in
-    let n1 : n / 256 % 256 ≡ n / 256 = omega arith in
-    rw (m0, m1, t0, n0, n1) refl
+    rw (m0, t0, n0) refl
 
 -- three parts that fill a buffer
 module _ (A B C o : List ℕ) (a b : ℕ) (la : length A ≡ a) (lb : length A + length B ≡ b) (lo : length o ≡ b + length C) where

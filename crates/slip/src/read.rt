@@ -1,19 +1,20 @@
 // Reading a slip (02, #101): checks 17, 18 and 19, then the verdict on its signature, beside the fields.
-ghost use Rattle.std.specs.Prelude.{◌≡◌, ◌+◌, ◌≤◌, length, take, drop};
+ghost use Rattle.std.specs.Prelude.{◌≡◌, Ok, ◌+◌, ◌≤◌, length, take, drop};
+ghost use Rattle.hash.specs.Refusal.{number_of};
 ghost use Rattle.signature.specs.Checks.{same_bytes};
 ghost use Rattle.slip.specs.Calls.{no_fields, read_slip_call};
-ghost use Rattle.slip.specs.Split.{split_of};
-ghost use Rattle.slip.specs.declared.read.Split.{Split};
+ghost use Rattle.slip.specs.Split.{split_of, split_told};
 
 use crate::size::set_by_size;
 use hash::endian::load;
 use hash::params::Edition;
-use signature::verify::{same_bytes, verify};
+use hash::refusal::{Refusal, status};
+use signature::verify::verify;
 
 // TMR, and 1 in two bytes.
-const MARK: [u8; 3] = [84, 77, 82];
+pub(crate) const MARK: [u8; 3] = [84, 77, 82];
 
-const VERSION: [u8; 2] = [1, 0];
+pub(crate) const VERSION: [u8; 2] = [1, 0];
 
 // The status, and with any but 17, 18 and 19 the fields of the slip: text and signature by place, and the set that follows from the signature's
 // length.
@@ -30,59 +31,45 @@ pub struct ReadSlip {
     pub signature_len: usize,
 }
 
-// Where the signature begins and which set it is of, or the reader's own refusal.
-#[derive(Clone, Copy)]
-pub enum Split {
-    At(usize, u32),
-    Refused(u32),
-}
-
 // Whether just the bytes x stand in the slip from the place at on.
 fn stands_at(slip: &[u8], at: usize, x: &[u8]) -> bool
     requires { (at ≤ 10) × (1 ≤ length x.now) × (length x.now ≤ 10) }
     ensures { result ≡ same_bytes (take (length x.now) (drop at slip.now)) x.now }
 {
-    let e = at + x.len();
-    if slip.len() < e {
-        return false;
-    }
-    same_bytes(&slip[at..e], x)
+    at <= slip.len() && slip[at..].starts_with(x)
 }
 
-// Checks 17, 18 and 19.
-fn parse(slip: &[u8]) -> Split
-    ensures { result ≡ split_of slip.now }
+// Where the signature begins and which set it is of: checks 17, 18 and 19.
+fn parse(slip: &[u8]) -> Result<(usize, u32), Refusal>
+    ensures { split_told result ≡ split_of slip.now }
 {
     let n = slip.len();
     if !stands_at(slip, 0, &MARK) {
-        return Split::Refused(17);
+        return Err(Refusal::BadSlipMark);
     }
     if !stands_at(slip, 3, &VERSION) {
-        return Split::Refused(18);
+        return Err(Refusal::BadSlipVersion);
     }
     if n < 10 {
-        return Split::Refused(19);
+        return Err(Refusal::BadSlipLength);
     }
     let text = load(slip, 8, 2) as usize;
     let at = 10 + text;
     if 512 < text {
-        return Split::Refused(19);
+        return Err(Refusal::BadSlipLength);
     }
     if n < at {
-        return Split::Refused(19);
+        return Err(Refusal::BadSlipLength);
     }
-    let set = set_by_size(n - at);
-    if set == 0 {
-        return Split::Refused(19);
-    }
-    Split::At(at, set)
+    let set = set_by_size(n - at).ok_or(Refusal::BadSlipLength)?;
+    Ok((at, set))
 }
 
-fn no_fields(status: u32) -> ReadSlip
-    ensures { result ≡ no_fields status }
+fn no_fields(refusal: Refusal) -> ReadSlip
+    ensures { result ≡ no_fields (number_of refusal) }
 {
     ReadSlip {
-        status,
+        status: refusal.number(),
         movement: 0,
         track: 0,
         set: 0,
@@ -95,10 +82,10 @@ fn no_fields(status: u32) -> ReadSlip
 
 // The fields and the verdict on a slip that passed 17, 18 and 19, with its signature of that set from the place at on.
 fn verdict_at(public_key: &[u8], slip: &[u8], at: usize, set: u32) -> ReadSlip
-    requires { (split_of slip.now ≡ Split.At at set) × (10 ≤ at) × (at ≤ length slip.now) }
+    requires { (split_of slip.now ≡ Ok (at, set)) × (10 ≤ at) × (at ≤ length slip.now) }
     ensures { result ≡ read_slip_call public_key.now slip.now }
 {
-    let status = verify(
+    let verdict = verify(
         set as u64,
         Edition::Printed,
         public_key,
@@ -106,7 +93,7 @@ fn verdict_at(public_key: &[u8], slip: &[u8], at: usize, set: u32) -> ReadSlip
         &slip[at..],
     );
     ReadSlip {
-        status,
+        status: status(verdict),
         movement: load(slip, 5, 2) as u16,
         track: slip[7],
         set,
@@ -123,7 +110,7 @@ pub fn read_slip(public_key: &[u8], slip: &[u8]) -> ReadSlip
     ensures { result ≡ read_slip_call public_key.now slip.now }
 {
     match parse(slip) {
-        Split::Refused(n) => no_fields(n),
-        Split::At(at, set) => verdict_at(public_key, slip, at, set),
+        Ok((at, set)) => verdict_at(public_key, slip, at, set),
+        Err(refusal) => no_fields(refusal),
     }
 }

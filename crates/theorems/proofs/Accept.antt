@@ -12,7 +12,7 @@ use lib.IntN.{ℤ}
 use lib.ListN.{length}
 use Rattle.hash.specs.Lists.{pick}
 use Rattle.hash.specs.declared.params.Params.{Params}
-use Rattle.hash.specs.declared.params.Selected.{Selected}
+use Rattle.std.specs.Prelude.{Ok}
 use Rattle.hash.proofs.Output.{output-length, output-bytes}
 use Rattle.hash.proofs.Sets.{set_of}
 use Rattle.ring.specs.Words.{q, subq, Words}
@@ -142,7 +142,7 @@ module _ (p : Params) (vk msg A : List ℕ) (e_a : matrix p (vk_seed p vk) ≡ s
 
   -- the verifier's first checks are among those that signing passed
   pub verify-good : (sig : List ℕ) → public_key_sized p vk ≡ true → public_key_good p vk ≡ true → message_sized msg ≡ true → Good sig
-      → first_no (verify_checks (Selected.Found p) p vk msg sig) ≡ 0
+      → first_no (verify_checks (Ok p) p vk msg sig) ≡ 0
   verify-good sig a3 a4 a9 g =
       let a13 : eqb (length sig) p.sig_bytes ≡ true = eq-eqb (length sig) p.sig_bytes g.long in
       let a14 : proper_form p sig ≡ true = g.form in

@@ -12,7 +12,8 @@ use lib.Seq.{length-take-le}
 use Rattle.hash.specs.Params.{lookup_of}
 use Rattle.hash.specs.declared.params.Edition.{Edition}
 use Rattle.hash.specs.declared.params.Params.{Params}
-use Rattle.hash.specs.declared.params.Selected.{Selected}
+use Rattle.std.specs.Prelude.{Result, Ok, Err}
+use Rattle.hash.specs.declared.params.Unknown.{Unknown}
 use Rattle.hash.proofs.Rows.{order-count, Rule, found}
 use Rattle.hash.proofs.Sets.{Beside, beside}
 use Rattle.ring.proofs.Checks.{both_true}
@@ -48,7 +49,7 @@ pub not-refused : (m : ℕ) (A : Outcome) → (refused_or m A).status ≡ 0 → 
 not-refused zero A h = (refl, refl)
 not-refused (suc m) A h = absurd (omega (arith, h))
 
-module _ (e : Edition) (set d : ℕ) (p : Params) (is : lookup_of set d e ≡ Selected.Found p) where
+module _ (e : Edition) (set d : ℕ) (p : Params) (is : lookup_of set d e ≡ Ok p) where
   one : Beside set 1 e p
   one = beside set d 1 e p is (order-count 1 (omega arith))
 
@@ -73,9 +74,9 @@ module _ (e : Edition) (set d : ℕ) (p : Params) (is : lookup_of set d e ≡ Se
   unfolding sign_of
   known-accepted key n msg T out work t h =
       let A = attempts_of p key n msg T in
-      let f : sign_by (lookup_of set d e) (found_in (lookup_of set d e)) key n msg T out work ≡ sign_by (Selected.Found p) p key n msg T out work =
-      ap (λ (s : Selected). sign_by s (found_in s) key n msg T out work) is in
-      let z = not-refused (first_no (sign_checks (Selected.Found p) p key n msg T out work)) A (ap (λ (x : Outcome). x.status) (sym f) ∙ h) in
+      let f : sign_by (lookup_of set d e) (found_in (lookup_of set d e)) key n msg T out work ≡ sign_by (Ok p) p key n msg T out work =
+      ap (λ (s : Result Params Unknown). sign_by s (found_in s) key n msg T out work) is in
+      let z = not-refused (first_no (sign_checks (Ok p) p key n msg T out work)) A (ap (λ (x : Outcome). x.status) (sym f) ∙ h) in
       let a = all_yes p key n msg T out work z.0 in
       ap (λ (x : Outcome). verify_call e set (public_of p key) msg x.bytes) (f ∙ z.1)
       ∙ attempts-accepted key n msg T out work t a.0 a.1
@@ -83,11 +84,11 @@ module _ (e : Edition) (set d : ℕ) (p : Params) (is : lookup_of set d e ≡ Se
 
 -- with status 0 the set and the share count were found
 pub found-with : (e : Edition) (set d : ℕ) (key : Key) (n : ℕ) (msg : List ℕ) (T : Coins) (out work : List ℕ)
-    → (sign_of e set d key n msg T out work).status ≡ 0 → (p : Params) × (lookup_of set d e ≡ Selected.Found p)
+    → (sign_of e set d key n msg T out work).status ≡ 0 → (p : Params) × (lookup_of set d e ≡ Ok p)
 unfolding sign_of
 found-with e set d key n msg T out work h = go (lookup_of set d e) refl h
   where
-    go : (s : Selected) → lookup_of set d e ≡ s → (sign_by s (found_in s) key n msg T out work).status ≡ 0 → (p : Params) × (lookup_of set d e ≡ Selected.Found p)
-    go Selected.NoSet i h = absurd (omega arith)
-    go Selected.NoShares i h = absurd (omega arith)
-    go (Selected.Found p) i h = (p, i)
+    go : (s : Result Params Unknown) → lookup_of set d e ≡ s → (sign_by s (found_in s) key n msg T out work).status ≡ 0 → (p : Params) × (lookup_of set d e ≡ Ok p)
+    go (Err Unknown.Set) i h = absurd (omega arith)
+    go (Err Unknown.Shares) i h = absurd (omega arith)
+    go (Ok p) i h = (p, i)

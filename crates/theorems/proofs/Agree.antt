@@ -9,7 +9,8 @@ use lib.ListN.{get_or, take-append-drop}
 use Rattle.hash.specs.Lists.{pick}
 use Rattle.hash.specs.Params.{set_index, order_index, row_at, params_of}
 use Rattle.hash.specs.declared.params.Params.{Params}
-use Rattle.hash.specs.declared.params.Selected.{Selected}
+use Rattle.std.specs.Prelude.{Result, Ok, Err}
+use Rattle.hash.specs.declared.params.Unknown.{Unknown}
 use Rattle.hash.proofs.Sets.{set_of, found-set, look_up}
 use Rattle.ring.specs.Words.{Words}
 use Rattle.ring.proofs.Sums.{same-residues}
@@ -54,14 +55,14 @@ build-same n m f g e wf wg h =
     ∙ ap (λ (k : ℕ). build k g) e
 
 -- their records are of one set
-pub of-one-set : (u v : UnitCall) (p r : Params) → record_of u ≡ Selected.Found p → record_of v ≡ Selected.Found r
+pub of-one-set : (u v : UnitCall) (p r : Params) → record_of u ≡ Ok p → record_of v ≡ Ok r
     → u.set ≡ v.set → u.edition ≡ v.edition → set_of p ≡ set_of r
 of-one-set u v p r iu iv sets editions =
     (found-set u.set u.shares u.edition p iu).first-row
     ∙ cc (sets, editions)
     ∙ sym (found-set v.set v.shares v.edition r iv).first-row
 
-module _ (u v : UnitCall) (p r : Params) (iu : record_of u ≡ Selected.Found p) (iv : record_of v ≡ Selected.Found r)
+module _ (u v : UnitCall) (p r : Params) (iu : record_of u ≡ Ok p) (iv : record_of v ≡ Ok r)
     (hu : Fits p u) (hv : Fits r v) (al : Alike u v) where
   one_set : set_of p ≡ set_of r
   one_set = of-one-set u v p r iu iv al.sets al.editions
@@ -115,10 +116,10 @@ module _ (u v : UnitCall) (p r : Params) (iu : record_of u ≡ Selected.Found p)
 abbrev row_for : UnitCall → Params
 row_for w = params_of (row_at (6 * set_index w.set + order_index w.shares)) w.edition
 
-row-look : (w : UnitCall) → Sound w → (set : ℕ) → set ≡ w.set → (b : Bool) → eqb (set_index set) 3 ≡ b → record_of w ≡ pick b Selected.NoSet (Selected.Found (row_for w))
+row-look : (w : UnitCall) → Sound w → (set : ℕ) → set ≡ w.set → (b : Bool) → eqb (set_index set) 3 ≡ b → record_of w ≡ pick b (Err Unknown.Set) (Ok (row_for w))
 row-look w h set e b i =
     look_up w.set w.shares w.edition h.count
-    ∙ ap (λ (c : Bool). pick c Selected.NoSet (Selected.Found (row_for w))) (ap (λ (x : ℕ). eqb (set_index x) 3) (sym e) ∙ i)
+    ∙ ap (λ (c : Bool). pick c (Err Unknown.Set) (Ok (row_for w))) (ap (λ (x : ℕ). eqb (set_index x) 3) (sym e) ∙ i)
 
 unknown-agree : (u v : UnitCall) → Sound u → Sound v → u.set ≡ v.set → eqb (set_index u.set) 3 ≡ true → sign_unit u ≡ sign_unit v
 unknown-agree u v hu hv e i = sign-unknown u (row-look u hu u.set refl true i) ∙ sym (sign-unknown v (row-look v hv u.set e true i))
@@ -145,12 +146,12 @@ answers_agree u v hu hv al s t fu fv = go (eqb (set_index u.set) 3) refl
 
 -- ---- with true digests equal public keys are enough
 
-module _ (u v : UnitCall) (p r : Params) (iu : record_of u ≡ Selected.Found p) (iv : record_of v ≡ Selected.Found r) (al : AlikeTrue u v) where
+module _ (u v : UnitCall) (p r : Params) (iu : record_of u ≡ Ok p) (iv : record_of v ≡ Ok r) (al : AlikeTrue u v) where
   -- the bytes of a key with a true digest
-  true-bytes : (w : UnitCall) (x : Params) → record_of w ≡ Selected.Found x → TrueDigest w → w.key.bytes ≡ vk_of w ++ digest_for x (vk_of w)
+  true-bytes : (w : UnitCall) (x : Params) → record_of w ≡ Ok x → TrueDigest w → w.key.bytes ≡ vk_of w ++ digest_for x (vk_of w)
   true-bytes w x i t =
       sym (take-append-drop x.vk_bytes w.key.bytes) ∙ ap (λ (d : List ℕ). vk_in x w.key.bytes ++ d) (t x i)
-      ∙ ap (λ (s : Selected). vk_in (found_in s) w.key.bytes ++ digest_for x (vk_in (found_in s) w.key.bytes)) (sym i)
+      ∙ ap (λ (s : Result Params Unknown). vk_in (found_in s) w.key.bytes ++ digest_for x (vk_in (found_in s) w.key.bytes)) (sym i)
 
   known_alike : Alike u v
   known_alike =

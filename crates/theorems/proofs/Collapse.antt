@@ -11,7 +11,8 @@ use lib.ListN.{length, drop}
 use Rattle.hash.specs.Lists.{pick}
 use Rattle.hash.specs.Params.{order_index}
 use Rattle.hash.specs.declared.params.Params.{Params}
-use Rattle.hash.specs.declared.params.Selected.{Selected}
+use Rattle.std.specs.Prelude.{Result, Ok, Err}
+use Rattle.hash.specs.declared.params.Unknown.{Unknown}
 use Rattle.hash.proofs.Rows.{Row, found}
 use Rattle.ring.specs.Words.{q, all_below, Words}
 use Rattle.ring.proofs.Checks.{both_true, both-last, below-yes}
@@ -80,7 +81,7 @@ noise_of p u a = noise_at p u.coins a
 abbrev pub noise_totals : Params → UnitCall → ℕ → Totals
 noise_totals p u a = totals_of p (noise_of p u a)
 
-module _ (u : UnitCall) (p : Params) (is : record_of u ≡ Selected.Found p) (h : Fits p u) where
+module _ (u : UnitCall) (p : Params) (is : record_of u ≡ Ok p) (h : Fits p u) where
   row : Row u.set u.shares u.edition p
   row = found u.set u.shares u.edition p is
 
@@ -96,7 +97,7 @@ module _ (u : UnitCall) (p : Params) (is : record_of u ≡ Selected.Found p) (h 
       noise-good p uw-low u.attempts u.coins.noise u.coins.masks a l u.coins.explicit h.coins
 
   -- the checks that it passes fall away
-  checks-plain : first_no (sign_checks (Selected.Found p) p (Key.expanded u.key) u.attempts u.message u.coins u.result u.work)
+  checks-plain : first_no (sign_checks (Ok p) p (Key.expanded u.key) u.attempts u.message u.coins u.result u.work)
       ≡ first_no (plain_checks p u.key.bytes u.attempts u.message)
   unfolding filled
   checks-plain =
@@ -113,7 +114,7 @@ module _ (u : UnitCall) (p : Params) (is : record_of u ≡ Selected.Found p) (h 
       let A : Outcome = attempts_of p (Key.expanded u.key) u.attempts u.message u.coins in
       let m : ℕ = first_no (plain_checks p u.key.bytes u.attempts u.message) in
       let e : sign_unit u ≡ refused_or m A =
-      ap (λ (s : Selected). sign_by s (found_in s) (Key.expanded u.key) u.attempts u.message u.coins u.result u.work) is
+      ap (λ (s : Result Params Unknown). sign_by s (found_in s) (Key.expanded u.key) u.attempts u.message u.coins u.result u.work) is
       ∙ ap (λ (n : ℕ). refused_or n A) checks-plain in
       e ∙ refused_full m A (plain_from p (plain_public p u.key.bytes u.message) (noise_totals p u) u.attempts 0 (unit_secret p u))
       (λ (x : (refused_or m A).status ≡ 20). full (ap (λ (X : Outcome). X.status) e ∙ x))
@@ -122,6 +123,6 @@ module _ (u : UnitCall) (p : Params) (is : record_of u ≡ Selected.Found p) (h 
       (λ (b : ℕ) (l : b < 0 + u.attempts). good b (omega arith)) u.key.words h.share-words)
 
 -- of an unknown set there is one answer
-pub sign-unknown : (u : UnitCall) → record_of u ≡ Selected.NoSet → sign_unit u ≡ answer 1 0 []
+pub sign-unknown : (u : UnitCall) → record_of u ≡ Err Unknown.Set → sign_unit u ≡ answer 1 0 []
 unfolding sign_unit sign_of
-sign-unknown u is = ap (λ (s : Selected). sign_by s (found_in s) (Key.expanded u.key) u.attempts u.message u.coins u.result u.work) is
+sign-unknown u is = ap (λ (s : Result Params Unknown). sign_by s (found_in s) (Key.expanded u.key) u.attempts u.message u.coins u.result u.work) is

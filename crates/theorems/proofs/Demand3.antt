@@ -9,7 +9,8 @@ use lib.ListN.{length}
 use Rattle.hash.specs.Params.{ShareCount, lookup_of}
 use Rattle.hash.specs.declared.params.Edition.{Edition}
 use Rattle.hash.specs.declared.params.Params.{Params}
-use Rattle.hash.specs.declared.params.Selected.{Selected}
+use Rattle.std.specs.Prelude.{Result, Ok}
+use Rattle.hash.specs.declared.params.Unknown.{Unknown}
 use Rattle.signature.specs.Digest.{digest_for}
 use Rattle.signature.specs.ExpandedKey.{ExpandedKey, vk_in}
 use Rattle.signature.specs.Keys.{DigestTrue}
@@ -25,14 +26,14 @@ use Rattle.theorems.proofs.Witness.{laid-sound, laid-has, had, has-alike, has-al
 
 -- The verifier accepts what is signed with an expanded key whose digest is true: whatever the set, share count, key, message, noise and masks, if
 -- signing returns 0, verifying that signature with that public key and message returns 0.
-pub accepted : (e : Edition) (set d : ℕ) (p : Params) → lookup_of set d e ≡ Selected.Found p
+pub accepted : (e : Edition) (set d : ℕ) (p : Params) → lookup_of set d e ≡ Ok p
     → (K : ExpandedKey) (n : ℕ) (msg : List ℕ) (T : Coins) (out work : List ℕ)
     → DigestTrue p (Key.expanded K) → (sign_of e set d (Key.expanded K) n msg T out work).status ≡ 0
     → verify_call e set (vk_in p K.bytes) msg (sign_of e set d (Key.expanded K) n msg T out work).bytes ≡ 0
 accepted e set d p is K n msg T out work t h = known-accepted e set d p is (Key.expanded K) n msg T out work t h
 
 -- It accepts what is signed with a signing key too; the public key is the signing key's front, and the digest is always true.
-pub accepted-packed : (e : Edition) (set d : ℕ) (p : Params) → lookup_of set d e ≡ Selected.Found p
+pub accepted-packed : (e : Edition) (set d : ℕ) (p : Params) → lookup_of set d e ≡ Ok p
     → (key : List ℕ) (n : ℕ) (msg : List ℕ) (T : Coins) (out work : List ℕ)
     → (sign_of e set d (Key.packed key) n msg T out work).status ≡ 0
     → verify_call e set (vk_in p key) msg (sign_of e set d (Key.packed key) n msg T out work).bytes ≡ 0
@@ -43,7 +44,7 @@ pub accepted-unit : (u : UnitCall) → TrueDigest u → (sign_unit u).status ≡
 unfolding sign_unit
 accepted-unit u t h =
     let f = found-with u.edition u.set u.shares (Key.expanded u.key) u.attempts u.message u.coins u.result u.work h in
-    ap (λ (s : Selected). verify_call u.edition u.set (vk_in (found_in s) u.key.bytes) u.message (sign_unit u).bytes) f.1
+    ap (λ (s : Result Params Unknown). verify_call u.edition u.set (vk_in (found_in s) u.key.bytes) u.message (sign_unit u).bytes) f.1
     ∙ accepted u.edition u.set u.shares f.0 f.1 u.key u.attempts u.message u.coins u.result u.work (t f.0 f.1) h
 
 -- Two units alike in set, public key, digest, message and allowed attempts, each with an expanded key of any of the six share counts; their shares
@@ -115,7 +116,7 @@ met-across w c d hc hd =
     )
 
 -- .. with true digests too: under any public key of the right length, the wanted bytes being it and its hash.
-pub met-true : (w : Wanted) (c d : ℕ) → ShareCount c → ShareCount d → (p : Params) → lookup_of w.set c w.edition ≡ Selected.Found p
+pub met-true : (w : Wanted) (c d : ℕ) → ShareCount c → ShareCount d → (p : Params) → lookup_of w.set c w.edition ≡ Ok p
     → (vk : List ℕ) → length vk ≡ p.vk_bytes → w.bytes ≡ vk ++ digest_for p vk
     → (u : UnitCall) × (v : UnitCall) × (u.shares ≡ c) × (v.shares ≡ d) × Sound u × Sound v × AlikeTrue u v × SameSecret u v × EqualTotals u v
 unfolding laid laid_for

@@ -8,7 +8,8 @@ use lib.ListN.{length}
 use Rattle.hash.specs.Params.{lookup_of}
 use Rattle.hash.specs.declared.params.Edition.{Edition}
 use Rattle.hash.specs.declared.params.Params.{Params}
-use Rattle.hash.specs.declared.params.Selected.{Selected}
+use Rattle.std.specs.Prelude.{Result, Ok}
+use Rattle.hash.specs.declared.params.Unknown.{Unknown}
 use Rattle.hash.proofs.Rows.{found}
 use Rattle.ring.proofs.Checks.{asked}
 use Rattle.signature.specs.Checks.{first_no, signing_key_sized}
@@ -23,16 +24,16 @@ abbrev TrueBytes : Params → List ℕ → Type 0
 TrueBytes p bytes = DigestTrue p (expanded (expanded_in bytes []))
 
 -- what expanding leaves with 0: the public key, and behind it its hash
-pub expanded-true : (e : Edition) (set d : ℕ) (p : Params) → lookup_of set d e ≡ Selected.Found p → (key bytes words : List ℕ)
+pub expanded-true : (e : Edition) (set d : ℕ) (p : Params) → lookup_of set d e ≡ Ok p → (key bytes words : List ℕ)
     → (expand_call e set d key bytes words).status ≡ 0
     → ((expand_call e set d key bytes words).bytes ≡ with_digest p (packed key)) × TrueBytes p (expand_call e set d key bytes words).bytes
 unfolding expand_call
 expanded-true e set d p is key bytes words h =
-    let n = ap (λ (s : Selected). first_no (expand_checks s (found_in s) key bytes words)) is in
-    let z : first_no (expand_checks (Selected.Found p) p key bytes words) ≡ 0 = sym n ∙ h in
+    let n = ap (λ (s : Result Params Unknown). first_no (expand_checks s (found_in s) key bytes words)) is in
+    let z : first_no (expand_checks (Ok p) p key bytes words) ≡ 0 = sym n ∙ h in
     let long = eqb-true (length key) p.sk_bytes (asked 2 (signing_key_sized p key) _ z).0 in
     let left : (expand_call e set d key bytes words).bytes ≡ with_digest p (packed key) =
-    ap (λ (s : Selected). written (first_no (expand_checks s (found_in s) key bytes words)) (with_digest (found_in s) (packed key)) bytes) is
+    ap (λ (s : Result Params Unknown). written (first_no (expand_checks s (found_in s) key bytes words)) (with_digest (found_in s) (packed key)) bytes) is
     ∙ ap (λ (m : ℕ). written m (with_digest p (packed key)) bytes) z in
     (left, subst (TrueBytes p) (sym left) (computed-true p key [] (omega (arith, (found set d e p is).rule.sk, long))))
 

@@ -11,7 +11,8 @@ use lib.ListN.{length}
 use Rattle.hash.specs.Lists.{pick}
 use Rattle.hash.specs.Params.{order_index}
 use Rattle.hash.specs.declared.params.Params.{Params}
-use Rattle.hash.specs.declared.params.Selected.{Selected}
+use Rattle.std.specs.Prelude.{Result, Ok}
+use Rattle.hash.specs.declared.params.Unknown.{Unknown}
 use Rattle.hash.proofs.Rows.{found}
 use Rattle.ring.specs.Words.{q}
 use Rattle.ring.specs.Round.{round_w, residues}
@@ -188,15 +189,15 @@ pub record DryAt (p : Params) (u : UnitCall) (a : ℕ) : Type 0 where
   pub unfilled : masks_fill_at p u a ≡ false
 
 -- A unit runs dry by a mask seed alone: that of the attempt which it reports.
-pub dry-at : (u : UnitCall) (p : Params) → record_of u ≡ Selected.Found p → RunsDry u → (a : ℕ) × DryAt p u a
+pub dry-at : (u : UnitCall) (p : Params) → record_of u ≡ Ok p → RunsDry u → (a : ℕ) × DryAt p u a
 unfolding sign_unit sign_of masks_fill_at
 dry-at u p is h =
     let K = Key.expanded u.key in
     let A : Outcome = attempts_of p K u.attempts u.message u.coins in
-    let m : ℕ = first_no (sign_checks (Selected.Found p) p K u.attempts u.message u.coins u.result u.work) in
-    let l : m ≤ 10 = first-low 10 (sign_checks (Selected.Found p) p K u.attempts u.message u.coins u.result u.work) refl in
+    let m : ℕ = first_no (sign_checks (Ok p) p K u.attempts u.message u.coins u.result u.work) in
+    let l : m ≤ 10 = first-low 10 (sign_checks (Ok p) p K u.attempts u.message u.coins u.result u.work) refl in
     let e : sign_unit u ≡ refused_or m A =
-    ap (λ (s : Selected). sign_by s (found_in s) K u.attempts u.message u.coins u.result u.work) is in
+    ap (λ (s : Result Params Unknown). sign_by s (found_in s) K u.attempts u.message u.coins u.result u.work) is in
     let r = refused-dry m A l (sym (ap (λ (X : Outcome). X.status) e) ∙ h) in
     let d = ran_dry p _ u.coins u.attempts 0 _ r.0 in (
       d.0,
@@ -208,7 +209,7 @@ dry-at u p is h =
     )
 
 -- One share draws no masks: such a unit never runs dry.
-pub one-share-full : (u : UnitCall) (p : Params) → record_of u ≡ Selected.Found p → u.shares ≡ 1 → RunsDry u → ⊥
+pub one-share-full : (u : UnitCall) (p : Params) → record_of u ≡ Ok p → u.shares ≡ 1 → RunsDry u → ⊥
 unfolding masks_fill_at mask_at
 one-share-full u p is one h =
     let d = dry-at u p is h in

@@ -13,7 +13,8 @@ use Rattle.hash.specs.Lists.{Bytes}
 use Rattle.hash.specs.Params.{lookup_of}
 use Rattle.hash.specs.declared.params.Edition.{Edition}
 use Rattle.hash.specs.declared.params.Params.{Params}
-use Rattle.hash.specs.declared.params.Selected.{Selected}
+use Rattle.std.specs.Prelude.{Result, Ok, Err}
+use Rattle.hash.specs.declared.params.Unknown.{Unknown}
 use Rattle.signature.specs.Bounds.{check_bounds}
 use Rattle.signature.specs.Challenge.{chal_poly}
 use Rattle.signature.specs.Checks.{public_key_sized, public_key_good, message_sized, signature_sized, proper_form, hash_equal}
@@ -35,7 +36,7 @@ use Rattle.signature.proofs.Verified.{never-shares}
 -- what the submission accepts, with the limits of paper 01
 pub record Accepts (e : Edition) (set : ℕ) (vk msg sig : List ℕ) : Type 0 where
   pub p : Params
-  pub row : lookup_of set 1 e ≡ Selected.Found p
+  pub row : lookup_of set 1 e ≡ Ok p
   pub key-sized : public_key_sized p vk ≡ true
   pub key-good : public_key_good p vk ≡ true
   pub message-sized : message_sized msg ≡ true
@@ -53,7 +54,7 @@ pub record Accepts (e : Edition) (set : ℕ) (vk msg sig : List ℕ) : Type 0 wh
 
 module _ (e : Edition) (set : ℕ) (vk msg sig : List ℕ) (byte : Bytes sig) where
   -- .. of the record of the set and the fields read: each check in its turn
-  of_fields : (p : Params) → lookup_of set 1 e ≡ Selected.Found p → public_key_sized p vk ≡ true → public_key_good p vk ≡ true → message_sized msg ≡ true
+  of_fields : (p : Params) → lookup_of set 1 e ≡ Ok p → public_key_sized p vk ≡ true → public_key_good p vk ≡ true → message_sized msg ≡ true
       → signature_sized p sig ≡ true → (f : Fields) → read p sig ≡ some f → write p f ≡ some sig → first_no (field_checks p vk msg f) ≡ 0
       → Accepts e set vk msg sig
   of_fields p l a3 a4 a9 a13 f r w z =
@@ -86,10 +87,10 @@ module _ (e : Edition) (set : ℕ) (vk msg sig : List ℕ) (byte : Bytes sig) wh
   unfolding verify_call
   only-accepted z = look (lookup_of set 1 e) refl z
     where
-      look : (s : Selected) → lookup_of set 1 e ≡ s → first_no (verify_checks s (found_in s) vk msg sig) ≡ 0 → Accepts e set vk msg sig
-      look Selected.NoSet l v = absurd (omega (arith, v))
-      look Selected.NoShares l v = absurd (never-shares e set l)
-      look (Selected.Found p) l v =
+      look : (s : Result Params Unknown) → lookup_of set 1 e ≡ s → first_no (verify_checks s (found_in s) vk msg sig) ≡ 0 → Accepts e set vk msg sig
+      look (Err Unknown.Set) l v = absurd (omega (arith, v))
+      look (Err Unknown.Shares) l v = absurd (never-shares e set l)
+      look (Ok p) l v =
           let a3 = asked 2 (public_key_sized p vk) _ v in
           let a4 = asked 3 (public_key_good p vk) _ a3.1 in
           let a9 = asked 8 (message_sized msg) _ a4.1 in

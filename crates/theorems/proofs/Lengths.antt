@@ -14,7 +14,8 @@ use Rattle.hash.specs.Lists.{pick}
 use Rattle.hash.specs.Params.{set_index, order_index, row_at, params_of, lookup_of}
 use Rattle.hash.specs.declared.params.Edition.{Edition}
 use Rattle.hash.specs.declared.params.Params.{Params}
-use Rattle.hash.specs.declared.params.Selected.{Selected}
+use Rattle.std.specs.Prelude.{Result, Ok, Err}
+use Rattle.hash.specs.declared.params.Unknown.{Unknown}
 use Rattle.ring.proofs.Checks.{asked, both_true, both_yes, first-low, no-before, yes-before, yes_both}
 use Rattle.sharing.specs.Noise.{noise_bytes}
 use Rattle.signature.specs.Checks.{attempts_allowed, noise_seed_bytes, mask_seed_bytes, work_words, sign_buffers_sized, message_sized, key_checks}
@@ -30,14 +31,14 @@ use Rattle.sizes.proofs.Told.{told-status}
 -- ---- what is told, by the record that the call finds: the edition makes no difference to it
 
 -- what the look-up's answer gives in any edition, if it makes none to a record of the table
-pub any-edition : {A : Type 0} (F : Selected → A) (e : Edition)
-    → ((r : List ℕ) → F (Selected.Found (params_of r Edition.Printed)) ≡ F (Selected.Found (params_of r e)))
+pub any-edition : {A : Type 0} (F : Result Params Unknown → A) (e : Edition)
+    → ((r : List ℕ) → F (Ok (params_of r Edition.Printed)) ≡ F (Ok (params_of r e)))
     → (set d : ℕ) → F (lookup_of set d Edition.Printed) ≡ F (lookup_of set d e)
 unfolding lookup_of
 any-edition F e h set d = go (eqb (set_index set) 3) (eqb (order_index d) 6)
   where
-    in_row : Bool → Bool → Edition → Selected
-    in_row a b e = pick a Selected.NoSet (pick b Selected.NoShares (Selected.Found (params_of (row_at (6 * set_index set + order_index d)) e)))
+    in_row : Bool → Bool → Edition → Result Params Unknown
+    in_row a b e = pick a (Err Unknown.Set) (pick b (Err Unknown.Shares) (Ok (params_of (row_at (6 * set_index set + order_index d)) e)))
 
     go : (a b : Bool) → F (in_row a b Edition.Printed) ≡ F (in_row a b e)
     go true b = refl
@@ -52,7 +53,7 @@ module _ (n : ℕ) where
 
   told_in : (set d : ℕ) (e : Edition) → lengths_call set d n ≡ lengths_by (lookup_of set d e) n
   unfolding lengths_call
-  told_in set d e = any-edition (λ (s : Selected). lengths_by s n) e (λ r. row_told (pick (attempts_allowed n) 0 6) r e) set d
+  told_in set d e = any-edition (λ (s : Result Params Unknown). lengths_by s n) e (λ r. row_told (pick (attempts_allowed n) 0 6) r e) set d
 
   told-first : (set d : ℕ) (e : Edition) → (lengths_call set d n).status ≡ first_no (lengths_checks (lookup_of set d e) n)
   told-first set d e =

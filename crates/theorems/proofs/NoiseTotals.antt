@@ -9,7 +9,7 @@ use lib.Dec.{ltb}
 use lib.ListN.{get_or}
 use Rattle.hash.specs.Lists.{pick}
 use Rattle.hash.specs.declared.params.Params.{Params}
-use Rattle.hash.specs.declared.params.Selected.{Selected}
+use Rattle.std.specs.Prelude.{Ok}
 use Rattle.ring.specs.Words.{q, Words}
 use Rattle.sharing.specs.Blocks.{block, sum_n}
 use Rattle.sharing.specs.Noise.{sample_u, noise_header}
@@ -35,7 +35,7 @@ total-is d r f i w x hx =
     sum_n-ext d (λ (j : ℕ). get_or (block 512 j (f i t)) x 0) (λ (j : ℕ). get_or (f i t) (j * 512 + x) 0)
     (λ (j : ℕ) (hj : j < d). block_at 512 j (f i t) x hx)))
 
-module _ (u : UnitCall) (p : Params) (is : record_of u ≡ Selected.Found p) (h : Fits p u) (a : ℕ) (x : ℕ) (hx : x < 512) where
+module _ (u : UnitCall) (p : Params) (is : record_of u ≡ Ok p) (h : Fits p u) (a : ℕ) (x : ℕ) (hx : x < 512) where
   abbrev m : ℕ
   m = p.l + p.k
 

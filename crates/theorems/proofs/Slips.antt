@@ -7,7 +7,7 @@ use lib.ListN.{length}
 use Rattle.hash.specs.Params.{lookup_of}
 use Rattle.hash.specs.declared.params.Edition.{Edition}
 use Rattle.hash.specs.declared.params.Params.{Params}
-use Rattle.hash.specs.declared.params.Selected.{Selected}
+use Rattle.std.specs.Prelude.{Ok}
 use Rattle.signature.specs.Keys.{public_of, DigestTrue}
 use Rattle.signature.specs.Outcome.{Outcome, written}
 use Rattle.signature.specs.Sign.{Coins}
@@ -18,7 +18,7 @@ use Rattle.slip.specs.Format.{Slip, slip_of, slip_message, slip_bytes}
 use Rattle.slip.proofs.SlipCalls.{fits-written, accepted-fits, accepted-reads}
 use Rattle.theorems.proofs.AcceptCall.{known-accepted}
 
-module _ (set d : ℕ) (p : Params) (is : lookup_of set d Edition.Printed ≡ Selected.Found p)
+module _ (set d : ℕ) (p : Params) (is : lookup_of set d Edition.Printed ≡ Ok p)
     (movement track : ℕ) (text : List ℕ) (hm : movement < 2 ^ 16) (ht : track < 2 ^ 8) (short : length text ≤ 512) where
   -- what is signed: no signature bears on it
   abbrev message : List ℕ

@@ -5,7 +5,8 @@ use borrow.Author.Tests.{eqb-true}
 use lib.Dec.{eqb}
 use lib.ListN.{length}
 use Rattle.hash.specs.declared.params.Params.{Params}
-use Rattle.hash.specs.declared.params.Selected.{Selected}
+use Rattle.std.specs.Prelude.{Result, Ok}
+use Rattle.hash.specs.declared.params.Unknown.{Unknown}
 use Rattle.hash.proofs.Sets.{found-set}
 use Rattle.ring.specs.Words.{q}
 use Rattle.ring.proofs.Checks.{both_true}
@@ -18,15 +19,15 @@ use Rattle.theorems.specs.Unit.{UnitCall, sign_unit, record_of, Fits, Sound}
 use Rattle.theorems.proofs.AcceptCall.{not-refused, found-with}
 
 module _ (u : UnitCall) (h : (sign_unit u).status ≡ 0) where
-  all-passed-by : (p : Params) → record_of u ≡ Selected.Found p → AllPassed p (Key.expanded u.key) u.attempts u.message u.coins u.result u.work
+  all-passed-by : (p : Params) → record_of u ≡ Ok p → AllPassed p (Key.expanded u.key) u.attempts u.message u.coins u.result u.work
   unfolding sign_unit sign_of
   all-passed-by p is =
-      let f = ap (λ (s : Selected). (sign_by s (found_in s) (Key.expanded u.key) u.attempts u.message u.coins u.result u.work).status) is in
-      let z = not-refused (first_no (sign_checks (Selected.Found p) p (Key.expanded u.key) u.attempts u.message u.coins u.result u.work))
+      let f = ap (λ (s : Result Params Unknown). (sign_by s (found_in s) (Key.expanded u.key) u.attempts u.message u.coins u.result u.work).status) is in
+      let z = not-refused (first_no (sign_checks (Ok p) p (Key.expanded u.key) u.attempts u.message u.coins u.result u.work))
       (attempts_of p (Key.expanded u.key) u.attempts u.message u.coins) (sym f ∙ h) in
       (all_yes p (Key.expanded u.key) u.attempts u.message u.coins u.result u.work z.0).0
 
-  fitting : (p : Params) → record_of u ≡ Selected.Found p → Fits p u
+  fitting : (p : Params) → record_of u ≡ Ok p → Fits p u
   fitting p is =
       let a = all-passed-by p is in
       let s = both_true (expanded_bytes_sized p u.key.bytes) (eqb (length u.key.words) (p.l * (p.shares * 512))) a.sized in

@@ -15,7 +15,8 @@ use Rattle.hash.specs.Lists.{pick, Bytes}
 use Rattle.hash.specs.Params.{lookup_of}
 use Rattle.hash.specs.declared.params.Edition.{Edition}
 use Rattle.hash.specs.declared.params.Params.{Params}
-use Rattle.hash.specs.declared.params.Selected.{Selected}
+use Rattle.std.specs.Prelude.{Result, Ok}
+use Rattle.hash.specs.declared.params.Unknown.{Unknown}
 use Rattle.hash.proofs.Output.{output-length, output-bytes}
 use Rattle.hash.proofs.Rows.{order-count, found}
 use Rattle.hash.proofs.Sets.{beside}
@@ -50,9 +51,9 @@ use Rattle.theorems.proofs.ShareCount.{k-same, l-same, hash-bytes-same}
 
 counted-in : (h z : List ℤ) (set : ℕ) (e : Edition) → signature_bits_call set h z ≡ bits_by (lookup_of set 1 e) h z
 unfolding signature_bits_call
-counted-in h z set e = any-edition (λ (s : Selected). bits_by s h z) e (λ r. refl) set 1
+counted-in h z set e = any-edition (λ (s : Result Params Unknown). bits_by s h z) e (λ r. refl) set 1
 
-module _ (set d : ℕ) (e : Edition) (p : Params) (row : lookup_of set d e ≡ Selected.Found p) where
+module _ (set d : ℕ) (e : Edition) (p : Params) (row : lookup_of set d e ≡ Ok p) where
   -- the number that is told of fields of the set's sizes is the one that the writer looks at
   pub bits-told : (f : Fields) → Sized p f → signature_bits_call set f.hint f.response ≡ bits_told 0 (bit_count f)
   unfolding bit_count
@@ -64,7 +65,7 @@ module _ (set d : ℕ) (e : Edition) (p : Params) (row : lookup_of set d e ≡ S
       let sized : fields_sized r h z ≡ true =
       both_yes (eq-eqb (length h) (r.k * 512) (l.hint-long ∙ ap (λ (n : ℕ). n * 512) (k-same p r o.same)))
       (eq-eqb (length z) (r.l * 512) (l.response-long ∙ ap (λ (n : ℕ). n * 512) (l-same p r o.same))) in
-      counted-in h z set e ∙ ap (λ (s : Selected). bits_by s h z) o.is ∙ ap (λ (b : Bool). bits_told (pick b 0 13) (signature_bits (hash_bytes r) h z)) sized
+      counted-in h z set e ∙ ap (λ (s : Result Params Unknown). bits_by s h z) o.is ∙ ap (λ (b : Bool). bits_told (pick b 0 13) (signature_bits (hash_bytes r) h z)) sized
       ∙ ap (λ (n : ℕ). bits_told 0 (signature_bits n h z)) (sym (l.hash-long ∙ hash-bytes-same p r o.same))
 
   abbrev bits : Fields → ℕ

@@ -12,7 +12,8 @@ use lib.Seq.{length-take-le, take_all}
 use Rattle.hash.specs.Params.{lookup_of}
 use Rattle.hash.specs.declared.params.Edition.{Edition}
 use Rattle.hash.specs.declared.params.Params.{Params}
-use Rattle.hash.specs.declared.params.Selected.{Selected}
+use Rattle.std.specs.Prelude.{Result, Ok, Err}
+use Rattle.hash.specs.declared.params.Unknown.{Unknown}
 use Rattle.hash.proofs.Rows.{Rule, found}
 use Rattle.hash.proofs.Output.{output-length}
 use Rattle.ring.specs.Words.{all_below}
@@ -51,23 +52,23 @@ true-long p K t = ap (λ (xs : List ℕ). length xs) t ∙ output-length (vk_in 
 
 -- of a record that was found
 found-as-before : (p : Params) → Rule p → (key : Key) → DigestTrue p key → (n : ℕ) (msg : List ℕ) (T : Coins) (out work : List ℕ)
-    → sign_by (Selected.Found p) p key n msg T out work ≡ sign_then (Selected.Found p) p (undigested p key) n msg T out work
+    → sign_by (Ok p) p key n msg T out work ≡ sign_then (Ok p) p (undigested p key) n msg T out work
 unfolding key_hash bound_to
 found-as-before p r (packed key) t n msg T out work = rw (ap (all_below 125) (vector-front p r.vk key)) refl
 found-as-before p r (expanded K) t n msg T out work =
     rw (sized-then p.vk_bytes (hash_bytes p) K.bytes (true-long p K t), t) refl
 
 pub signed-as-before : (e : Edition) (set d : ℕ) (key : Key) (n : ℕ) (msg : List ℕ) (T : Coins) (out work : List ℕ)
-    → ((p : Params) → lookup_of set d e ≡ Selected.Found p → DigestTrue p key)
+    → ((p : Params) → lookup_of set d e ≡ Ok p → DigestTrue p key)
     → sign_call e set d key n msg T out work ≡ sign_call_then e set d (undigested (found_in (lookup_of set d e)) key) n msg T out work
 unfolding sign_call sign_of sign_call_then
 signed-as-before e set d key n msg T out work t = go (lookup_of set d e) refl
   where
-    go : (s : Selected) → lookup_of set d e ≡ s
+    go : (s : Result Params Unknown) → lookup_of set d e ≡ s
         → left_by (sign_by s (found_in s) key n msg T out work) out work ≡ left_by (sign_then s (found_in s) (undigested (found_in s) key) n msg T out work) out work
-    go Selected.NoSet i = refl
-    go Selected.NoShares i = refl
-    go (Selected.Found p) i =
+    go (Err Unknown.Set) i = refl
+    go (Err Unknown.Shares) i = refl
+    go (Ok p) i =
         ap (λ (A : Outcome). left_by A out work) (found-as-before p (found set d e p i).rule key (t p i) n msg T out work)
 
 pub packed-as-before : (e : Edition) (set d : ℕ) (key : List ℕ) (n : ℕ) (msg : List ℕ) (T : Coins) (out work : List ℕ)

@@ -11,7 +11,8 @@ use lib.ListN.{length, get_or}
 use Rattle.hash.specs.Lists.{pick}
 use Rattle.hash.specs.Params.{ShareCount, lookup_of}
 use Rattle.hash.specs.declared.params.Params.{Params}
-use Rattle.hash.specs.declared.params.Selected.{Selected}
+use Rattle.std.specs.Prelude.{Result, Ok}
+use Rattle.hash.specs.declared.params.Unknown.{Unknown}
 use Rattle.hash.proofs.Rows.{count_low, found}
 use Rattle.hash.proofs.Table.{get_d-table}
 use Rattle.ring.specs.Words.{q, all_below, Words}
@@ -77,7 +78,7 @@ sum_is (suc n) m h =
 
 -- ---- the unit of the record p that was found
 
-module _ (w : Wanted) (d : ℕ) (p : Params) (is : lookup_of w.set d w.edition ≡ Selected.Found p) where
+module _ (w : Wanted) (d : ℕ) (p : Params) (is : lookup_of w.set d w.edition ≡ Ok p) where
   abbrev v : UnitCall
   v = laid_for p d w
 
@@ -89,7 +90,7 @@ module _ (w : Wanted) (d : ℕ) (p : Params) (is : lookup_of w.set d w.edition �
 
   laid-is : laid d w ≡ laid_for p d w
   unfolding laid
-  laid-is = ap (λ (s : Selected). laid_for (found_in s) d w) is
+  laid-is = ap (λ (s : Result Params Unknown). laid_for (found_in s) d w) is
 
   -- the noise of attempt a + 1
   abbrev noise_in : ℕ → List ℕ
@@ -160,7 +161,7 @@ unfolding laid laid_for
 laid-sound w d c =
     record {
       count = c;
-      fits = λ (p : Params) (is : record_of (laid d w) ≡ Selected.Found p). subst (Fits p) (sym (laid-is w d p is)) (laid-fits w d p is);
+      fits = λ (p : Params) (is : record_of (laid d w) ≡ Ok p). subst (Fits p) (sym (laid-is w d p is)) (laid-fits w d p is);
     }
 
 pub laid-has : (w : Wanted) (d : ℕ) → ShareCount d → Has w (laid d w)
@@ -172,9 +173,9 @@ laid-has w d c =
       bytes = refl;
       message = refl;
       attempts = refl;
-      secret = λ (p : Params) (is : record_of (laid d w) ≡ Selected.Found p) (i x : ℕ) (hi : i < p.l) (hx : x < 512).
+      secret = λ (p : Params) (is : record_of (laid d w) ≡ Ok p) (i x : ℕ) (hi : i < p.l) (hx : x < 512).
           ap (λ (u : UnitCall). secret_at u.shares u.key i x) (laid-is w d p is) ∙ laid-secret w d p is c i x hi hx;
-      totals = λ (p : Params) (is : record_of (laid d w) ≡ Selected.Found p) (a i x : ℕ) (ha : a < w.attempts) (hi : i < p.l + p.k) (hx : x < 512).
+      totals = λ (p : Params) (is : record_of (laid d w) ≡ Ok p) (a i x : ℕ) (ha : a < w.attempts) (hi : i < p.l + p.k) (hx : x < 512).
           ap (λ (u : UnitCall). noise_total_at p u a i x) (laid-is w d p is) ∙ laid-total w d p is c a i x ha hi hx;
     }
 
@@ -203,8 +204,8 @@ had u =
       message = refl;
       attempts = refl;
       secret = λ (p : Params) is (i x : ℕ) hi hx. sym (secret-mod u.shares u.key i x);
-      totals = λ (p : Params) (is : record_of u ≡ Selected.Found p) (a i x : ℕ) ha hi hx.
-          sym (ap (λ (s : Selected). noise_total_at (found_in s) u a i x % q) is ∙ total-mod p u a i x);
+      totals = λ (p : Params) (is : record_of u ≡ Ok p) (a i x : ℕ) ha hi hx.
+          sym (ap (λ (s : Result Params Unknown). noise_total_at (found_in s) u a i x % q) is ∙ total-mod p u a i x);
     }
 
 module _ (w : Wanted) (u v : UnitCall) (hu : Has w u) (hv : Has w v) where
@@ -219,13 +220,13 @@ module _ (w : Wanted) (u v : UnitCall) (hu : Has w u) (hv : Has w v) where
       }
 
   -- the record of v, from that of u
-  other : ShareCount v.shares → (p : Params) → record_of u ≡ Selected.Found p → Beside v.set v.shares v.edition p
+  other : ShareCount v.shares → (p : Params) → record_of u ≡ Ok p → Beside v.set v.shares v.edition p
   other c p is =
       let e : lookup_of u.set u.shares u.edition ≡ lookup_of v.set u.shares v.edition = cc (has-alike.sets, has-alike.editions) in
       beside v.set u.shares v.shares v.edition p (sym e ∙ is) c
 
   -- the bytes being a public key and its hash: both digests are true
-  module _ (p : Params) (is : record_of u ≡ Selected.Found p) (vk : List ℕ) (l : length vk ≡ p.vk_bytes) (b : w.bytes ≡ vk ++ digest_for p vk) where
+  module _ (p : Params) (is : record_of u ≡ Ok p) (vk : List ℕ) (l : length vk ≡ p.vk_bytes) (b : w.bytes ≡ vk ++ digest_for p vk) where
     has-digest : (x : UnitCall) → Has w x → TrueDigest x
     has-digest x hx r i =
         true_same p r (of-one-set u x p r is i (hu.set ∙ sym hx.set) (hu.edition ∙ sym hx.edition)) x.key
@@ -237,8 +238,8 @@ module _ (w : Wanted) (u v : UnitCall) (hu : Has w u) (hv : Has w v) where
         record {
           editions = has-alike.editions;
           sets = has-alike.sets;
-          keys = ap (λ (s : Selected). vk_in (found_in s) u.key.bytes) is ∙ cc (vk-same p o.other o.same, has-alike.keys)
-              ∙ sym (ap (λ (s : Selected). vk_in (found_in s) v.key.bytes) o.is);
+          keys = ap (λ (s : Result Params Unknown). vk_in (found_in s) u.key.bytes) is ∙ cc (vk-same p o.other o.same, has-alike.keys)
+              ∙ sym (ap (λ (s : Result Params Unknown). vk_in (found_in s) v.key.bytes) o.is);
           digests = (has-digest u hu, has-digest v hv);
           messages = has-alike.messages;
           attempts = has-alike.attempts;
@@ -247,7 +248,7 @@ module _ (w : Wanted) (u v : UnitCall) (hu : Has w u) (hv : Has w v) where
   pub has-secret : ShareCount v.shares → SameSecret u v
   has-secret c =
       record {
-        equal = λ (p : Params) (is : record_of u ≡ Selected.Found p) (i x : ℕ) (hi : i < p.l) (hx : x < 512).
+        equal = λ (p : Params) (is : record_of u ≡ Ok p) (i x : ℕ) (hi : i < p.l) (hx : x < 512).
             let o = other c p is in
             let li : i < o.other.l = omega (arith, l-same p o.other o.same) in
             hu.secret p is i x hi hx ∙ sym (hv.secret o.other o.is i x li hx);
@@ -256,7 +257,7 @@ module _ (w : Wanted) (u v : UnitCall) (hu : Has w u) (hv : Has w v) where
   pub has-totals : EqualTotals u v
   has-totals =
       record {
-        equal = λ (p r : Params) (iu : record_of u ≡ Selected.Found p) (iv : record_of v ≡ Selected.Found r) (a i x : ℕ)
+        equal = λ (p r : Params) (iu : record_of u ≡ Ok p) (iv : record_of v ≡ Ok r) (a i x : ℕ)
             (ha : a < u.attempts) (hi : i < p.l + p.k) (hx : x < 512).
             let s : set_of p ≡ set_of r = of-one-set u v p r iu iv has-alike.sets has-alike.editions in
             let la : a < w.attempts = omega (arith, hu.attempts) in

@@ -1,9 +1,8 @@
 -- The worked instances of paper 01 (its "Table of marked instances") and its limits, as rows about the definitions.
-use Rattle.std.specs.Prelude.{◌≡◌, Bool, List, [], ◌∷◌, ◌++◌, ℕ, ◌-◌, ◌*◌, ◌≤◌, ◌<◌, pos, neg_ℤ, length, get_or, drop, replicate}
+use Rattle.std.specs.Prelude.{◌≡◌, Bool, List, [], ◌∷◌, ◌++◌, ℕ, ◌-◌, ◌*◌, ◌≤◌, ◌<◌, pos, neg_ℤ, length, get_or, drop, replicate, Ok}
 use Rattle.hash.specs.Params.{lookup_of}
 use Rattle.hash.specs.declared.params.Edition.{Edition}
 use Rattle.hash.specs.declared.params.Params.{Params}
-use Rattle.hash.specs.declared.params.Selected.{Selected}
 use Rattle.ring.specs.Words.{q, Words}
 use Rattle.ring.specs.Round.{rounded, centred}
 use Rattle.ring.specs.Transform.{mul}
@@ -31,12 +30,12 @@ pub record Instances : Type 0 where
   pub p10 : (xs : List ℕ) → Words (2 * 512) xs → (x : ℕ) → x < 512 → get_or (block 512 0 xs) x 0 ≡ 5 → get_or (block 512 1 xs) x 0 ≡ q - 2
       → get_or (total 2 xs) x 0 ≡ 3
   -- bytes of a signing key of 128-4 and of 256-32
-  pub p11-128 : (e : Edition) → (p : Params) × ((lookup_of 128 4 e ≡ Selected.Found p) × (p.sk_bytes ≡ 14848))
-  pub p11-256 : (e : Edition) → (p : Params) × ((lookup_of 256 32 e ≡ Selected.Found p) × (p.sk_bytes ≡ 27008))
+  pub p11-128 : (e : Edition) → (p : Params) × ((lookup_of 128 4 e ≡ Ok p) × (p.sk_bytes ≡ 14848))
+  pub p11-256 : (e : Edition) → (p : Params) × ((lookup_of 256 32 e ≡ Ok p) × (p.sk_bytes ≡ 27008))
   -- bytes of one attempt's noise seeds (01: noise tape) of 128-1, 128-2 and 128-32
-  pub p12-1 : (e : Edition) → (p : Params) × ((lookup_of 128 1 e ≡ Selected.Found p) × (noise_bytes p ≡ 1152))
-  pub p12-2 : (e : Edition) → (p : Params) × ((lookup_of 128 2 e ≡ Selected.Found p) × (noise_bytes p ≡ 1152))
-  pub p12-32 : (e : Edition) → (p : Params) × ((lookup_of 128 32 e ≡ Selected.Found p) × (noise_bytes p ≡ 18432))
+  pub p12-1 : (e : Edition) → (p : Params) × ((lookup_of 128 1 e ≡ Ok p) × (noise_bytes p ≡ 1152))
+  pub p12-2 : (e : Edition) → (p : Params) × ((lookup_of 128 2 e ≡ Ok p) × (noise_bytes p ≡ 1152))
+  pub p12-32 : (e : Edition) → (p : Params) × ((lookup_of 128 32 e ≡ Ok p) × (noise_bytes p ≡ 18432))
 
 -- the limits; `rest` are the checks that follow
 pub record Limits : Type 0 where

@@ -1,11 +1,11 @@
 -- Signing before #102: an expanded key held no digest, and each call hashed the public key (000, Algorithm 2, line 2). It is the right side of a
 -- theorem, by which signatures are byte for byte what they were; no call's contract reaches it.
-use Rattle.std.specs.Prelude.{Bool, List, [], ◌∷◌, ◌++◌, ℕ, ◌*◌, eqb, length, take}
+use Rattle.std.specs.Prelude.{Bool, List, [], ◌∷◌, ◌++◌, ℕ, ◌*◌, eqb, length, take, Result}
 use Rattle.hash.specs.Params.{lookup_of}
 use Rattle.hash.specs.Shake.{shake256}
 use Rattle.hash.specs.declared.params.Edition.{Edition}
 use Rattle.hash.specs.declared.params.Params.{Params}
-use Rattle.hash.specs.declared.params.Selected.{Selected}
+use Rattle.hash.specs.declared.params.Unknown.{Unknown}
 use Rattle.signature.specs.Checks.{both, signing_key_sized, public_key_sized, public_key_good, shares_good}
 use Rattle.signature.specs.ExpandedKey.{expanded_in, vk_in}
 use Rattle.signature.specs.Form.{hash_bytes}
@@ -38,7 +38,7 @@ good_then p (expanded K) = public_key_good p K.bytes
 abbrev mu_then : Params → List ℕ → List ℕ → List ℕ
 mu_then p vk msg = shake256 (shake256 vk (hash_bytes p) ++ msg) (hash_bytes p)
 
-abbrev checks_then : Selected → Params → Key → ℕ → List ℕ → Coins → List ℕ → List ℕ → List (ℕ × Bool)
+abbrev checks_then : Result Params Unknown → Params → Key → ℕ → List ℕ → Coins → List ℕ → List ℕ → List (ℕ × Bool)
 checks_then s p key n msg T out work =
     (1, set_known s)
     ∷ (2, shares_known s)
@@ -54,7 +54,7 @@ attempts_then p key n msg T =
     sign_from p (public_by p vk (mu_then p vk msg) (held_or (matrix p (vk_seed p vk)) [])) T n 0 (held_or (shares_of p key) [])
 
 -- the call, with what it leaves in its buffers
-abbrev pub sign_then : Selected → Params → Key → ℕ → List ℕ → Coins → List ℕ → List ℕ → Outcome
+abbrev pub sign_then : Result Params Unknown → Params → Key → ℕ → List ℕ → Coins → List ℕ → List ℕ → Outcome
 sign_then s p key n msg T out work = refused_or (first_no (checks_then s p key n msg T out work)) (attempts_then p key n msg T)
 
 unfoldable pub sign_call_then : Edition → ℕ → ℕ → Key → ℕ → List ℕ → Coins → List ℕ → List ℕ → Outcome

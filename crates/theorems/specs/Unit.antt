@@ -1,10 +1,10 @@
 -- A unit (01): one signing call with an expanded key, from seeds or with explicit noise. Its secret, its noise totals, and what demand 3 supposes.
-use Rattle.std.specs.Prelude.{◌≡◌, Bool, true, List, ℕ, ◌+◌, ◌-◌, ◌*◌, ◌/◌, ◌%◌, ◌<◌, ltb, get_or}
+use Rattle.std.specs.Prelude.{◌≡◌, Bool, true, List, ℕ, ◌+◌, ◌-◌, ◌*◌, ◌/◌, ◌%◌, ◌<◌, ltb, get_or, Result, Ok}
 use Rattle.hash.specs.Lists.{pick}
 use Rattle.hash.specs.Params.{ShareCount, lookup_of}
 use Rattle.hash.specs.declared.params.Edition.{Edition}
 use Rattle.hash.specs.declared.params.Params.{Params}
-use Rattle.hash.specs.declared.params.Selected.{Selected}
+use Rattle.hash.specs.declared.params.Unknown.{Unknown}
 use Rattle.ring.specs.Words.{q, Words}
 use Rattle.sharing.specs.Blocks.{block, sum_n}
 use Rattle.sharing.specs.Encoding.{skip}
@@ -40,7 +40,7 @@ unfoldable pub call_unit : UnitCall → Outcome
 call_unit u = sign_call u.edition u.set u.shares (Key.expanded u.key) u.attempts u.message u.coins u.result u.work
 
 -- the record of the unit's set and share count, if the set is one of the three
-abbrev pub record_of : UnitCall → Selected
+abbrev pub record_of : UnitCall → Result Params Unknown
 record_of u = lookup_of u.set u.shares u.edition
 
 -- its public key; is the digest behind it the hash of it (02, #102)? Of an unknown set nothing is asked
@@ -48,7 +48,7 @@ abbrev pub vk_of : UnitCall → List ℕ
 vk_of u = vk_in (found_in (record_of u)) u.key.bytes
 
 abbrev pub TrueDigest : UnitCall → Type 0
-TrueDigest u = (p : Params) → record_of u ≡ Selected.Found p → DigestTrue p (Key.expanded u.key)
+TrueDigest u = (p : Params) → record_of u ≡ Ok p → DigestTrue p (Key.expanded u.key)
 
 -- ---- masks that do not fill (02, #105)
 
@@ -102,7 +102,7 @@ pub record Fits (p : Params) (u : UnitCall) : Type 0 where
 -- the share count is 1, 2, 4, 8, 16 or 32; of an unknown set nothing more is asked
 pub record Sound (u : UnitCall) : Type 0 where
   pub count : ShareCount u.shares
-  pub fits : (p : Params) → record_of u ≡ Selected.Found p → Fits p u
+  pub fits : (p : Params) → record_of u ≡ Ok p → Fits p u
 
 -- alike in set, public key and digest (the bytes of the key), message and allowed attempts, and in the edition
 pub record Alike (u v : UnitCall) : Type 0 where
@@ -123,9 +123,9 @@ pub record AlikeTrue (u v : UnitCall) : Type 0 where
 
 -- the shares add to the same secret: at all 512 coefficients of the l polynomials
 pub record SameSecret (u v : UnitCall) : Type 0 where
-  pub equal : (p : Params) → record_of u ≡ Selected.Found p → (i x : ℕ) → i < p.l → x < 512 → secret_at u.shares u.key i x ≡ secret_at v.shares v.key i x
+  pub equal : (p : Params) → record_of u ≡ Ok p → (i x : ℕ) → i < p.l → x < 512 → secret_at u.shares u.key i x ≡ secret_at v.shares v.key i x
 
 -- the noise adds to equal totals: in every allowed attempt, at all 512 coefficients of each of the l + k polynomials
 pub record EqualTotals (u v : UnitCall) : Type 0 where
-  pub equal : (p r : Params) → record_of u ≡ Selected.Found p → record_of v ≡ Selected.Found r
+  pub equal : (p r : Params) → record_of u ≡ Ok p → record_of v ≡ Ok r
       → (a i x : ℕ) → a < u.attempts → i < p.l + p.k → x < 512 → noise_total_at p u a i x ≡ noise_total_at r v a i x

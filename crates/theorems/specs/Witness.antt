@@ -1,11 +1,10 @@
 -- That demand 3 is not about nothing: for any secret and any noise totals, and for each of the six share counts, a unit that has them. It is of the
 -- bench form, by which, as 01 says, equal totals can be laid out for two share counts.
-use Rattle.std.specs.Prelude.{◌≡◌, Bool, true, List, ℕ, ◌+◌, ◌*◌, ◌%◌, ◌<◌, eqb}
+use Rattle.std.specs.Prelude.{◌≡◌, Bool, true, List, ℕ, ◌+◌, ◌*◌, ◌%◌, ◌<◌, eqb, Ok}
 use Rattle.hash.specs.Lists.{zeros, table, pick}
 use Rattle.hash.specs.Params.{lookup_of}
 use Rattle.hash.specs.declared.params.Edition.{Edition}
 use Rattle.hash.specs.declared.params.Params.{Params}
-use Rattle.hash.specs.declared.params.Selected.{Selected}
 use Rattle.ring.specs.Words.{q}
 use Rattle.sharing.specs.Blocks.{build}
 use Rattle.signature.specs.Checks.{work_words}
@@ -32,8 +31,8 @@ pub record Has (w : Wanted) (u : UnitCall) : Type 0 where
   pub bytes : u.key.bytes ≡ w.bytes
   pub message : u.message ≡ w.message
   pub attempts : u.attempts ≡ w.attempts
-  pub secret : (p : Params) → record_of u ≡ Selected.Found p → (i x : ℕ) → i < p.l → x < 512 → secret_at u.shares u.key i x ≡ w.secret i x % q
-  pub totals : (p : Params) → record_of u ≡ Selected.Found p
+  pub secret : (p : Params) → record_of u ≡ Ok p → (i x : ℕ) → i < p.l → x < 512 → secret_at u.shares u.key i x ≡ w.secret i x % q
+  pub totals : (p : Params) → record_of u ≡ Ok p
       → (a i x : ℕ) → a < w.attempts → i < p.l + p.k → x < 512 → noise_total_at p u a i x ≡ w.totals a i x % q
 
 -- a polynomial in d shares: share 0 is all of it, modulo q, and the others are zero

@@ -8,8 +8,8 @@ use std::io::Write;
 // Byte i is 7 i modulo 251, so that no two bytes of a lane are equal.
 fn pattern() -> [u8; 300] {
     let mut m = [0u8; 300];
-    for i in 0..300usize {
-        m[i] = (7 * i % 251) as u8;
+    for (i, x) in m.iter_mut().enumerate() {
+        *x = (7 * i % 251) as u8;
     }
     m
 }
@@ -56,10 +56,10 @@ fn parts<W: Write>(out: &mut W, m: &[u8; 300]) -> io::Result<()> {
 // A header of eight bytes and seeds of 16, 24 and 32 bytes, and of 5.
 fn seeds<W: Write>(out: &mut W, m: &[u8; 300]) -> io::Result<()> {
     let header = [1u8, 2, 3, 4, 5, 6, 7, 8];
-    hexio::print_line(out, &shake::digest_32(shake::begin(&header, &m[..16])))?;
-    hexio::print_line(out, &shake::digest_48(shake::begin(&header, &m[..24])))?;
-    hexio::print_line(out, &shake::digest_64(shake::begin(&header, &m[..32])))?;
-    hexio::print_line(out, &shake::digest_32(shake::begin(&header, &m[..5])))?;
+    hexio::print_line(out, &shake::digest::<32>(shake::begin(&header, &m[..16])))?;
+    hexio::print_line(out, &shake::digest::<48>(shake::begin(&header, &m[..24])))?;
+    hexio::print_line(out, &shake::digest::<64>(shake::begin(&header, &m[..32])))?;
+    hexio::print_line(out, &shake::digest::<32>(shake::begin(&header, &m[..5])))?;
     Ok(())
 }
 

@@ -4,8 +4,8 @@ use Rattle.sharing.specs.Encoding.{later}
 use Rattle.sharing.specs.Masks.{masks, mask_poly}
 use Rattle.bench.proofs.bench_masks.Given as goal
 
-abbrev pub invariant-loop-i : goal.invariant-loop-i
-invariant-loop-i l = (l.i ≤ l.n + 1) × (l.g ≡ later masks l.i l.initial.g) × (1 ≤ l.i → l.out ≡ mask_poly (later masks (l.i - 1) l.initial.g))
+abbrev pub invariant-loop : goal.invariant-loop
+invariant-loop l = (l.counter ≤ l.n + 1) × (l.g ≡ later masks l.counter l.initial.g) × (1 ≤ l.counter → l.out ≡ mask_poly (later masks (l.counter - 1) l.initial.g))
 
-abbrev pub decreases-loop-i : goal.decreases-loop-i
-decreases-loop-i l = l.n + 1 - l.i
+abbrev pub decreases-loop : goal.decreases-loop
+decreases-loop l = l.n + 1 - l.counter

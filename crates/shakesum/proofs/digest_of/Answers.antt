@@ -43,5 +43,5 @@ returns g c =
       | else-loop-test w ↦ inr (omega (arith, length-append done tail, whole, w.loop-test))
       | then-loop-test+then-n-lt4080 w ↦ inl (end w.if-n-lt4080.true)
     ] in
-    let digest = digest-blocks c.loop.counter c.loop.n done tail _ _ _ _ whole size absorbed c.absorb-last.ensures c.finish.ensures c.digest_32.ensures in
-    read_whole _ _ (done ++ tail) (λ (m : List ℕ). c.digest_32.result ≡ shake256 m 32) read stop digest
+    let digest = digest-blocks c.loop.counter c.loop.n done tail _ _ _ _ whole size absorbed c.absorb-last.ensures c.finish.ensures c.digest.ensures in
+    read_whole _ _ (done ++ tail) (λ (m : List ℕ). c.digest.result ≡ shake256 m 32) read stop digest

@@ -6,5 +6,5 @@ use Rattle.sharing_vectors.proofs.refreshed_with.Goals as goal
 
 pub refreshed-requires : goal.refreshed-requires
 refreshed-requires g c =
-    let row = found 128 c.args.d Edition.Printed c.in-Found.p (sym c.in-Found.ensures) in
+    let row = found 128 c.args.d Edition.Printed c.in-Ok.p (sym c.in-Ok.ensures) in
     subst ShareCount (sym row.shares-are) row.count

@@ -13,26 +13,17 @@ pub loop-j-init : goal.loop-j-init
 unfolding le
 loop-j-init c = (search rules, refl, search rules)
 
-pub overflow_cast-x : goal.overflow_cast-x
-overflow_cast-x c = omega (arith, c.type_inv.m (c.args.at + c.loop-j.j))
-
 pub loop-j-preserved : goal.loop-j-preserved
 unfolding le
 loop-j-preserved c =
-    let l = c in
-    let b = l.args in
-    let v = l.loop-j.invariant in
-    let j = l.loop-j.j in
-    let h : get_or b.m.now (b.at + j) 0 < 2 ^ 8 = omega (arith, c.type_inv.m (b.at + j)) in
-    let t = on-top l.loop-j.x (get_or b.m.now (b.at + j) 0) (8 * j) v.2 h in
+    let v = c.loop-j.invariant in
+    let j = c.loop-j.j in
+    let b = get_or c.args.m.now (c.args.at + c.loop-j.j) 0 in
+    let h : get_or c.args.m.now (c.args.at + c.loop-j.j) 0 < 2 ^ 8 = omega (arith, c.type_inv.m (c.args.at + c.loop-j.j)) in
+    let t = on-top c.loop-j.x b (8 * j) v.2 h in
     let s = shl_exact 8 (8 * j) 64 h (omega arith) in
     let e : 8 * (j + 1) ≡ 8 * j + 8 = omega arith in (
       search rules,
-      rw (add-one, s, t.0, v.1),
-      rw (s, t.0, e) t.1,
+      rw (add-one, c.from.ensures, s, t.0, v.1),
+      rw (c.from.ensures, s, t.0, e) t.1,
     )
-
-pub returns : goal.returns
-returns c =
-    let e : c.loop-j.j ≡ c.args.n = omega arith in
-    rw e at c.loop-j.invariant.1

@@ -1,4 +1,4 @@
-use mathlib.Core.Path.{◌≡◌, refl, sym, ◌∙◌}
+use mathlib.Core.Path.{◌≡◌, sym, ◌∙◌}
 use Prim.Native.Nat.{ℕ, ◌+◌, ◌%◌, ◌<◌}
 use native.Mathlib.Numerals.{add-one}
 use native.Mathlib.Omega.{arith}
@@ -17,22 +17,18 @@ one_more_lem : (s : State) (n i : ℕ) (m : List ℕ) → i < length m
 unfolding absorb_from absorb_byte
 one_more_lem s n i m h = rw (add-one, add-suc, drop-cons m i 0, mod-mod)
 
-pub loop-i-init : goal.loop-i-init
-loop-i-init c = (search rules, refl, search rules, rw add-zero)
+pub loop-b-init : goal.loop-b-init
+loop-b-init c = (search rules, rw add-zero)
 
-pub loop-i-preserved : goal.loop-i-preserved
-loop-i-preserved c =
-    let p = c in
-    let m = c.args.m.now in (
-      search rules,
-      search rules,
-      elim c.if-at-eq135.branch [ then-at-eq135 w ↦ omega arith | else-at-eq135 w ↦ omega arith ],
-      rw (c.absorb_byte-t.ensures, p.loop-i.invariant.2)
-          (sym (one_more_lem p.loop-i.s p.args.n p.loop-i.i m (search rules)) ∙ p.loop-i.invariant.3),
-    )
+pub loop-b-preserved : goal.loop-b-preserved
+loop-b-preserved c = (
+  elim c.if-at-eq135.branch [ then-at-eq135 w ↦ omega arith | else-at-eq135 w ↦ omega arith ],
+  rw (c.absorb_byte-t.ensures, c.loop-b.invariant.0)
+      (sym (one_more_lem c.loop-b.s c.args.n c.loop-b.b-index c.args.m.now (omega arith)) ∙ c.loop-b.invariant.1),
+)
 
 pub returns : goal.returns
 unfolding absorb_from
 returns c =
-    let e : c.loop-i.i ≡ length c.args.m.now = omega arith in
-    rw (e, drop-length) at c.loop-i.invariant.3
+    let e : c.loop-b.b-index ≡ length c.args.m.now = omega arith in
+    rw (e, drop-length) at c.loop-b.invariant.1

@@ -6,6 +6,5 @@ use Rattle.hash.proofs.shake.begin.Goals as goal
 
 pub returns : goal.returns
 returns c =
-    let b = c.args in
-    let e : length b.header.now ≡ 8 = search rules in
+    let e : length c.args.header.now ≡ 8 = search rules in
     rw (c.finish.ensures, c.absorb-2.ensures, c.absorb.ensures, c.start.ensures, ← finish-two, e)

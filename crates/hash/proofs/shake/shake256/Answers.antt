@@ -3,6 +3,4 @@ use Rattle.hash.proofs.shake.shake256.Goals as goal
 
 pub returns : goal.returns
 returns c =
-    let s = c in
-    let f = s in
-    rw (s.squeeze.ensures.0, f.finish.ensures, f.absorb.ensures, f.start.ensures, finish-absorbed)
+    rw (c.squeeze.ensures.0, c.finish.ensures, c.absorb.ensures, c.start.ensures, finish-absorbed)

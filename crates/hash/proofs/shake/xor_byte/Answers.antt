@@ -6,4 +6,4 @@ use Rattle.hash.proofs.shake.xor_byte.Goals as goal
 
 pub returns : goal.returns
 unfolding xor_byte
-returns c = let k = c.args.k in rw (shl_exact 8 (8 * (k % 8)) 64 c.ranges.b.fits (omega arith))
+returns c = let k = c.args.k in rw (c.from.ensures, shl_exact 8 (8 * (k % 8)) 64 c.ranges.b.fits (omega arith))

@@ -4,11 +4,8 @@ use mir.Syntax.{w64}
 use mir.Facts.{to_z_pos}
 use borrow.Author.Tests.{le-leb, lt-leb}
 use Rattle.ring.specs.Round.{centred}
-use Rattle.ring.proofs.Signs.{minus-fits, minus-value}
+use Rattle.ring.proofs.Signs.{minus-value}
 use Rattle.ring.proofs.poly.centred.Goals as goal
-
-pub overflow_sub-result-else-x-m : goal.overflow_sub-result-else-x-m
-overflow_sub-result-else-x-m c = minus-fits (c.args.m - c.args.x) (omega arith)
 
 pub returns-then-x-m : goal.returns-then-x-m
 unfolding centred

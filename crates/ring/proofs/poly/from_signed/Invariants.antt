@@ -1,12 +1,9 @@
 use mathlib.Core.Path.{◌≡◌}
-use Prim.Native.Nat.{◌-◌, ◌≤◌}
+use Prim.Native.Nat.{◌≤◌}
 use lib.ListN.{length, take}
 use Rattle.ring.specs.Words.{q}
 use Rattle.ring.specs.Round.{residues}
 use Rattle.ring.proofs.poly.from_signed.Given as goal
 
 abbrev pub invariant-loop-i : goal.invariant-loop-i
-invariant-loop-i l = (l.i ≤ 512) × (length l.c ≡ 512) × (length l.r ≡ 512) × (take l.i l.r ≡ take l.i (residues q l.c))
-
-abbrev pub decreases-loop-i : goal.decreases-loop-i
-decreases-loop-i l = 512 - l.i
+invariant-loop-i l = (l.i ≤ 512) × (length l.c ≡ 512) × (length l.x-items ≡ 512) × (take l.i l.x-items ≡ take l.i (residues q l.c))

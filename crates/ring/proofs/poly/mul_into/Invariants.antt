@@ -1,5 +1,3 @@
-use Prim.Native.Nat.{◌-◌}
-use lib.ListN.{length}
 use Rattle.ring.specs.Words.{q}
 use Rattle.ring.specs.Residue.{timesp}
 use Rattle.ring.proofs.Pairs.{Each}
@@ -7,6 +5,3 @@ use Rattle.ring.proofs.poly.mul_into.Given as goal
 
 abbrev pub invariant-loop-i : goal.invariant-loop-i
 invariant-loop-i l = Each (timesp q) l.initial.s l.p l.i l.s
-
-abbrev pub decreases-loop-i : goal.decreases-loop-i
-decreases-loop-i l = length l.initial.s - l.i

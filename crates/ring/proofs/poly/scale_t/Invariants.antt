@@ -1,12 +1,9 @@
 use mathlib.Core.Path.{◌≡◌}
-use Prim.Native.Nat.{ℕ, ◌*◌, ◌-◌, ◌%◌, ◌^◌}
+use Prim.Native.Nat.{ℕ, ◌*◌, ◌%◌, ◌^◌}
 use lib.ListN.{length}
 use Rattle.ring.specs.Words.{q}
 use Rattle.ring.proofs.Pairs.{Each}
 use Rattle.ring.proofs.poly.scale_t.Given as goal
 
-abbrev pub invariant-loop-i : goal.invariant-loop-i
-invariant-loop-i l = (length l.initial.r ≡ 512) × Each (λ (x : ℕ) (y : ℕ). x * 2 ^ 42 % q) l.initial.r l.initial.r l.i l.r
-
-abbrev pub decreases-loop-i : goal.decreases-loop-i
-decreases-loop-i l = 512 - l.i
+abbrev pub invariant-loop-x : goal.invariant-loop-x
+invariant-loop-x l = (length l.initial.x-items ≡ 512) × Each (λ (x : ℕ) (y : ℕ). x * 2 ^ 42 % q) l.initial.x-items l.initial.x-items l.x-index l.x-items

@@ -3,10 +3,10 @@ use Rattle.hash.specs.Lists.{table}
 use Rattle.ring.specs.Residue.{rev, power, powers}
 use Rattle.ring.proofs.powers.powers.Goals as goal
 
-pub returns-then-second : goal.returns-then-second
+pub returns-in-Second : goal.returns-in-Second
 unfolding rev power powers table
-returns-then-second c = ap powers (sym c.if-second.true)
+returns-in-Second c = ap powers (sym c.in-Second.is)
 
-pub returns-else-second : goal.returns-else-second
+pub returns-in-First : goal.returns-in-First
 unfolding rev power powers table
-returns-else-second c = ap powers (sym c.if-second.false)
+returns-in-First c = ap powers (sym c.in-First.is)

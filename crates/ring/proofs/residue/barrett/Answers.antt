@@ -6,15 +6,13 @@ use Rattle.ring.proofs.residue.barrett.Goals as goal
 
 pub overflow_mul-result : goal.overflow_mul-result
 overflow_mul-result c =
-    let b = c in
-    let h : c.quotient.result * c.modulus.result ≤ b.args.t = rw c.modulus.ensures c.quotient.ensures.0 in
-    record { fits = omega (arith, h, wide_fits b.args.second b.args.t b.requires) }
+    let h : c.quotient.result * c.modulus.result ≤ c.args.t = rw c.modulus.ensures c.quotient.ensures.0 in
+    record { fits = omega (arith, h, wide_fits c.args.which c.args.t c.requires) }
 
 pub overflow_sub-result : goal.overflow_sub-result
 overflow_sub-result c = rw c.modulus.ensures c.quotient.ensures.0
 
 pub returns : goal.returns
 returns c =
-    let b = c in
     let r = c.quotient in
-    left-loose (prime b.args.second) c.modulus.result r.result b.args.t c.modulus.ensures r.ensures.0 r.ensures.1
+    left-loose (prime c.args.which) c.modulus.result r.result c.args.t c.modulus.ensures r.ensures.0 r.ensures.1

@@ -8,30 +8,26 @@ use Rattle.ring.proofs.residue.level.Goals as goal
 
 pub merge-requires : goal.merge-requires
 merge-requires c =
-    let b = c in
-    (b.requires.0, b.requires.1, back_low (prime b.args.second) b.args.d b.requires.2 b.requires.3 b.args.a.now b.requires.4)
+    (c.requires.0, c.requires.1, back_low (prime c.args.which) c.args.d c.requires.2 c.requires.3 c.args.a.now c.requires.4)
 
 pub scaled-requires : goal.scaled-requires
 scaled-requires c =
-    let b = c in
     let r = c.merge in
-    (one-lt b.args.second, merged-low (prime b.args.second) b.args.d b.requires.2 b.requires.3 b.args.a.now b.requires.4 _ r.new.a r.ensures)
+    (one-lt c.args.which, merged-low (prime c.args.which) c.args.d c.requires.2 c.requires.3 c.args.a.now c.requires.4 _ r.new.a r.ensures)
 
 pub returns-then-d-eq5 : goal.returns-then-d-eq5
 returns-then-d-eq5 c =
-    let b = c in
     let r = c.merge in
     let s = c.scaled in
     record {
-      low = back-five (prime b.args.second) b.args.d s.new.a c.if-d-eq5.true s.ensures.low;
-      same = s.ensures.same ∙ scale-rests (prime-pos b.args.second) r.new.a ∙ r.ensures.same;
+      low = back-five (prime c.args.which) c.args.d s.new.a c.if-d-eq5.true s.ensures.low;
+      same = s.ensures.same ∙ scale-rests (prime-pos c.args.which) r.new.a ∙ r.ensures.same;
     }
 
 pub returns-else-d-eq5 : goal.returns-else-d-eq5
 returns-else-d-eq5 c =
-    let b = c in
     let r = c.merge in
     record {
-      low = back_more (prime b.args.second) b.args.d b.requires.2 b.requires.3 b.args.a.now b.requires.4 _ r.new.a r.ensures c.if-d-eq5.false;
+      low = back_more (prime c.args.which) c.args.d c.requires.2 c.requires.3 c.args.a.now c.requires.4 _ r.new.a r.ensures c.if-d-eq5.false;
       same = r.ensures.same;
     }

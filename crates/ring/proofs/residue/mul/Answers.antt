@@ -6,5 +6,5 @@ use Rattle.ring.proofs.residue.mul.Goals as goal
 
 pub barrett_mul-requires : goal.barrett_mul-requires
 barrett_mul-requires c =
-    let l = prime-lt c.args.second in
-    (omega (arith, l, c.requires.0), omega (arith, l, c.requires.1), product-low (prime c.args.second) c.args.a c.args.b c.requires.0 c.requires.1)
+    let l = prime-lt c.args.which in
+    (omega (arith, l, c.requires.0), omega (arith, l, c.requires.1), product-low (prime c.args.which) c.args.a c.args.b c.requires.0 c.requires.1)

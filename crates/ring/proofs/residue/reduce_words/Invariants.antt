@@ -1,11 +1,6 @@
-use Prim.Native.Nat.{◌-◌}
-use lib.ListN.{length}
 use Rattle.ring.specs.Residue.{prime}
 use Rattle.ring.proofs.LoosePairs.{LooseEach}
 use Rattle.ring.proofs.residue.reduce_words.Given as goal
 
-abbrev pub invariant-loop-i : goal.invariant-loop-i
-invariant-loop-i l = LooseEach (prime l.second) 1 2 l.initial.a l.i l.a
-
-abbrev pub decreases-loop-i : goal.decreases-loop-i
-decreases-loop-i l = length l.initial.a - l.i
+abbrev pub invariant-loop-x : goal.invariant-loop-x
+invariant-loop-x l = LooseEach (prime l.which) 1 2 l.initial.a l.x-index l.a

@@ -1,4 +1,4 @@
-use Prim.Native.Nat.{min, ◌*◌, ◌≤◌, ◌<◌, ◌-◌}
+use Prim.Native.Nat.{min, ◌*◌, ◌<◌}
 use mathlib.Core.Path.{◌≡◌}
 use mathlib.Core.List.{[]}
 use lib.ListN.{length}
@@ -9,7 +9,4 @@ use Rattle.ring.proofs.uniform.sample_q_into.Given as goal
 
 abbrev pub invariant-loop-i : goal.invariant-loop-i
 invariant-loop-i l =
-    (l.i ≤ 6) × (length l.bytes ≡ 952) × (l.s ≡ after (7 * l.i) l.initial.s) × (l.k < 512) × Gathered (table (stream l.initial.s) 5439) (min 777 (136 * l.i)) [] 0 l.out l.k
-
-abbrev pub decreases-loop-i : goal.decreases-loop-i
-decreases-loop-i l = 6 - l.i
+    (length l.bytes ≡ 952) × (l.s ≡ after (7 * l.i) l.initial.s) × (l.k < 512) × Gathered (table (stream l.initial.s) 5439) (min 777 (136 * l.i)) [] 0 l.out l.k

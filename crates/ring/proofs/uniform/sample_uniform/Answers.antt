@@ -10,15 +10,10 @@ returns-then-out-ne512 c = refused _ _ c.if-out-ne512.true
 
 pub returns-then-k-ne512 : goal.returns-then-k-ne512
 returns-then-k-ne512 c =
-    let g = c in
-    let m = g in
-    answered-none _ _ m.if-out-ne512.false (unfilled _ _ _ _ _ g.gather-k.ensures m.least.ensures c.if-k-ne512.true)
+    answered-none _ _ c.if-out-ne512.false (unfilled _ _ _ _ _ c.gather-k.ensures (omega (arith, c.min.ensures)) c.if-k-ne512.true)
 
 pub returns : goal.returns
 returns c =
-    let t = c in
-    let g = t in
-    let m = g in
-    ap (λ (o : List ℕ). (0, o)) c.copy_into.ensures
-    ∙ answered-some _ _ _ m.if-out-ne512.false
-    (fills _ _ _ _ _ g.gather-k.ensures (omega (arith, m.least.ensures)) t.if-k-ne512.false)
+    ap (λ (o : List ℕ). (0, o)) c.copy_from_slice.ensures.after
+    ∙ answered-some _ _ _ c.if-out-ne512.false
+    (fills _ _ _ _ _ c.gather-k.ensures (omega (arith, c.min.ensures)) c.if-k-ne512.false)

@@ -16,31 +16,18 @@ use Rattle.sharing.proofs.encoding.+zero_encoding.Goals as goal
 
 pub returns-then-d-eq1 : goal.returns-then-d-eq1
 returns-then-d-eq1 t c =
-    let a = c in
-    let o = zero_one masks a.args.d a.args.g c.if-d-eq1.true in
-    let n : length a.args.s.now ≡ 512 = omega (arith, a.requires.0, c.if-d-eq1.true) in
-    (c.clear.ensures ∙ ap zeros n ∙ o.0, o.1)
-
-pub slice_bounds-zero_encoding-end-2 : goal.slice_bounds-zero_encoding-end-2
-slice_bounds-zero_encoding-end-2 t c =
-    let a = c in
-    sym (len-left a.args.d (half a.args.d a.requires.1 c.if-d-eq1.false) a.args.s.now a.requires.0)
-
-pub zero_encoding-x-requires : goal.zero_encoding-x-requires
-zero_encoding-x-requires t c =
-    let a = c in
-    let h = half a.args.d a.requires.1 c.if-d-eq1.false in
-    (omega (arith, h.less, a.requires.0), (len-left a.args.d h a.args.s.now a.requires.0, h.count))
+    let o = zero_one masks c.args.d c.args.g c.if-d-eq1.true in
+    let n : length c.args.s.now ≡ 512 = omega (arith, c.requires.0, c.if-d-eq1.true) in
+    (c.fill.ensures.after (λ y h. h) ∙ ap zeros n ∙ o.0, o.1)
 
 pub zero_encoding-y-requires : goal.zero_encoding-y-requires
 zero_encoding-y-requires t c =
-    let a = c in
-    let d = a.args.d in
-    let s = a.args.s.now in
+    let d = c.args.d in
+    let s = c.args.s.now in
     let l = c.zero_encoding-x in
-    let h = half d a.requires.1 c.if-d-eq1.false in
-    let n = l.auto.s ∙ len-left d h s a.requires.0 in
-    (omega (arith, h.less, a.requires.0), (len-right d h s a.requires.0 l.new.s n, h.count))
+    let h = half d c.requires.1 c.if-d-eq1.false in
+    let n = l.auto.s ∙ len-left d h s c.requires.0 in
+    (omega (arith, h.less, c.requires.0), (len-right d h s c.requires.0 l.new.s n, h.count))
 
 -- a half that was made
 module _ (n : ℕ) (e : n ≡ 2 ^ order_index n) where
@@ -50,28 +37,26 @@ module _ (n : ℕ) (e : n ≡ 2 ^ order_index n) where
 
 pub mask_pairs-requires : goal.mask_pairs-requires
 mask_pairs-requires t c =
-    let a = c in
-    let d = a.args.d in
-    let s = a.args.s.now in
-    let h = half d a.requires.1 c.if-d-eq1.false in
+    let d = c.args.d in
+    let s = c.args.s.now in
+    let h = half d c.requires.1 c.if-d-eq1.false in
     let l = c.zero_encoding-x in
     let r = c.zero_encoding-y in
-    let n = l.auto.s ∙ len-left d h s a.requires.0 in
-    rw (joined d h s a.requires.0 l.new.s n r.new.s)
-    (residues-append l.new.s r.new.s (made (d / 2) h.power a.args.g l.new.s l.ensures.0)
+    let n = l.auto.s ∙ len-left d h s c.requires.0 in
+    rw (joined d h s c.requires.0 l.new.s n r.new.s)
+    (residues-append l.new.s r.new.s (made (d / 2) h.power c.args.g l.new.s l.ensures.0)
     (made (d / 2) h.power l.result r.new.s r.ensures.0))
 
 pub returns : goal.returns
 returns t c =
-    let a = c in
-    let d = a.args.d in
-    let s = a.args.s.now in
-    let h = half d a.requires.1
+    let d = c.args.d in
+    let s = c.args.s.now in
+    let h = half d c.requires.1
     c.if-d-eq1.false in
     let l = c.zero_encoding-x in
     let r = c.zero_encoding-y in
     let m = c.mask_pairs in
-    let n = l.auto.s ∙ len-left d h s a.requires.0 in
-    let j = joined d h s a.requires.0 l.new.s n r.new.s in
-    zero_more masks d a.args.g l.result r.result m.result l.new.s r.new.s m.new.s h n l.ensures r.ensures
+    let n = l.auto.s ∙ len-left d h s c.requires.0 in
+    let j = joined d h s c.requires.0 l.new.s n r.new.s in
+    zero_more masks d c.args.g l.result r.result m.result l.new.s r.new.s m.new.s h n l.ensures r.ensures
     (rw j at m.ensures)

@@ -5,6 +5,4 @@ use Rattle.sharing.proofs.masks.start.Goals as goal
 pub returns : goal.returns
 unfolding mask_start
 returns c =
-    let f = c in
-    let s = f in
-    rw (c.hold.ensures, f.finish.ensures, s.absorb-s.ensures, s.start.ensures, finish-absorbed)
+    rw (c.hold.ensures, c.finish.ensures, c.absorb-s.ensures, c.start.ensures, finish-absorbed)

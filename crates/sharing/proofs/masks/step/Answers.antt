@@ -10,9 +10,8 @@ use Rattle.sharing.proofs.masks.step.Goals as goal
 
 pub returns-then-place-lt129 : goal.returns-then-place-lt129
 returns-then-place-lt129 c =
-    let b = c in
-    let g = b.args.g in
-    let o = b.well_formed.0.1.1.0 in
+    let g = c.args.g in
+    let o = c.well_formed.0.1.1.0 in
     let t : g.at < 129 = c.if-place-lt129.true in
     let e : g.at ≡ place_in g = omega arith in
     let h : place_in g < 129 = omega arith in
@@ -26,21 +25,18 @@ returns-then-place-lt129 c =
 
 pub returns : goal.returns
 returns c =
-    let p = c in
-    let a = p in
-    let b = a in
-    let g = b.args.g in
-    let o = b.well_formed.0.1.1.0 in
-    let e = a.least-at.ensures in
-    let t : 129 ≤ g.at = a.if-place-lt129.false in
+    let g = c.args.g in
+    let o = c.well_formed.0.1.1.0 in
+    let e = c.min-at.ensures in
+    let t : 129 ≤ g.at = c.if-place-lt129.false in
     let h : 129 ≤ place_in g = omega arith in
-    let S = p.permute-s.ensures ∙ ap keccak_f p.planes.ensures in
+    let S = c.permute-s.ensures ∙ ap keccak_f c.planes.ensures in
     let w = c.draw_bits-word-2.ensures
-    ∙ ap (λ (A : State). (get_or g.lanes 16 0 + lane A 0 0 * 2 ^ 64) / 2 ^ (8 * (a.least-at.result % 8)) % 2 ^ 49) S
+    ∙ ap (λ (A : State). (get_or g.lanes 16 0 + lane A 0 0 * 2 ^ 64) / 2 ^ (8 * (c.min-at.result % 8)) % 2 ^ 49) S
     ∙ ap (λ (k : ℕ). (get_or g.lanes 16 0 + lane (keccak_f (state_of g)) 0 0 * 2 ^ 64) / 2 ^ (8 * (k % 8)) % 2 ^ 49) e
     ∙ draw-over g _ o h in
     let z = c.hold.ensures
-    ∙ ap (λ (A : State). held_at A (a.least-at.result - 129) g.ok) S
+    ∙ ap (λ (A : State). held_at A (c.min-at.result - 129) g.ok) S
     ∙ ap (λ (k : ℕ). held_at (keccak_f (state_of g)) (k - 129) g.ok) e
     ∙ goes_on g h in
     λ i. record { word = w i; next = z i }

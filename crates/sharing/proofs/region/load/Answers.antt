@@ -7,9 +7,8 @@ use Rattle.sharing.proofs.region.load.Goals as goal
 
 pub returns : goal.returns
 returns c =
-    let a = c in
-    let s = a.args.s.now in
-    let at = a.args.at in
+    let s = c.args.s.now in
+    let at = c.args.at in
     let k : at + 512 - at ≡ 512 = omega arith in
-    let e : c.copy_into.new.s ≡ span s at 512 = rw k at c.copy_into.ensures in
-    (e, rw e (span-words s at 512 a.requires.0 a.requires.1))
+    let e : c.copy_from_slice.new.self ≡ span s at 512 = rw k at c.copy_from_slice.ensures.after in
+    (e, rw e (span-words s at 512 c.requires.0 c.requires.1))

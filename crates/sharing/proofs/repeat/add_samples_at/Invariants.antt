@@ -1,4 +1,4 @@
-use Prim.Native.Nat.{◌-◌, ◌*◌, ◌/◌, ◌≤◌}
+use Prim.Native.Nat.{◌*◌, ◌/◌, ◌≤◌}
 use Rattle.sharing.specs.Blocks.{build}
 use Rattle.sharing.specs.Region.{span, Wrote}
 use Rattle.sharing.proofs.Added.{added, seeded}
@@ -7,6 +7,3 @@ use Rattle.sharing.proofs.repeat.add_samples_at.Given as goal
 abbrev pub invariant-loop-j : goal.invariant-loop-j
 invariant-loop-j l =
     (l.j ≤ l.d) × Wrote 0 l.at (l.j * 512) (build l.j (added (seeded l.d l.p.rep l.u (l.p.kappa / 8) l.seeds l.i l.t) (span l.initial.s l.at (l.d * 512)))) l.initial.s l.s
-
-abbrev pub decreases-loop-j : goal.decreases-loop-j
-decreases-loop-j l = l.d - l.j

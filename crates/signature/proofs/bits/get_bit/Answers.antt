@@ -6,5 +6,7 @@ use Rattle.signature.proofs.Strings.{bit_at_lem}
 use Rattle.signature.proofs.bits.get_bit.Goals as goal
 
 pub returns : goal.returns
-returns c =
-    let s = c in record { value = ap (λ (x : ℕ). x / 2 ^ (s.args.at % 8) % 2) c.wide.ensures.value ∙ bit_at_lem s.args.buf.now s.args.at s.requires; upper_bound = mod-lt _ (lit< tt) }
+returns c = record {
+  value = ap (λ (x : ℕ). x / 2 ^ (c.args.at % 8) % 2) c.from.ensures ∙ bit_at_lem c.args.buf.now c.args.at c.requires;
+  upper_bound = mod-lt _ (lit< tt);
+}

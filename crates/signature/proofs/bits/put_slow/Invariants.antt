@@ -1,12 +1,7 @@
-use Prim.Native.Nat.{◌-◌, ◌≤◌}
 use mathlib.Core.Path.{◌≡◌}
-use lib.ListN.{length}
 use lib.Seq.{sets}
 use Rattle.signature.specs.Bits.{bits_of, bit_string}
 use Rattle.signature.proofs.bits.put_slow.Given as goal
 
 abbrev pub invariant-loop-k : goal.invariant-loop-k
-invariant-loop-k l = (l.k ≤ l.w) × (length l.buf ≡ length l.initial.buf) × (bit_string 8 l.buf ≡ sets (bit_string 8 l.initial.buf) l.at (bits_of l.k l.v))
-
-abbrev pub decreases-loop-k : goal.decreases-loop-k
-decreases-loop-k l = l.w - l.k
+invariant-loop-k l = bit_string 8 l.buf ≡ sets (bit_string 8 l.initial.buf) l.at (bits_of l.k l.v)

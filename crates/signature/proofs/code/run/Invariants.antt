@@ -1,12 +1,9 @@
-use Prim.Native.Nat.{◌+◌, ◌*◌, ◌-◌, ◌≤◌}
+use Prim.Native.Nat.{◌+◌}
 use mathlib.Core.Path.{◌≡◌}
-use lib.ListN.{length, drop}
+use lib.ListN.{drop}
 use Rattle.signature.specs.Bits.{bit_string}
 use Rattle.signature.specs.Code.{run_of}
 use Rattle.signature.proofs.code.run.Given as goal
 
 abbrev pub invariant-loop-n : goal.invariant-loop-n
-invariant-loop-n l = (l.at + l.n ≤ length l.buf * 8) × (run_of (drop l.at (bit_string 8 l.buf)) ≡ l.n + run_of (drop (l.at + l.n) (bit_string 8 l.buf)))
-
-abbrev pub decreases-loop-n : goal.decreases-loop-n
-decreases-loop-n l = length l.buf * 8 - (l.at + l.n)
+invariant-loop-n l = run_of (drop l.at (bit_string 8 l.buf)) ≡ l.n + run_of (drop (l.at + l.n) (bit_string 8 l.buf))

@@ -1,30 +1,33 @@
-use mathlib.Core.List.{List, [], ◌++◌}
+use mathlib.Core.List.{List, ◌++◌}
 use mathlib.Core.Path.{sym, ap, ◌∙◌}
 use Prim.Native.Nat.{◌/◌}
 use native.Mathlib.Omega.{arith}
 use lib.ListN.{take}
-use Rattle.signature.specs.AttemptSteps.{key_from}
+use lib.Seq.{length-take-le}
+use Rattle.signature.specs.AttemptSteps.{key_lent, key_bytes}
 use Rattle.signature.specs.Keys.{digest_of}
-use Rattle.signature.proofs.Digests.{public-is, behind-long, put-behind}
+use Rattle.signature.proofs.Digests.{public-is, public-held, behind-long, put-behind}
 use Rattle.signature.proofs.digest.put_bytes.Goals as goal
 
 pub overflow_add-n : goal.overflow_add-n
 overflow_add-n c =
-    let t = c.requires.tabled.0 in
-    omega (arith, t.vk, t.seed-low, t.rows-low, t.hash-low)
+    omega (arith, c.args.row.tabled.vk, c.args.row.tabled.seed-low, c.args.row.tabled.rows-low, c.args.row.tabled.hash-low)
+
+pub slice_bounds-copy_from_slice-end-2 : goal.slice_bounds-copy_from_slice-end-2
+slice_bounds-copy_from_slice-end-2 c = sym (length-take-le c.args.row.p.vk_bytes c.args.out.now (omega (arith, c.requires.out_len)))
 
 pub digest_into-requires : goal.digest_into-requires
 digest_into-requires c =
-    let a = c in
-    let b = a.args in
-    let x = c.copy_bytes in
-    (a.requires.tabled.1, a.requires.tabled.2, behind-long b.key.now b.out.now _ b.p.vk_bytes (b.p.kappa / 4) x.ensures a.requires.tabled.1 a.requires.out_len)
+    let b = c.args in
+    let x = rw c.key_bytes-bytes.ensures at c.copy_from_slice.ensures.after in
+    let h = public-held b.row.p b.key c.requires.bytes_held in
+    (c.requires.bytes_held, behind-long (key_bytes b.key) b.out.now _ b.row.p.vk_bytes (b.row.p.kappa / 4) x h c.requires.out_len)
 
 pub returns : goal.returns
 returns c =
-    let a = c in
-    let b = a.args in
-    let x = c.copy_bytes in
-    put-behind b.key.now b.out.now _ b.p.vk_bytes (b.p.kappa / 4) x.ensures a.requires.tabled.1 a.requires.out_len _
-    ∙ ap (λ (d : List _). take b.p.vk_bytes b.key.now ++ d) c.digest_into.ensures
-    ∙ ap (λ (v : List _). v ++ digest_of b.p (key_from b.packed b.key.now [])) (sym (public-is b.p b.key.now [] b.packed))
+    let b = c.args in
+    let x = rw c.key_bytes-bytes.ensures at c.copy_from_slice.ensures.after in
+    let h = public-held b.row.p b.key c.requires.bytes_held in
+    put-behind (key_bytes b.key) b.out.now _ b.row.p.vk_bytes (b.row.p.kappa / 4) x h c.requires.out_len _
+    ∙ ap (λ (d : List _). take b.row.p.vk_bytes (key_bytes b.key) ++ d) c.digest_into.ensures
+    ∙ ap (λ (v : List _). v ++ digest_of b.row.p (key_lent b.key)) (sym (public-is b.row.p b.key))

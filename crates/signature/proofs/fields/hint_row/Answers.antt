@@ -7,7 +7,7 @@ pub hint_into-requires : goal.hint_into-requires
 hint_into-requires c =
     let p = c.requires in
     let w = c.load.ensures in
-    (record { long = w.1.long; low = subst (Below 31) (sym w.0) p.2 }, c.round_w-r.ensures.1, p.4)
+    (record { long = w.1.long; low = subst (Below 31) (sym w.0) p.2 }, c.round.ensures.1, p.4)
 
 pub returns : goal.returns
-returns c = c.hint_into.ensures ∙ ap (centred_all 31) (ap₂ (zip_to sub31) c.load.ensures.0 c.round_w-r.ensures.0)
+returns c = c.hint_into.ensures ∙ ap (centred_all 31) (ap₂ (zip_to sub31) c.load.ensures.0 c.round.ensures.0)

@@ -1,27 +1,19 @@
-use mathlib.Core.Path.{refl, sym, ◌∙◌}
+use Prim.Native.Nat.{◌-◌}
+use mathlib.Core.Path.{◌≡◌}
 use native.Mathlib.Omega.{arith}
+use borrow.Author.Rules.{rules}
+use borrow.Author.Tests.{tests}
+use lib.ListN.{length, get_or}
 use Rattle.signature.specs.Bits.{bit_string}
 use Rattle.signature.proofs.Strings.{length_fields}
-use Rattle.signature.proofs.Filled.{zero-next, one-next, zero-end}
+use Rattle.signature.proofs.Ranged.{all_from_range, decided, zeros-from, one-from}
 use Rattle.signature.proofs.form.rest_zero.Goals as goal
-
-pub loop-k-init : goal.loop-k-init
-loop-k-init c = refl
-
-pub returns-then-get_bit-ne0 : goal.returns-then-get_bit-ne0
-returns-then-get_bit-ne0 c =
-    let l = c.loop-k in
-    let b = c.args.buf.now in
-    sym (l.invariant ∙ one-next (bit_string 8 b) l.k (omega (arith, length_fields 8 b)) (λ e. c.if-get_bit-ne0.true (c.get_bit.ensures.value ∙ e)))
-
-pub loop-k-preserved : goal.loop-k-preserved
-loop-k-preserved c =
-    let l = c.loop-k in
-    let b = c.args.buf.now in
-    l.invariant ∙ zero-next (bit_string 8 b) l.k (omega (arith, length_fields 8 b)) (sym c.get_bit.ensures.value ∙ c.if-get_bit-ne0.false)
 
 pub returns : goal.returns
 returns c =
-    let l = c.loop-k in
-    let b = c.args.buf.now in
-    sym (l.invariant ∙ zero-end (bit_string 8 b) l.k (omega (arith, length_fields 8 b)))
+    let F = bit_string 8 c.args.buf.now in
+    let n = length_fields 8 c.args.buf.now in
+    decided c.all.result _
+    (all_from_range _ _ _ c.all.result (λ k. get_or F k 0 ≡ 0) (λ k. get_or F k 0 ≡ 0 → ⊥) c.all.ensures.ran (λ x q k. search (rules, tests)) (λ x q k. search (rules, tests)))
+    (λ h. zeros-from (length F) F c.args.at (omega arith) (λ j a l. h j a (omega (arith, n))))
+    (λ h. one-from (h.0 - c.args.at) F c.args.at h.0 (omega (arith, h.1)) (omega (arith, n, h.2)) h.3)

@@ -3,5 +3,4 @@ use Rattle.signature.proofs.keycheck.full_share.Goals as goal
 
 pub returns : goal.returns
 returns c =
-    let a = c in
-    full-made a.args.p a.args.part.now _ a.args.out.now a.requires.2 c.unpack.ensures
+    full-made c.args.part.row.p c.args.part.bytes.now _ c.args.out.now c.requires c.unpack.ensures

@@ -11,18 +11,17 @@ use Rattle.signature.proofs.keycheck.sized.Goals as goal
 
 pub overflow_add-p : goal.overflow_add-p
 overflow_add-p c =
-    let t = c.requires in
-    omega (arith, t.vk, t.seed-low, t.rows-low, t.hash-low)
+    omega (arith, c.args.row.tabled.vk, c.args.row.tabled.seed-low, c.args.row.tabled.rows-low, c.args.row.tabled.hash-low)
 
 pub returns-then-bytes-p : goal.returns-then-bytes-p
 returns-then-bytes-p c =
     let a = c.args in
-    ap (λ (x : Bool). both x (eqb (length a.words.now) (a.p.l * (a.p.shares * 512)))) (sym (ne_eqb _ _ c.if-bytes-p.true))
+    ap (λ (x : Bool). both x (eqb (length a.words.now) (a.row.p.l * (a.row.p.shares * 512)))) (sym (ne_eqb _ _ c.if-bytes-p.true))
 
 pub overflow_mul-result-2 : goal.overflow_mul-result-2
-overflow_mul-result-2 c = let a = c in omega (arith, words-few a.args.p a.requires)
+overflow_mul-result-2 c = omega (arith, words-few c.args.row.p c.args.row.tabled)
 
 pub returns : goal.returns
 returns c =
     let a = c.args in
-    ap (λ (x : Bool). both x (eqb (length a.words.now) (a.p.l * (a.p.shares * 512)))) (sym (eq-eqb _ _ c.if-bytes-p.false))
+    ap (λ (x : Bool). both x (eqb (length a.words.now) (a.row.p.l * (a.row.p.shares * 512)))) (sym (eq-eqb _ _ c.if-bytes-p.false))

@@ -7,8 +7,7 @@ use Rattle.signature.proofs.keyform.bytes_at.Goals as goal
 
 pub returns : goal.returns
 returns c =
-    let a = c in
-    let at = a.args.at in
-    let n = length a.args.p.now in
+    let at = c.args.at in
+    let n = length c.args.p.now in
     let k : at + n - at ≡ n = omega arith in
-    put_back a.args.out.now at k c.copy_bytes.ensures
+    put_back c.args.out.now at k c.copy_from_slice.ensures.after

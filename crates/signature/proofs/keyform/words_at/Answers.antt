@@ -9,12 +9,11 @@ use Rattle.signature.proofs.keyform.words_at.Goals as goal
 
 pub returns : goal.returns
 returns c =
-    let a = c in
-    let o = a.args.out.now in
-    let at = a.args.at in
-    let n = a.args.n in
-    let w = a.args.w in
-    let xs = a.args.words.now in
+    let o = c.args.out.now in
+    let at = c.args.at in
+    let n = c.args.n in
+    let w = c.args.w in
+    let xs = c.args.words.now in
     let k : at + n - at ≡ n = omega arith in
     let e : c.pack.new.out ≡ repack w 8 (length (span o at n)) xs = rw k at c.pack.ensures in
-    put_back o at k (e ∙ ap (λ (m : ℕ). repack w 8 m xs) (length-span o at n a.requires.n_in_bounds.0))
+    put_back o at k (e ∙ ap (λ (m : ℕ). repack w 8 m xs) (length-span o at n c.requires.n_in_bounds.0))

@@ -1,54 +1,36 @@
 use mathlib.Core.Path.{sym, ◌∙◌}
-use Rattle.signature.proofs.Listing.{tabled}
+use Rattle.std.proofs.lemmas.Result.{err_from_is_err_and}
+use Rattle.hash.proofs.Refusals.{refused}
 use Rattle.signature.proofs.KeyDone.{key-long}
-use Rattle.signature.proofs.KeyEnds.{passed, keygen-no-set, keygen-no-shares, keygen-refused, keygen-on}
+use Rattle.signature.proofs.KeyEnds.{passed, keygen-unknown, keygen-refused, keygen-on}
 use Rattle.signature.proofs.keygen.keygen.Goals as goal
 
-pub keygen_no-k-requires : goal.keygen_no-k-requires
-keygen_no-k-requires c =
-    let m = c in
-    let a = m.args in
-    tabled a.set a.shares a.edition m.in-Found.p (sym m.lookup.ensures ∙ m.in-Found.is)
+pub returns-in_err-row : goal.returns-in_err-row
+returns-in_err-row c =
+    let a = c.args in
+    let r = err_from_is_err_and c.from_residual.result c.from_residual.ensures.1 in
+    rw (r.1, r.2)
+    (keygen-unknown a.edition a.set a.shares a.seeds.now a.mask_seed.now a.key_out.now a.work.now _ (sym c.in_err-row.ensures))
+
+pub returns-in_err-check_keygen : goal.returns-in_err-check_keygen
+returns-in_err-check_keygen c =
+    let a = c.args in
+    let r = err_from_is_err_and c.from_residual-in_err-check_keygen.result c.from_residual-in_err-check_keygen.ensures.1 in
+    rw (r.1, r.2)
+    (keygen-refused a.edition a.set a.shares a.seeds.now a.mask_seed.now a.key_out.now a.work.now c.in_ok-row.row.p (sym c.in_ok-row.ensures)
+    _ c.in_err-check_keygen.ensures (refused _))
 
 pub generate-requires : goal.generate-requires
 generate-requires c =
-    let k = c in
-    let m = c in
-    let a = m.args in
-    let p = m.in-Found.p in
-    let f = sym m.lookup.ensures ∙ m.in-Found.is in
-    let h = passed p a.seeds.now a.mask_seed.now a.key_out.now a.work.now (sym k.keygen_no-k.ensures ∙ c.if-k-eq0.true) in record { tabled = (tabled a.set a.shares a.edition p f, h.work-long, h.seeds-long); out_len = h.out-long ∙ key-long p (tabled a.set a.shares a.edition p f) }
+    let a = c.args in
+    let p = c.in_ok-row.row.p in
+    let t = c.in_ok-row.row.tabled in
+    let h = passed p a.seeds.now a.mask_seed.now a.key_out.now a.work.now (sym c.in_ok-check_keygen.ensures) in
+    record { work_len = (h.work-long, h.seeds-long); out_len = h.out-long ∙ key-long p t }
 
-pub returns-then-k-eq0 : goal.returns-then-k-eq0
-returns-then-k-eq0 c =
-    let g = c in
-    let k = g in
-    let m = k in
-    let a = m.args in
-    let p = m.in-Found.p in
-    g.generate.ensures
-    ∙ keygen-on a.edition a.set a.shares a.seeds.now a.mask_seed.now a.key_out.now a.work.now p
-    (sym m.lookup.ensures ∙ m.in-Found.is) (sym k.keygen_no-k.ensures ∙ g.if-k-eq0.true)
-
-pub returns-in-NoSet : goal.returns-in-NoSet
-returns-in-NoSet c =
-    let k = c in
-    let a = k.args in
-    keygen-no-set a.edition a.set a.shares a.seeds.now a.mask_seed.now a.key_out.now a.work.now
-    (sym k.lookup.ensures ∙ c.in-NoSet.is)
-
-pub returns-in-NoShares : goal.returns-in-NoShares
-returns-in-NoShares c =
-    let k = c in
-    let a = k.args in
-    keygen-no-shares a.edition a.set a.shares a.seeds.now a.mask_seed.now a.key_out.now a.work.now
-    (sym k.lookup.ensures ∙ c.in-NoShares.is)
-
-pub returns-else-k-eq0 : goal.returns-else-k-eq0
-returns-else-k-eq0 c =
-    let k = c in
-    let m = k in
-    let a = m.args in
-    let p = m.in-Found.p in
-    keygen-refused a.edition a.set a.shares a.seeds.now a.mask_seed.now a.key_out.now a.work.now p
-    (sym m.lookup.ensures ∙ m.in-Found.is) k.keygen_no-k.result k.keygen_no-k.ensures c.if-k-eq0.false
+pub returns : goal.returns
+returns c =
+    let a = c.args in
+    c.generate.ensures
+    ∙ keygen-on a.edition a.set a.shares a.seeds.now a.mask_seed.now a.key_out.now a.work.now c.in_ok-row.row.p
+    (sym c.in_ok-row.ensures) (sym c.in_ok-check_keygen.ensures)

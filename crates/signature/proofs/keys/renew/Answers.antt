@@ -1,6 +1,5 @@
 use mathlib.Core.Path.{sym, ap, subst, ◌∙◌}
-use mathlib.Core.List.{List}
-use Prim.Native.Nat.{ℕ, ◌*◌}
+use Prim.Native.Nat.{◌*◌}
 use native.Mathlib.Omega.{arith}
 use Rattle.ring.specs.Words.{Words}
 use Rattle.sharing.specs.Encoding.{refreshed}
@@ -11,17 +10,16 @@ use Rattle.signature.proofs.keys.renew.Goals as goal
 
 pub put_bytes-requires : goal.put_bytes-requires
 put_bytes-requires c =
-    let a = c in record { tabled = (a.requires.tabled.0, omega (arith, a.requires.bytes_len.0), λ x. a.requires.bytes_len.0); out_len = a.requires.bytes_len.1 }
+    record { bytes_held = omega (arith, c.requires.bytes_len.0); out_len = c.requires.bytes_len.1 }
 
 pub refresh_words-requires : goal.refresh_words-requires
 refresh_words-requires c =
-    let a = c in
-    (subst (λ (x : List ℕ). Words (a.args.p.l * (a.args.p.shares * 512)) x) (sym c.copy_into.ensures) a.requires.tabled.1, a.requires.tabled.0.count)
+    subst (Words (c.args.row.p.l * (c.args.row.p.shares * 512))) (sym c.copy_from_slice.ensures.after) c.requires.words_value
 
 pub returns : goal.returns
 returns c =
     let a = c.args in
-    let g = ap (λ (h : MaskGen). refreshed masks a.p.shares h a.p.l a.words.now) c.start.ensures in (
-      c.put_bytes.ensures ∙ bytes-again a.p a.bytes.now,
-      c.refresh_words.ensures.0 ∙ ap (refreshed masks a.p.shares c.start.result a.p.l) c.copy_into.ensures ∙ g,
+    let g = ap (λ (h : MaskGen). refreshed masks a.row.p.shares h a.row.p.l a.words.now) c.start.ensures in (
+      c.put_bytes.ensures ∙ bytes-again a.row.p a.bytes.now a.words.now,
+      c.refresh_words.ensures.0 ∙ ap (refreshed masks a.row.p.shares c.start.result a.row.p.l) c.copy_from_slice.ensures.after ∙ g,
     )

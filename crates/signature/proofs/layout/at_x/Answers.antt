@@ -4,6 +4,6 @@ use Rattle.signature.proofs.layout.at_x.Goals as goal
 
 pub overflow_add-result : goal.overflow_add-result
 overflow_add-result c =
-    let a = c.requires in
-    let m = region-low (a.1, a.2) in
-    record { fits = omega (arith, m, c.at_t.ensures, a.0, a.2) }
+    let h = c.args.row.tabled in
+    let m = region-low (h.columns-low, h.shares-low) in
+    record { fits = omega (arith, m, c.at_t.ensures, h.rows-low, h.shares-low) }

@@ -7,9 +7,8 @@ use Rattle.signature.proofs.load.load_words.Goals as goal
 
 pub returns : goal.returns
 returns c =
-    let a = c in
-    let s = a.args.s.now in
-    let x = a.args.words.now in
-    let at = a.args.at in
+    let s = c.args.s.now in
+    let x = c.args.words.now in
+    let at = c.args.at in
     let k : at + length x - at ≡ length x = omega arith in
-    wrote-put at (length x) x s _ a.requires.0 refl a.requires.1 a.requires.2 (put_back s at k c.copy_into.ensures)
+    wrote-put at (length x) x s _ c.requires.0 refl c.requires.1 c.requires.2 (put_back s at k c.copy_from_slice.ensures.after)

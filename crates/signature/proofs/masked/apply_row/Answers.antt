@@ -28,23 +28,21 @@ slice_bounds-add_product-end-in-loop-m c = omega (arith, inside c.loop-m.m c.arg
 
 pub add_product-requires : goal.add_product-requires
 add_product-requires c =
-    let a = c in
-    let b = a.args in
+    let b = c.args in
     let l = c.loop-m in
     let h = inside l.m b.l 512 c.loop-m-test.true in
-    let k : l.m * 2 ^ 60 + 1 ≤ 15 * 2 ^ 60 = omega (arith, c.loop-m-test.true, a.requires.hi_value.2) in record { residues = (residues-wider (15 * 2 ^ 60) k l.hi l.invariant.1.high, residues-wider (15 * 2 ^ 60) k l.lo l.invariant.1.low); residues_2 = (part-residues b.a.now (b.from + l.m * 512) (omega (arith, h, a.requires.l_in_bounds.0)) a.requires.l_in_bounds.1, part-residues b.z.now (l.m * 512) (omega (arith, h, a.requires.l_in_bounds.2)) a.requires.l_in_bounds.3) }
+    let k : l.m * 2 ^ 60 + 1 ≤ 15 * 2 ^ 60 = omega (arith, c.loop-m-test.true, c.requires.hi_value.2) in record { residues = (residues-wider (15 * 2 ^ 60) k l.hi l.invariant.1.high, residues-wider (15 * 2 ^ 60) k l.lo l.invariant.1.low); residues_2 = (part-residues b.a.now (b.from + l.m * 512) (omega (arith, h, c.requires.l_in_bounds.0)) c.requires.l_in_bounds.1, part-residues b.z.now (l.m * 512) (omega (arith, h, c.requires.l_in_bounds.2)) c.requires.l_in_bounds.3) }
 
 pub loop-m-preserved : goal.loop-m-preserved
 loop-m-preserved c =
-    let a = c in
-    let b = a.args in
+    let b = c.args in
     let l = c.loop-m in
     let t = c.loop-m-test.true in
     let h = inside l.m b.l 512 t in (
       omega (arith, t),
       apply-turn (span (words_of b.a.now) b.from (b.l * 512)) (words_of b.z.now) l.m _ _ l.hi l.lo _ _ l.invariant.1
-          (part-words b.a.now (b.from + l.m * 512) (omega (arith, h, a.requires.l_in_bounds.0)) ∙ sym (block-span 512 b.l l.m (words_of b.a.now) b.from t))
-          (part-words b.z.now (l.m * 512) (omega (arith, h, a.requires.l_in_bounds.2)) ∙ sym (block-is 512 l.m (words_of b.z.now)))
+          (part-words b.a.now (b.from + l.m * 512) (omega (arith, h, c.requires.l_in_bounds.0)) ∙ sym (block-span 512 b.l l.m (words_of b.a.now) b.from t))
+          (part-words b.z.now (l.m * 512) (omega (arith, h, c.requires.l_in_bounds.2)) ∙ sym (block-is 512 l.m (words_of b.z.now)))
           c.add_product.ensures,
     )
 

@@ -13,9 +13,8 @@ loop-j-init c = (omega arith, wrote-start 512 _ 0 c.args.to c.args.s.now c.requi
 
 pub row_share-r-requires : goal.row_share-r-requires
 row_share-r-requires c =
-    let a = c in
     let v = c.loop-j.invariant.1 in
-    (omega (arith, a.requires.1, v.long), v.low, a.requires.3, a.requires.4, a.requires.5, c.loop-j-test.true)
+    (omega (arith, c.requires.1, v.long), v.low, c.requires.3, c.requires.4, c.requires.5, c.loop-j-test.true)
 
 pub overflow_mul-j : goal.overflow_mul-j
 overflow_mul-j c = omega (arith, inside c.loop-j.j c.args.d 512 c.loop-j-test.true, c.requires.0, c.requires.1)
@@ -25,18 +24,16 @@ overflow_add-to c = omega (arith, inside c.loop-j.j c.args.d 512 c.loop-j-test.t
 
 pub store_at-requires : goal.store_at-requires
 store_at-requires c =
-    let a = c in
     let v = c.loop-j.invariant.1 in
-    (omega (arith, inside c.loop-j.j a.args.d 512 c.loop-j-test.true, a.requires.0, a.requires.1, v.long), v.low, c.row_share-r.ensures.1.low)
+    (omega (arith, inside c.loop-j.j c.args.d 512 c.loop-j-test.true, c.requires.0, c.requires.1, v.long), v.low, c.row_share-r.ensures.1.low)
 
 pub loop-j-preserved : goal.loop-j-preserved
 loop-j-preserved c =
-    let a = c in
-    let b = a.args in
+    let b = c.args in
     let l = c.loop-j in
     let t = c.loop-j-test.true in (
       omega (arith, t),
-      row-turn b.d b.l b.to b.at l.j (span (words_of b.a.now) b.from (b.l * 512)) b.s.now l.s _ _ a.requires.0 t l.invariant.1 c.row_share-r.ensures.0 c.store_at.ensures,
+      row-turn b.d b.l b.to b.at l.j (span (words_of b.a.now) b.from (b.l * 512)) b.s.now l.s _ _ c.requires.0 t l.invariant.1 c.row_share-r.ensures.0 c.store_at.ensures,
     )
 
 pub returns : goal.returns

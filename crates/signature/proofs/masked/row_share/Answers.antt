@@ -12,22 +12,19 @@ use Rattle.signature.proofs.masked.row_share.Goals as goal
 
 pub share_residues-requires : goal.share_residues-requires
 share_residues-requires c =
-    let a = c in
-    (a.requires.0, a.requires.1, a.requires.5, omega (arith, (words-zeros 3584).long, a.requires.4), below-zeros (2 ^ 60) (lit< tt) 3584)
+    (c.requires.0, c.requires.1, c.requires.5, omega (arith, (words-zeros 3584).long, c.requires.4), below-zeros (2 ^ 60) (lit< tt) 3584)
 
 pub apply_row-requires : goal.apply_row-requires
 apply_row-requires c =
-    let a = c in
-    let r = c.share_residues.ensures in record { hi_value = (refl, refl, a.requires.4); l_in_bounds = (a.requires.2, a.requires.3, omega (arith, r.1, (words-zeros 3584).long, a.requires.4), r.2) }
+    let r = c.share_residues.ensures in record { hi_value = (refl, refl, c.requires.4); l_in_bounds = (c.requires.2, c.requires.3, omega (arith, r.1, (words-zeros 3584).long, c.requires.4), r.2) }
 
 pub returns : goal.returns
 returns c =
-    let a = c in
-    let b = a.args in
+    let b = c.args in
     let r = c.share_residues in
     let X = span b.s.now b.at (b.l * (b.d * 512)) in
     let T = span (words_of b.a.now) b.from (b.l * 512) in
     let Z = words_of r.new.out in
     let e : (m : ℕ) → m < b.l → _ =
-    λ (m : ℕ) (h : m < b.l). shared-block b.l m (shared_poly b.d X b.j) _ Z h (shared_long b.at b.l b.d b.j b.s.now a.requires.5 a.requires.0) r.ensures.0 in
+    λ (m : ℕ) (h : m < b.l). shared-block b.l m (shared_poly b.d X b.j) _ Z h (shared_long b.at b.l b.d b.j b.s.now c.requires.5 c.requires.0) r.ensures.0 in
     (c.intt_sums.ensures.0 ∙ ap intt c.apply_row.ensures.0 ∙ row-share-is b.d b.l T X Z b.j e, c.intt_sums.ensures.1)

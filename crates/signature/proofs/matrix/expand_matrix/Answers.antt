@@ -1,3 +1,6 @@
+use Rattle.std.proofs.lemmas.Result.{err_from_is_err_and}
+use Rattle.std.specs.Prelude.{Err}
+use Rattle.hash.proofs.Refusals.{unless-yes, unless-no, unless-is}
 use mathlib.Core.Bool.{false}
 use mathlib.Core.Path.{◌≡◌, refl, sym, ap, subst, ◌∙◌}
 use Prim.Native.Nat.{◌+◌, ◌*◌, ◌<◌}
@@ -36,23 +39,26 @@ expand_row-requires c =
     let n = l.invariant.3 in
     (omega (arith, inside l.i a.args.k (a.args.l * 512) h, n, a.requires.0), l.invariant.4, omega (arith, h, a.requires.2), omega (arith, a.requires.3))
 
-pub returns-then-not-expand_row : goal.returns-then-not-expand_row
+pub returns-in_err-expand_row : goal.returns-in_err-expand_row
 unfolding matrix_of
-returns-then-not-expand_row c =
+returns-in_err-expand_row c =
     let b = c.args in
     let l = c.loop-i in
     let z = c.expand_row.ensures.value in
-    let no : filled (matrix_of b.k b.l b.seed.now) ≡ false = all-not b.k l.i (λ j. build_all b.l (matrix_at b.seed.now j)) c.loop-i-test.true (sym z.0 ∙ c.if-not-expand_row.true) in record { value = (sym no, z.1 ∙ l.invariant.3, z.2); by_index = λ A m. not_there _ A m no }
+    let r = err_from_is_err_and c.from_residual.result c.from_residual.ensures.1 in
+    let u = unless-no _ _ (sym c.in_err-expand_row.was ∙ z.0) in
+    let no : filled (matrix_of b.k b.l b.seed.now) ≡ false = all-not b.k l.i (λ j. build_all b.l (matrix_at b.seed.now j)) c.loop-i-test.true u.0 in
+    record { value = (rw (r.1, r.2, no) (ap Err u.1), z.1 ∙ l.invariant.3, z.2); by_index = λ A m. not_there _ A m no }
 
 pub loop-i-preserved : goal.loop-i-preserved
 loop-i-preserved c =
     let b = c.args in
     let l = c.loop-i in
     let z = c.expand_row.ensures in
-    let e = c.if-not-expand_row.false in
+    let e = unless-yes _ _ (sym c.in_ok-expand_row.was ∙ z.value.0) in
     let o : l.i * (b.l * 512) ≡ 0 + l.i * (b.l * 512) = omega arith in
-    let w = subst (λ n. Wrote 0 n (b.l * 512) (row_made b.l b.seed.now l.i) (words_of l.s) (words_of c.expand_row.new.s)) o (z.wrote e) in
-    (omega (arith, c.loop-i-test.true), all_more l.i (λ j. build_all b.l (matrix_at b.seed.now j)) l.invariant.1 (sym z.value.0 ∙ e), wrote-turn (b.l * 512) l.i (row_made b.l b.seed.now) (omega arith) l.invariant.2 w, z.value.1 ∙ l.invariant.3, z.value.2)
+    let w = subst (λ n. Wrote 0 n (b.l * 512) (row_made b.l b.seed.now l.i) (words_of l.s) (words_of c.expand_row.new.s)) o c.in_ok-expand_row.ensures.wrote in
+    (omega (arith, c.loop-i-test.true), all_more l.i (λ j. build_all b.l (matrix_at b.seed.now j)) l.invariant.1 e, wrote-turn (b.l * 512) l.i (row_made b.l b.seed.now) (omega arith) l.invariant.2 w, z.value.1 ∙ l.invariant.3, z.value.2)
 
 pub returns : goal.returns
 unfolding matrix_of
@@ -60,4 +66,4 @@ returns c =
     let b = c.args in
     let l = c.loop-i in
     let v = l.invariant in
-    let e : l.i ≡ b.k = omega (arith, v.0, c.loop-i-test.false) in record { value = (sym v.1 ∙ ap (λ n. filled (build_all n (λ j. build_all b.l (matrix_at b.seed.now j)))) e, v.3, v.4); by_index = λ A m. made_all b.k b.l b.seed.now A m (words_of l.s) (wrote-end (b.l * 512) (row_made b.l b.seed.now) e v.2).new }
+    let e : l.i ≡ b.k = omega (arith, v.0, c.loop-i-test.false) in record { value = (unless-is _ (sym (ap (λ n. filled (build_all n (λ j. build_all b.l (matrix_at b.seed.now j)))) e) ∙ v.1), v.3, v.4); by_index = λ A m. made_all b.k b.l b.seed.now A m (words_of l.s) (wrote-end (b.l * 512) (row_made b.l b.seed.now) e v.2).new }

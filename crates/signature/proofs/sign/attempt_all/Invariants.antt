@@ -1,4 +1,4 @@
-use Rattle.signature.specs.AttemptSteps.{coins_of, key_in}
+use Rattle.signature.specs.AttemptSteps.{coins_lent, key_in}
 use Rattle.signature.specs.MaskedSteps.{matrix_in}
 use mathlib.Core.Path.{◌≡◌}
 use Prim.Native.Nat.{◌-◌, ◌≤◌}
@@ -11,8 +11,5 @@ use Rattle.signature.proofs.sign.attempt_all.Given as goal
 abbrev pub invariant-loop-i : goal.invariant-loop-i
 invariant-loop-i l =
     (l.i ≤ l.n) × (length l.work ≡ length l.initial.work) × Below q l.work × (l.out ≡ l.initial.out)
-    × (sign_from l.p (public_by l.p l.vk l.mu (matrix_in l.p (words_of l.a))) (coins_of l.explicit l.seeds l.noise l.masks) l.n 0 (key_in l.p l.initial.work)
-    ≡ sign_from l.p (public_by l.p l.vk l.mu (matrix_in l.p (words_of l.a))) (coins_of l.explicit l.seeds l.noise l.masks) (l.n - l.i) l.i (key_in l.p l.work))
-
-abbrev pub decreases-loop-i : goal.decreases-loop-i
-decreases-loop-i l = l.n - l.i
+    × (sign_from l.a.row.p (public_by l.a.row.p l.vk l.mu (matrix_in l.a.row.p (words_of l.a.words.now))) (coins_lent l.coins) l.n 0 (key_in l.a.row.p l.initial.work)
+    ≡ sign_from l.a.row.p (public_by l.a.row.p l.vk l.mu (matrix_in l.a.row.p (words_of l.a.words.now))) (coins_lent l.coins) (l.n - l.i) l.i (key_in l.a.row.p l.work))

@@ -9,13 +9,12 @@ use Rattle.signature.proofs.vector.ntt_poly_to.Goals as goal
 
 pub ntt_residues-requires : goal.ntt_residues-requires
 ntt_residues-requires c =
-    let a = c in
-    let n : a.args.at + 512 - a.args.at ≡ 512 = omega arith in
-    subst (Words 512) (sym (c.copy_into.ensures ∙ ap (λ (k : ℕ). take k (drop a.args.at a.args.s.now)) n)) (span-words a.args.s.now a.args.at 512 a.requires.0 a.requires.1)
+    let n : c.args.at + 512 - c.args.at ≡ 512 = omega arith in
+    subst (Words 512) (sym (c.copy_from_slice.ensures.after ∙ ap (λ (k : ℕ). take k (drop c.args.at c.args.s.now)) n))
+    (span-words c.args.s.now c.args.at 512 c.requires.0 c.requires.1)
 
 pub returns : goal.returns
 returns c =
-    let a = c in
-    let n : a.args.at + 512 - a.args.at ≡ 512 = omega arith in
+    let n : c.args.at + 512 - c.args.at ≡ 512 = omega arith in
     let r = c.ntt_residues.ensures in
-    (r.0 ∙ ap ntt (c.copy_into.ensures ∙ ap (λ (k : ℕ). take k (drop a.args.at a.args.s.now)) n), r.1)
+    (r.0 ∙ ap ntt (c.copy_from_slice.ensures.after ∙ ap (λ (k : ℕ). take k (drop c.args.at c.args.s.now)) n), r.1)

@@ -1,3 +1,6 @@
+use Rattle.std.proofs.lemmas.Result.{err_from_is_err_and}
+use Rattle.std.specs.Prelude.{Err}
+use Rattle.hash.proofs.Refusals.{unless-yes, unless-no, unless-is}
 use mathlib.Core.Bool.{false}
 use mathlib.Core.Path.{◌≡◌, refl, sym, ap, subst, ◌∙◌}
 use Prim.Native.Nat.{ℕ, ◌+◌, ◌-◌, ◌*◌, ◌^◌, ◌≤◌, ◌<◌}
@@ -8,7 +11,6 @@ use lib.Seq.{take_all}
 use Rattle.ring.specs.Round.{residues}
 use Rattle.ring.specs.Rns.{words_of}
 use Rattle.ring.specs.Words.{q, Residues, zip_to}
-use Rattle.ring.proofs.Checks.{absurd-bool}
 use Rattle.ring.proofs.Sums.{words-zeros, below-zeros, length-zip}
 use Rattle.sharing.specs.Blocks.{block, build}
 use Rattle.sharing.proofs.Lists.{inside}
@@ -34,12 +36,15 @@ expand_row-requires c =
     let v = c.loop-i.invariant in
     (omega (arith, v.4, a.requires.l_in_bounds.3), v.5, omega (arith, c.loop-i-test.true, a.requires.l_in_bounds.2), omega (arith, a.requires.l_in_bounds.3))
 
-pub returns-then-not-expand_row : goal.returns-then-not-expand_row
+pub returns-in_err-expand_row : goal.returns-in_err-expand_row
 unfolding matrix_of
-returns-then-not-expand_row c =
+returns-in_err-expand_row c =
     let b = c.args in
     let l = c.loop-i in
-    let o : filled (matrix_of b.k b.l b.seed.now) ≡ false = all-not b.k l.i (λ j. build_all b.l (matrix_at b.seed.now j)) c.loop-i-test.true (sym c.expand_row.ensures.value.0 ∙ c.if-not-expand_row.true) in record { value = sym o; w_after = λ m. absurd-bool (sym m) }
+    let r = err_from_is_err_and c.from_residual.result c.from_residual.ensures.1 in
+    let u = unless-no _ _ (sym c.in_err-expand_row.was ∙ c.expand_row.ensures.value.0) in
+    let no : filled (matrix_of b.k b.l b.seed.now) ≡ false = all-not b.k l.i (λ j. build_all b.l (matrix_at b.seed.now j)) c.loop-i-test.true u.0 in
+    record { value = rw (r.1, r.2, no) (ap Err u.1); w_after = rw r.1 tt }
 
 pub load-requires : goal.load-requires
 load-requires c =
@@ -67,7 +72,7 @@ adjust-requires c =
     let w = length-span l.w (l.i * 512) 512 (omega (arith, m, l.invariant.2)) in
     let x = length-span_z a.args.hint.now (l.i * 512) 512 g in
     record {
-      residues = rw n (c.round_w-y.ensures.1, x, w);
+      residues = rw n (c.round-y.ensures.1, x, w);
       by_index = rw n (λ (i : ℕ) (o : i < length (take 512 (drop (l.i * 512) a.args.hint.now))). part_small 31 (l.i * 512) 512 a.args.hint.now g a.requires.by_index i (omega (arith, o, x)));
     }
 
@@ -83,9 +88,9 @@ loop-i-preserved c =
     let h : l.i < b.k = c.loop-i-test.true in
     let m = inside l.i b.k 512 h in
     let z = c.expand_row.ensures in
-    let e = c.if-not-expand_row.false in
+    let e = unless-yes _ _ (sym c.in_ok-expand_row.was ∙ z.value.0) in
     let n : l.i * 512 + 512 - l.i * 512 ≡ 512 = omega arith in
-    let y = c.round_w-y in
+    let y = c.round-y in
     let X = c.adjust.new.out in
     let x : X ≡ zip_to add31 y.result (residues 31 (block_z l.i b.hint.now)) = rw n at c.adjust.ensures in
     let k : l.i * 512 + 512 ≤ length l.w = omega (arith, m, v.2) in
@@ -95,10 +100,10 @@ loop-i-preserved c =
     let T = row_made b.l b.seed.now l.i in
     let t = c.load in
     let r : c.recover_row.result ≡ recovered_by b.l T Z C (block 512 l.i b.t.now) =
-    c.recover_row.ensures.0 ∙ ap (λ y. recovered_by b.l y Z C t.result) (z.wrote e).new
+    c.recover_row.ensures.0 ∙ ap (λ y. recovered_by b.l y Z C t.result) c.in_ok-expand_row.ensures.wrote.new
     ∙ ap (recovered_by b.l T Z C) (t.ensures.0 ∙ sym (block-is 512 l.i b.t.now)) in (
       omega (arith, h),
-      all_more l.i (λ j. build_all b.l (matrix_at b.seed.now j)) v.1 (sym z.value.0 ∙ e),
+      all_more l.i (λ j. build_all b.l (matrix_at b.seed.now j)) v.1 e,
       ap (λ y. length y) (put_back l.w (l.i * 512) n (refl {a = X})) ∙ length-put l.w (l.i * 512) 512 X k o ∙ v.2,
       ap (take ((l.i + 1) * 512)) (put_back l.w (l.i * 512) n (refl {a = X}))
           ∙ adjust-turn b.l b.seed.now Z C b.t.now b.hint.now l.i l.w X y.result c.recover_row.result k v.3 r y.ensures.0 x o,
@@ -113,8 +118,8 @@ returns c =
     let l = c.loop-i in
     let v = l.invariant in
     let e : l.i ≡ b.k = omega (arith, v.0, c.loop-i-test.false) in record {
-      value = sym v.1 ∙ ap (λ n. filled (build_all n (λ j. build_all b.l (matrix_at b.seed.now j)))) e;
-      w_after = λ _.
+      value = unless-is _ (sym (ap (λ n. filled (build_all n (λ j. build_all b.l (matrix_at b.seed.now j)))) e) ∙ v.1);
+      w_after =
           sym (take_all (b.k * 512) l.w (omega (arith, v.2))) ∙ ap (λ n. take (n * 512) l.w) (sym e) ∙ v.3
           ∙ ap (λ n. build n (adjusted_at b.l b.seed.now (words_of b.z.now) (words_of b.c.now) b.t.now b.hint.now)) e;
     }

@@ -1,16 +1,13 @@
 use mathlib.Core.Path.{sym, ◌∙◌}
-use Rattle.signature.proofs.Listing.{tabled}
-use Rattle.signature.proofs.Verified.{verify-no-set, never-shares, verify-found}
+use Rattle.std.proofs.lemmas.Result.{err_from_is_err_and}
+use Rattle.signature.proofs.Verified.{verify-unknown, verify-found}
 use Rattle.signature.proofs.verify.verify.Goals as goal
 
-pub verify_with-requires : goal.verify_with-requires
-verify_with-requires c = let a = c.args in tabled a.set 1 a.edition c.in-Found.p (sym c.lookup.ensures ∙ c.in-Found.is)
+pub returns-in_err-row : goal.returns-in_err-row
+returns-in_err-row c =
+    let a = c.args in
+    let r = err_from_is_err_and c.from_residual.result c.from_residual.ensures.1 in
+    rw (r.1, r.2) (verify-unknown a.edition a.set a.public_key.now a.message.now a.signature.now _ (sym c.in_err-row.ensures))
 
-pub returns-in-NoSet : goal.returns-in-NoSet
-returns-in-NoSet c = let a = c.args in verify-no-set a.edition a.set a.public_key.now a.message.now a.signature.now (sym c.lookup.ensures ∙ c.in-NoSet.is)
-
-pub returns-in-NoShares : goal.returns-in-NoShares
-returns-in-NoShares c = let a = c.args in absurd (never-shares a.edition a.set (sym c.lookup.ensures ∙ c.in-NoShares.is))
-
-pub returns-in-Found : goal.returns-in-Found
-returns-in-Found c = let a = c.args in c.verify_with.ensures ∙ verify-found a.edition a.set a.public_key.now a.message.now a.signature.now c.in-Found.p (sym c.lookup.ensures ∙ c.in-Found.is)
+pub returns : goal.returns
+returns c = let a = c.args in c.verify_with.ensures ∙ verify-found a.edition a.set a.public_key.now a.message.now a.signature.now c.in_ok-row.row.p (sym c.in_ok-row.ensures)

@@ -1,45 +1,28 @@
-use Prim.Native.Nat.{◌+◌, ◌^◌, ◌≤◌}
-use mathlib.Core.Path.{◌≡◌, ap, ◌∙◌}
 use native.Mathlib.Omega.{arith}
 use lib.IntN.{pos}
 use lib.ListN.{get_or}
-use lib.Seq.{take_all}
-use borrow.Author.Rules.{sfits_of}
-use Rattle.signature.specs.Code.{code_bits, codes_bits}
-use Rattle.signature.proofs.Counts.{count-more}
-use Rattle.signature.proofs.Signs.{same, abs-fits}
-use Rattle.sizes.proofs.Told.{response-code}
+use mir.Syntax.{w64}
+use mir.Val.{SFits}
+use mir.ValLaws.{to_z-of_z}
 use borrow.Author.Rules.{rules}
+use Rattle.signature.specs.Code.{codes_bits}
+use Rattle.signature.proofs.Counts.{count-more}
+use Rattle.sizes.proofs.Told.{response-code}
 use Rattle.sizes.proofs.count.response_bits.Goals as goal
 
-pub loop-i-init : goal.loop-i-init
+pub loop-z-init : goal.loop-z-init
 unfolding codes_bits
-loop-i-init c = search rules
+loop-z-init c = search rules
 
 pub overflow_add-n : goal.overflow_add-n
 overflow_add-n c =
-    -- the bits of the number read, and that they are few
-    let counted : let z = get_or c.args.response.now c.loop-i.i (pos 0) in
-    (c.code_bits-n.result ≡ code_bits 40 z) × (c.code_bits-n.result ≤ 2 ^ 23 + 42) = let z = get_or c.args.response.now c.loop-i.i (pos 0) in
-    let f = sfits_of c.code_bits-arg-1.given in
-    let e = c.code_bits-n.ensures ∙ ap (code_bits 40) (same z f) in
-    (e, omega (arith, e, response-code z (abs-fits z f))) in
-    omega (arith, counted.1)
+    let z = get_or c.args.response.now c.loop-z.z-index (pos 0) in
+    let s : SFits w64 z = search rules in
+    omega (arith, simp to_z-of_z at c.code_bits-n.ensures, response-code z s)
 
-pub loop-i-preserved : goal.loop-i-preserved
-loop-i-preserved c =
-    -- the bits of the number read, and that they are few
-    let counted : let z = get_or c.args.response.now c.loop-i.i (pos 0) in
-    (c.code_bits-n.result ≡ code_bits 40 z) × (c.code_bits-n.result ≤ 2 ^ 23 + 42) = let z = get_or c.args.response.now c.loop-i.i (pos 0) in
-    let f = sfits_of c.code_bits-arg-1.given in
-    let e = c.code_bits-n.ensures ∙ ap (code_bits 40) (same z f) in
-    (e, omega (arith, e, response-code z (abs-fits z f))) in
-    let l = c.loop-i in
-    let k = counted in
-    let m = count-more 40 c.args.response.now l.i c.loop-i-test.true in
-    (omega arith, omega (arith, k.1), omega (arith, k.0, m))
-
-pub returns : goal.returns
-returns c =
-    let l = c.loop-i in
-    let a = c.args in record { value = l.invariant.2 ∙ ap (codes_bits 40) (take_all l.i a.response.now (omega arith)); upper_bound = omega arith }
+pub loop-z-preserved : goal.loop-z-preserved
+loop-z-preserved c =
+    let z = get_or c.args.response.now c.loop-z.z-index (pos 0) in
+    let s : SFits w64 z = search rules in
+    let n = simp to_z-of_z at c.code_bits-n.ensures in
+    (omega (arith, n, response-code z s), omega (arith, n, count-more 40 c.args.response.now c.loop-z.z-index c.loop-z-test.true))

@@ -1,23 +1,27 @@
-use mathlib.Core.Path.{◌∙◌}
-use lib.Dec.{leb}
-use borrow.Author.Tests.{le-leb, lt-leb}
-use Rattle.ring.proofs.Checks.{left-no, right-no, both_yes}
-use Rattle.sizes.proofs.Told.{told_none, told-all}
+use mathlib.Core.Path.{sym, ◌∙◌}
+use Rattle.std.proofs.lemmas.Result.{err_from_is_err_and}
+use Rattle.sizes.proofs.Told.{allowed-as, told_none, told-all, lengths-unknown, lengths-found}
 use Rattle.sizes.proofs.lengths.lengths_with.Goals as goal
 
-pub returns-then-attempts-lt1 : goal.returns-then-attempts-lt1
-returns-then-attempts-lt1 c =
+pub returns-in_err-row : goal.returns-in_err-row
+returns-in_err-row c =
     let a = c.args in
-    c.refused.ensures ∙ told_none a.p a.attempts (left-no (leb a.attempts 16) (lt-leb 1 a.attempts c.if-attempts-lt1.true))
+    let r = err_from_is_err_and c.from_residual.result c.from_residual.ensures.1 in
+    rw (r.1, r.2) (lengths-unknown a.set a.shares a.attempts _ (sym c.in_err-row.ensures))
 
-pub returns-then-attempts-gt16 : goal.returns-then-attempts-gt16
-returns-then-attempts-gt16 c =
+pub returns-then-not-contains : goal.returns-then-not-contains
+returns-then-not-contains c =
     let a = c.args in
-    c.refused-then-attempts-gt16.ensures ∙ told_none a.p a.attempts (right-no (leb 1 a.attempts) (lt-leb a.attempts 16 c.if-attempts-gt16.true))
+    let p = c.in_ok-row.row.p in
+    let n = c.new.ensures in
+    told_none p a.attempts (sym (allowed-as a.attempts (rw (n.start, n.end, n.exhausted) at c.contains.ensures.value)) ∙ c.if-not-contains.true)
+    ∙ lengths-found a.set a.shares a.attempts p (sym c.in_ok-row.ensures)
 
 pub returns : goal.returns
 returns c =
-    let c3 = c in
-    let a = c3.args in
-    told-all a.p a.attempts _ _ _ (both_yes (le-leb 1 a.attempts c3.if-attempts-lt1.false) (le-leb a.attempts 16 c3.if-attempts-gt16.false))
+    let a = c.args in
+    let p = c.in_ok-row.row.p in
+    let n = c.new.ensures in
+    told-all p a.attempts _ _ _ (sym (allowed-as a.attempts (rw (n.start, n.end, n.exhausted) at c.contains.ensures.value)) ∙ c.if-not-contains.false)
     c.noise_seed_bytes.ensures c.mask_seed_bytes.ensures c.work_words.ensures
+    ∙ lengths-found a.set a.shares a.attempts p (sym c.in_ok-row.ensures)

@@ -1,28 +1,19 @@
-use mathlib.Core.Path.{sym, ◌∙◌}
-use Rattle.slip.proofs.SetSizes.{by-128, by-192, by-256, by-none}
+use mathlib.Core.Path.{sym, subst, ◌∙◌}
+use lib.Dec.{eqb}
+use Rattle.std.proofs.Common.{rules, tests}
+use Rattle.std.specs.Array.Iter.{array_into_iter_items, array_steps}
+use Rattle.std.proofs.lemmas.Iterator.{YieldsList}
+use Rattle.std.proofs.lemmas.Iterator.Adapters.{option_map_id}
+use Rattle.std.proofs.lemmas.Iterator.Consumers.{YieldsList-from_shown}
+use Rattle.std.proofs.lemmas.Iterator.Search.{find_from_yields_List}
+use Rattle.slip.specs.Format.{signature_bytes}
+use Rattle.slip.proofs.SetSizes.{first-set}
 use Rattle.slip.proofs.size.set_by_size.Goals as goal
-
-pub returns-then-n-signature_bytes : goal.returns-then-n-signature_bytes
-returns-then-n-signature_bytes c = by-128 c.args.n (c.if-n-signature_bytes.true ∙ c.signature_bytes.ensures)
-
-pub returns-then-n-signature_bytes-2 : goal.returns-then-n-signature_bytes-2
-returns-then-n-signature_bytes-2 c =
-    let c2 = c in
-    by-192 c2.args.n (λ e. c2.if-n-signature_bytes.false (e ∙ sym c2.signature_bytes.ensures))
-    (c.if-n-signature_bytes-2.true ∙ c.signature_bytes-2.ensures)
-
-pub returns-then-n-signature_bytes-3 : goal.returns-then-n-signature_bytes-3
-returns-then-n-signature_bytes-3 c =
-    let c2 = c in
-    let c4 = c2 in
-    by-256 c4.args.n (λ e. c4.if-n-signature_bytes.false (e ∙ sym c4.signature_bytes.ensures))
-    (λ e. c2.if-n-signature_bytes-2.false (e ∙ sym c2.signature_bytes-2.ensures))
-    (c.if-n-signature_bytes-3.true ∙ c.signature_bytes-3.ensures)
 
 pub returns : goal.returns
 returns c =
-    let c2 = c in
-    let c4 = c2 in
-    by-none c4.args.n (λ e. c4.if-n-signature_bytes.false (e ∙ sym c4.signature_bytes.ensures))
-    (λ e. c2.if-n-signature_bytes-2.false (e ∙ sym c2.signature_bytes-2.ensures))
-    (λ e. c.if-n-signature_bytes-3.false (e ∙ sym c.signature_bytes-3.ensures))
+    let n = c.args.n in
+    let s = c.into_iter.result in
+    let all = subst (YieldsList array_steps (λ x. x) s) c.into_iter.ensures.into_iter_gives.0 (YieldsList-from_shown array_steps (λ x. x) array_into_iter_items (λ t u h. h.0) (λ t x u h. h) s) in
+    sym (option_map_id c.find.result) ∙ find_from_yields_List (λ set. eqb n (signature_bytes set)) _ _ c.find.result c.find.ensures.ran all (λ x b q k. search (rules, tests))
+    ∙ first-set n
