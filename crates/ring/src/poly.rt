@@ -85,6 +85,18 @@ pub fn all_below(s: &[u64], p: u64) -> bool
     s.iter().all(|x| *x < p)
 }
 
+// p into s, which is as long, one by one and out of line: of slices that may overlap, for all that it knows, the compiler makes memmove of the
+// library's copy, and the archives are to need nothing of C but memcpy and memset (docs/GUIDE.md).
+#[inline(never)]
+pub fn copy_into<T: Copy>(s: &mut [T], p: &[T])
+    requires { length s.old ≡ length p.now }
+    ensures { s.new ≡ p.now }
+{
+    for (i, &x) in p.iter().enumerate() {
+        s[i] = x;
+    }
+}
+
 // s + p, place by place, into s.
 pub fn add_into(s: &mut [u64], p: &[u64])
     requires { (length s.old ≡ length p.now) × Below q s.old × Below q p.now }

@@ -4,7 +4,7 @@ ghost use Rattle.ring.specs.Words.{q, add_w, sub_w, Below, Words};
 ghost use Rattle.hash.specs.Lists.{zeros};
 ghost use Rattle.sharing.specs.Region.{span, put, Wrote};
 
-use ring::poly::{add_into, sub_into};
+use ring::poly::{add_into, copy_into, sub_into};
 
 // The polynomial at `at`.
 pub fn load(s: &[u64], at: usize) -> [u64; 512]
@@ -21,7 +21,7 @@ pub fn store_at(s: &mut [u64], at: usize, p: &[u64; 512])
     requires { (at + 512 ≤ length s.old) × Below q s.old × Below q p.now }
     ensures { Wrote 0 at 512 p.now s.old s.new }
 {
-    s[at..at + 512].copy_from_slice(p);
+    copy_into(&mut s[at..at + 512], p);
 }
 
 // Zero everywhere.

@@ -9,6 +9,7 @@ use crate::lent::{LentKey, key_bytes};
 use crate::row::Row;
 use hash::params::Params;
 use hash::shake::shake256;
+use ring::poly::copy_into;
 
 // The digest into out.
 pub(crate) fn digest_into(p: Params, key: LentKey, out: &mut [u8])
@@ -18,7 +19,7 @@ pub(crate) fn digest_into(p: Params, key: LentKey, out: &mut [u8])
     let e = p.vk_bytes;
     match key {
         LentKey::Signing(bytes) => shake256(&bytes[0..e], out),
-        LentKey::Expanded { bytes, words: _ } => out.copy_from_slice(&bytes[e..]),
+        LentKey::Expanded { bytes, words: _ } => copy_into(out, &bytes[e..]),
     }
 }
 
@@ -33,6 +34,6 @@ pub(crate) fn put_bytes(row: Row, key: LentKey, out: &mut [u8])
     let b = p.kappa / 4;
     let n = e + b;
     let bytes = key_bytes(key);
-    out[..e].copy_from_slice(&bytes[..e]);
+    copy_into(&mut out[..e], &bytes[..e]);
     digest_into(p, key, &mut out[e..n]);
 }

@@ -8,6 +8,7 @@ ghost use Rattle.signature.specs.AnswerSteps.{fields_of, all_zero, ReadOf};
 
 use crate::{bits, code};
 use hash::refusal::Refusal;
+use ring::poly::copy_into;
 
 // How many bits the fields take, counted without making them.
 pub(crate) fn bit_count(hash_bytes: usize, hint: &[i64], response: &[i64]) -> usize
@@ -27,7 +28,7 @@ fn begin(hash: &[u8], out: &mut [u8])
     ensures { out.new ≡ hash.now ++ replicate (length out.old - length hash.now) 0 }
 {
     let n = hash.len();
-    out[..n].copy_from_slice(hash);
+    copy_into(&mut out[..n], hash);
     out[n..].fill(0);
 }
 

@@ -4,6 +4,7 @@ ghost use Rattle.sharing.specs.Region.{put};
 ghost use Rattle.signature.specs.Bits.{repack};
 
 use crate::bits::pack;
+use ring::poly::copy_into;
 
 // The bytes p at `at`.
 pub fn bytes_at(p: &[u8], out: &mut [u8], at: usize)
@@ -11,7 +12,7 @@ pub fn bytes_at(p: &[u8], out: &mut [u8], at: usize)
     ensures { out.new ≡ put out.old at (length p.now) p.now }
 {
     let e = at + p.len();
-    out[at..e].copy_from_slice(p);
+    copy_into(&mut out[at..e], p);
 }
 
 // Words of w bits each, as n bytes at `at`.

@@ -23,6 +23,7 @@ use crate::lent::{LentKey, SharePart};
 use crate::row::{Row, find};
 use hash::params::Edition;
 use hash::refusal::Refusal;
+use ring::poly::copy_into;
 use sharing::encoding::zero_encoding_at;
 use sharing::masks::{MaskGen, start};
 use sharing::region::{clear, load, store_at};
@@ -105,7 +106,7 @@ fn renew(
         × (words_out.new ≡ refreshed masks row.p.shares (mask_start mask_seed.now) row.p.l words.now) }
 {
     put_bytes(row, LentKey::Expanded { bytes, words }, bytes_out);
-    words_out.copy_from_slice(words);
+    copy_into(words_out, words);
     refresh_words(words_out, row, start(mask_seed));
 }
 

@@ -17,6 +17,7 @@ use crate::layout::at_s;
 use crate::lent::{LentKey, SharePart};
 use crate::row::Row;
 use hash::refusal::Refusal;
+use ring::poly::copy_into;
 use sharing::region::clear;
 
 // The words of an expanded key at `at`.
@@ -25,7 +26,7 @@ fn load_words(s: &mut [u64], at: usize, words: &[u64])
     ensures { Wrote 0 at (length words.now) words.now s.old s.new }
 {
     let e = at + words.len();
-    s[at..e].copy_from_slice(words);
+    copy_into(&mut s[at..e], words);
 }
 
 // The shares of a signing key at `at`; lent is the part behind the public key. Or check 10.

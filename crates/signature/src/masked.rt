@@ -73,7 +73,8 @@ fn row_share(
     intt_sums(hi, lo)
 }
 
-// A row of the masked product at `to`, share by share.
+// A row of the masked product at `to`, share by share. Out of line, so that its arrays are gone from the stack when noise is added.
+#[inline(never)]
 fn row_at(s: &mut [u64], to: usize, at: usize, a: &[u64], from: usize, l: usize, d: usize)
     requires { (to + d * 512 ≤ at) × (at + l * (d * 512) ≤ length s.old) × Below q s.old × (from + l * 512 ≤ length a.now)
         × Below (2 ^ 60) a.now × (l ≤ 7) }

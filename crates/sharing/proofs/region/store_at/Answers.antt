@@ -10,4 +10,4 @@ returns c =
     let at = c.args.at in
     let k : at + 512 - at ≡ 512 = omega arith in
     wrote-put at 512 c.args.p.now c.args.s.now _ c.requires.0 (search rules) c.requires.1 c.requires.2
-    (put_back c.args.s.now at k c.copy_from_slice.ensures.after)
+    (put_back c.args.s.now at k c.copy_into.ensures)

@@ -10,4 +10,4 @@ returns c =
     let at = c.args.at in
     let n = length c.args.p.now in
     let k : at + n - at ≡ n = omega arith in
-    put_back c.args.out.now at k c.copy_from_slice.ensures.after
+    put_back c.args.out.now at k c.copy_into.ensures

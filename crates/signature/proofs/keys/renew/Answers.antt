@@ -14,12 +14,12 @@ put_bytes-requires c =
 
 pub refresh_words-requires : goal.refresh_words-requires
 refresh_words-requires c =
-    subst (Words (c.args.row.p.l * (c.args.row.p.shares * 512))) (sym c.copy_from_slice.ensures.after) c.requires.words_value
+    subst (Words (c.args.row.p.l * (c.args.row.p.shares * 512))) (sym c.copy_into.ensures) c.requires.words_value
 
 pub returns : goal.returns
 returns c =
     let a = c.args in
     let g = ap (λ (h : MaskGen). refreshed masks a.row.p.shares h a.row.p.l a.words.now) c.start.ensures in (
       c.put_bytes.ensures ∙ bytes-again a.row.p a.bytes.now a.words.now,
-      c.refresh_words.ensures.0 ∙ ap (refreshed masks a.row.p.shares c.start.result a.row.p.l) c.copy_from_slice.ensures.after ∙ g,
+      c.refresh_words.ensures.0 ∙ ap (refreshed masks a.row.p.shares c.start.result a.row.p.l) c.copy_into.ensures ∙ g,
     )

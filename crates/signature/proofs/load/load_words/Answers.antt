@@ -11,4 +11,4 @@ returns c =
     let x = c.args.words.now in
     let at = c.args.at in
     let k : at + length x - at ≡ length x = omega arith in
-    wrote-put at (length x) x s _ c.requires.0 refl c.requires.1 c.requires.2 (put_back s at k c.copy_from_slice.ensures.after)
+    wrote-put at (length x) x s _ c.requires.0 refl c.requires.1 c.requires.2 (put_back s at k c.copy_into.ensures)
