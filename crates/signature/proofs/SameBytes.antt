@@ -2,11 +2,13 @@
 use mathlib.Core.Path.{◌≡◌, refl, sym, ap, ◌∙◌}
 use mathlib.Core.Bool.{Bool, true, false, ◌&&◌}
 use mathlib.Core.List.{List, [], ◌∷◌}
-use Prim.Native.Nat.{ℕ}
+use Prim.Native.Nat.{ℕ, zero, suc, ◌-◌, min}
+use native.Mathlib.Omega.{arith}
 use borrow.Author.Tests.{eqb-true, eq-eqb}
 use lib.Dec.{eqb}
 use lib.Pointwise.{pointwise}
-use lib.ListN.{length}
+use lib.ListN.{length, take, drop}
+use lib.Seq.{take_all}
 use Rattle.ring.proofs.Checks.{absurd-bool}
 use Rattle.signature.specs.Checks.{both, same_bytes}
 
@@ -44,3 +46,11 @@ same-pointwise (x ∷ a) (y ∷ b) = go (eqb x y) (same-pointwise a b)
     go : (t : Bool) → pointwise eqb a b ≡ same_bytes a b → (t && pointwise eqb a b) ≡ both t (same_bytes a b)
     go true e = e
     go false e = refl
+
+-- .. of all that is behind no byte: must-fail/hash_byte_not_compared.edit leaves one out
+whole : (a : List ℕ) (i : ℕ) → i ≡ 0 → take (length a - i) (drop i a) ≡ a
+whole a zero x = take_all (length a - 0) a (omega arith)
+whole a (suc i) x = absurd (omega arith)
+
+pub same-behind : (a b : List ℕ) {i j : ℕ} → i ≡ min (length a) 0 → j ≡ min (length b) 0 → same_bytes (take (length a - i) (drop i a)) (take (length b - j) (drop j b)) ≡ same_bytes a b
+same-behind a b {i} {j} x y = rw (whole a i (omega (arith, x)), whole b j (omega (arith, y))) refl
