@@ -64,7 +64,7 @@ masks-filled u e = ap (λ (h : MaskGen). h.ok) (sym u.next) ∙ e
 -- ---- one attempt behind it: o is the reply, ys the work buffer behind line 16
 
 module _ {p : Params} {N : Noise} {g : MaskGen} {A mu s hash ys : List ℕ} {o : Reply} (u : Answered p N g A mu s o hash ys) where
-  hash-long : length hash ≡ p.kappa / 4
+  pub hash-long : length hash ≡ p.kappa / 4
   unfolding chal_hash
   hash-long = ap (λ (l : List ℕ). length l) u.hash-is ∙ length-table (stream (absorbed _)) (p.kappa / 4)
 
@@ -126,10 +126,8 @@ more l = omega (arith, l)
 
 module _ (p : Params) (P : Public) (T : Coins) (n a : ℕ) (s₀ s : List ℕ) (i : sign_from p P T n 0 s₀ ≡ sign_from p P T (n - a) a s) where
   -- check 12
-  pub all-over : {xs out : List ℕ} → xs ≡ out → n ≡ a → answer 12 n xs ≡ answer_in (sign_from p P T n 0 s₀) out
-  all-over {xs} {out} o e =
-      ap (λ (k : ℕ). answer 12 k xs) e ∙ ap (answer 12 a) o
-      ∙ ap (λ (X : Outcome). answer_in X out) (sym (i ∙ sign-none p P T (n - a) a s (omega (arith, e))))
+  pub all-over : {xs out : List ℕ} → xs ≡ out → n - a ≡ 0 → answer 12 a xs ≡ answer_in (sign_from p P T n 0 s₀) out
+  all-over {xs} {out} o z = ap (answer 12 a) o ∙ ap (λ (X : Outcome). answer_in X out) (sym (i ∙ sign-none p P T (n - a) a s z))
 
   -- attempt number a + 1 told r, and left ys and work
   module _ (l : a < n) {r : AttemptEnd} {xs ys work out : List ℕ} (o : xs ≡ out) (w : EndedAt p P T a s r xs ys work) where

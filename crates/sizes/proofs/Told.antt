@@ -23,7 +23,6 @@ use Rattle.ring.proofs.Signs.{byte-is, byte-wide}
 use Rattle.signature.specs.Code.{code_bits}
 use Rattle.signature.specs.Form.{hash_bytes, signature_bits}
 use Rattle.signature.proofs.Counts.{code-low}
-use Rattle.signature.proofs.Signs.{abs-fits}
 use Rattle.signature.specs.Checks.{attempts_allowed, noise_seed_bytes, mask_seed_bytes, work_words}
 use Rattle.sizes.specs.Count.{fields_sized, bits_told, bits_by, signature_bits_call}
 use Rattle.sizes.specs.Lengths.{no_lengths, lengths_told, lengths_by, lengths_call}
@@ -104,7 +103,7 @@ module _ (set : ℕ) (h z : List ℤ) where
 -- ---- numbers of 8 bits
 
 module _ (z : ℤ) (f : SFits w8 z) where
-  byte_low : nat_abs z ≤ 128
+  pub byte_low : nat_abs z ≤ 128
   byte_low = go z f
     where
       go : (z : ℤ) → SFits w8 z → nat_abs z ≤ 128
@@ -116,8 +115,8 @@ module _ (z : ℤ) (f : SFits w8 z) where
 
 -- ---- the largest number: 130 bits for a hint of 8 bits, 2^23 + 42 for a response of 64
 
-pub hint-code : (z : ℤ) → SFits w8 z → code_bits 0 z ≤ 130
-hint-code z f = omega (arith, code-low 0 z, byte_low z f)
+pub hint-code : (z : ℤ) → nat_abs z ≤ 128 → code_bits 0 z ≤ 130
+hint-code z l = omega (arith, code-low 0 z)
 
-pub response-code : (z : ℤ) → SFits w64 z → code_bits 40 z ≤ 2 ^ 23 + 42
-response-code z f = omega (arith, code-low 40 z, abs-fits z f)
+pub response-code : (z : ℤ) → nat_abs z ≤ 2 ^ 63 → code_bits 40 z ≤ 2 ^ 23 + 42
+response-code z l = omega (arith, code-low 40 z)

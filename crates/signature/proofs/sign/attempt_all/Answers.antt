@@ -104,4 +104,4 @@ pub returns : goal.returns
 returns c =
     let i = c.loop-i.invariant in
     let e : c.args.n ≡ c.loop-i.i = omega (arith, c.loop-i.invariant.0, c.loop-i-test.false) in
-    let r = c.refused-2.ensures in record { work_len_unchanged = i.1; out_after = told-as _ r.0 r.1 (all-over _ _ _ _ _ _ _ i.4 i.3 e) }
+    let r = c.refused-2.ensures in record { work_len_unchanged = i.1; out_after = told-as _ r.0 (r.1 ∙ e) (all-over _ _ _ _ _ _ _ i.4 i.3 (omega (arith, e))) }
