@@ -12,7 +12,7 @@
  *  - A work buffer is as it was after refusals 1 to 8, and all zero after every other end, 0 included. What it holds before is of no account.
  *  - What is lent as const is only read.
  *  - Nothing is allocated, nothing is kept between calls, no randomness is drawn: a call's answer depends on its arguments alone.
- *  - Local arrays are on the stack: signing takes up to 478 KiB of it, generating 352, verifying 216, reading a slip 216, the other calls less.
+ *  - Local arrays are on the stack: signing takes up to 468 KiB of it, generating 351, verifying 216, reading a slip 216, the other calls less.
  *
  * set is 128, 192 or 256; shares is 1, 2, 4, 8, 16 or 32.
  */

@@ -1,8 +1,10 @@
 //! The C side: include/raccoon.h has every export and the sizes of the independent implementation, each export can be called through it, the
-//! example in examples/ does what it says, and calls take the stack that docs/GUIDE.md tells. Needs gcc.
+//! example in examples/ does what it says, and calls take the stack, and archives the names from outside, that docs/GUIDE.md tells. Needs gcc
+//! and the nm beside it.
 
 use compare::independent::raccoon::{Edition, Params};
 use compare::independent::ring::N;
+use std::collections::BTreeSet;
 use std::path::{Path, PathBuf};
 use std::process::Command;
 
@@ -48,6 +50,20 @@ fn of_set(p: &Params) -> [usize; 6] {
 
 fn of_pair(p: &Params) -> [usize; 6] {
     [p.sk_bytes(), p.keygen_bytes(), p.noise_bytes(), p.noise_words(), p.l * p.d * N, p.work_words()]
+}
+
+/// An archive asks for no name from outside but the two that docs/GUIDE.md tells.
+#[test]
+fn names_from_outside() {
+    assert!(text("docs/GUIDE.md").contains("It needs nothing but `memcpy` and `memset`."));
+    for name in ["bench", "capi"] {
+        let archive = root().join(format!("crates/{name}/out/lib{name}.a"));
+        let listed = Command::new("nm").arg("-u").arg(archive).output().unwrap();
+        assert!(listed.status.success(), "{}", String::from_utf8_lossy(&listed.stderr));
+        let listed = String::from_utf8(listed.stdout).unwrap();
+        let needed: BTreeSet<&str> = listed.lines().filter_map(|line| line.trim().strip_prefix("U ")).collect();
+        assert_eq!(needed, BTreeSet::from(["memcpy", "memset"]), "lib{name}.a");
+    }
 }
 
 #[test]
